@@ -1,0 +1,60 @@
+-- Laws of the length rules: one step of the reading, and where it ends.
+use mathlib.Core.Path.{_≡_, refl}
+use mathlib.Core.List.{List, [], _∷_}
+use mathlib.Core.Bool.{Bool, true, false}
+use Prim.Native.Nat.{ℕ, _+_, _-_, _≤_, _<_}
+use native.Mathlib.Numerals.{add-one}
+use native.Mathlib.Omega.{arith}
+use lib.ListN.{length, getD, drop, drop-of-length-le, length-drop}
+use lib.Seq.{drop-cons}
+use lib.Dec.{eqb}
+use Rattle.tlf.specs.Read.{Read, got, refused, guard, eof}
+use Rattle.tlf.specs.Refusals.{nextType}
+use Rattle.tlf.specs.Lengths.{moreFollow, typeBits, longer, lengthFrom, lessOwn, isList, tlfAt}
+use Rattle.tlf.specs.declared.Ty.{Ty}
+use Rattle.tlf.proofs.Read.{Ok, ok-got, ok-guard, ok-cond, ok-weak, ok-then, ok-need, Ahead, byte-ok}
+
+drop-next : (s : List ℕ) (i : ℕ) → i < length s → drop i s ≡ getD s i 0 ∷ drop (i + 1) s
+drop-next s i h = rw (add-one, drop-cons s i 0)
+
+-- no more follow
+pub length-stop : (end start : ℕ) (bs : List ℕ) (at len : ℕ) → lengthFrom end start bs at false len ≡ got len at
+unfolding lengthFrom
+length-stop end start [] at len = refl
+length-stop end start (b ∷ bs) at len = refl
+
+-- more follow, and the input has ended
+pub length-end : (s : List ℕ) (start i len : ℕ) → length s ≤ i → lengthFrom (length s) start (drop i s) i true len ≡ refused (eof (length s))
+unfolding lengthFrom
+length-end s start i len h = rw (drop-of-length-le s h)
+
+-- more follow: the byte at i is one of them
+pub length-next : (s : List ℕ) (start i len : ℕ) → i < length s
+    → lengthFrom (length s) start (drop i s) i true len
+    ≡ guard (eqb (typeBits (getD s i 0)) 0) (nextType start)
+    (lengthFrom (length s) start (drop (i + 1) s) (i + 1) (moreFollow (getD s i 0)) (longer len (getD s i 0)))
+unfolding lengthFrom
+length-next s start i len h = rw (drop-next s i h)
+
+-- a length that is read ends not before the place at which its reading began, and not behind the bytes
+pub length-ok : (end start : ℕ) (bs : List ℕ) (i : ℕ) (more : Bool) (len : ℕ) → Ok (λ v n. (i ≤ n) × (n ≤ i + length bs)) (lengthFrom end start bs i more len)
+unfolding lengthFrom
+length-ok end start [] i more len = ok-cond more _ _ (λ e. record { holds = tt }) (λ e. ok-got _ _ (omega arith))
+length-ok end start (b ∷ bs) i more len =
+    ok-cond more _ _
+    (λ e. ok-guard _ _ _ (λ e′.
+    ok-weak (λ v n (h : (i + 1 ≤ n) × (n ≤ i + 1 + length bs)). omega arith) (length-ok end start bs (i + 1) (moreFollow b) (longer len b))))
+    (λ e. ok-got _ _ (omega arith))
+
+less-own-ok : (ty : Ty) (own len start next : ℕ) → Ok (λ t n. n ≡ next) (lessOwn ty own len start next)
+unfolding lessOwn
+less-own-ok ty own len start next = ok-cond (isList ty) _ _ (λ e. ok-got _ _ refl) (λ e. ok-guard _ _ _ (λ e′. ok-got _ _ refl))
+
+-- type and length take at least a byte, and end within the input
+pub tlf-ok : (s : List ℕ) (at : ℕ) → Ok (λ t n. Ahead s at n) (tlfAt s at)
+unfolding tlfAt
+tlf-ok s at =
+    ok-then _ _ (byte-ok s at) (λ b next h. ok-need _ _ _ (λ ty. ok-guard _ _ _ (λ e.
+    ok-then _ _ (length-ok (length s) at (drop next s) next _ _) (λ len end (k : (next ≤ end) × (end ≤ next + length (drop next s))).
+    let a = h .2 in
+    ok-weak (λ t n (q : n ≡ end). record { ahead = omega arith; within = omega (arith, length-drop next s) }) (less-own-ok ty (end - at) len at end)))))

@@ -1,0 +1,4 @@
+pub mod Read
+pub mod Rest
+pub mod Lengths
+pub mod Bench

@@ -1,0 +1,86 @@
+-- What is left of the input behind a reading: laws of `then`, `guard` and `need`, and of bytes taken.
+use mathlib.Core.Path.{_≡_, refl, sym, ap, _∙_}
+use mathlib.Core.List.{List, [], _∷_, _++_}
+use mathlib.Core.Bool.{Bool, true, false}
+use mathlib.Core.Option.{Option, some, none}
+use Prim.Native.Nat.{ℕ, _+_, _-_, _≤_, _<_}
+use borrow.Author.Tests.{lt-ltb, le-leb}
+use native.Mathlib.Numerals.{unary-clauses}
+use native.Mathlib.Omega.{arith}
+use lib.ListN.{length, getD, take, drop, length-append, length-drop}
+use lib.Seq.{drop-drop, drop-append-seam, take-append-seam, getD-drop}
+use Rattle.tlf.specs.Read.{Read, got, refused, Refusal, then, guard, need, byteAt, spanAt}
+use Rattle.tlf.specs.declared.Span.{Span}
+
+-- the input's bytes from p on are l
+pub record Rest (s : List ℕ) (p : ℕ) (l : List ℕ) : Type 0 where
+  pub inside : p ≤ length s
+  pub bytes : drop p s ≡ l
+
+-- a reading finds a value that has P, and leaves l
+pub record Gets {A : Type 0} (P : A → Type 0) (s l : List ℕ) (r : Read A) : Type 0 where
+  pub value : A
+  pub next : ℕ
+  pub is : r ≡ got value next
+  pub has : P value
+  pub left : Rest s next l
+
+pub rest-length : {s : List ℕ} {p : ℕ} {l : List ℕ} → Rest s p l → length s ≡ p + length l
+rest-length {s} {p} {l} h = omega (arith, length-drop p s, ap length (h .bytes))
+
+pub rest-skip : {s : List ℕ} {p : ℕ} (b : List ℕ) {l : List ℕ} → Rest s p (b ++ l) → Rest s (p + length b) l
+rest-skip {s} {p} b {l} h =
+    record {
+      inside = omega (arith, rest-length h, length-append b l);
+      bytes = rw (← drop-drop (length b) p s, h .bytes) (drop-append-seam b l);
+    }
+
+pub rest-byte : {s : List ℕ} {p b : ℕ} {l : List ℕ} → Rest s p (b ∷ l) → getD s p 0 ≡ b
+rest-byte {s} {p} {b} {l} h = simp unary-clauses at (sym (getD-drop p s 0 0)) ∙ ap (λ (x : List ℕ). getD x 0 0) (h .bytes)
+
+pub rest-next : {s : List ℕ} {p b : ℕ} {l : List ℕ} → Rest s p (b ∷ l) → Rest s (p + 1) l
+rest-next {s} {p} {b} {l} h = rest-skip (b ∷ []) h
+
+pub rest-take : {s : List ℕ} {p : ℕ} (b l : List ℕ) → Rest s p (b ++ l) → take (length b) (drop p s) ≡ b
+rest-take b l h = rw (h .bytes) (take-append-seam b l)
+
+pub rest-place : {s : List ℕ} {p n : ℕ} (b : List ℕ) {l : List ℕ} → Rest s p (b ++ l) → Rest s n l → n ≡ p + length b
+rest-place b {l} h k = omega (arith, rest-length h, rest-length k, length-append b l)
+
+pub gets-got : {A : Type 0} {P : A → Type 0} {s l : List ℕ} {a : A} {n : ℕ} → P a → Rest s n l → Gets P s l (got a n)
+gets-got {a = a} {n = n} h k = record { value = a; next = n; is = refl; has = h; left = k }
+
+pub gets-then : {A B : Type 0} {P : A → Type 0} {Q : B → Type 0} {s l m : List ℕ} (r : Read A) (k : A → ℕ → Read B)
+    → Gets P s l r → ((a : A) (n : ℕ) → P a → Rest s n l → Gets Q s m (k a n)) → Gets Q s m (then r k)
+unfolding then
+gets-then r k g h = rw (g .is) (h (g .value) (g .next) (g .has) (g .left))
+
+-- where the value itself is known
+pub gets-is : {A B : Type 0} {x : A} {Q : B → Type 0} {s l m : List ℕ} (r : Read A) (k : A → ℕ → Read B)
+    → Gets (λ a. a ≡ x) s l r → ((n : ℕ) → Rest s n l → Gets Q s m (k x n)) → Gets Q s m (then r k)
+unfolding then
+gets-is r k g h = rw (g .is, g .has) (h (g .next) (g .left))
+
+pub gets-guard : {A : Type 0} {P : A → Type 0} {s l : List ℕ} (t : Bool) (f : Refusal) (r : Read A) → t ≡ true → Gets P s l r → Gets P s l (guard t f r)
+unfolding guard
+gets-guard t f r e g = rw e g
+
+pub gets-weak : {A : Type 0} {P Q : A → Type 0} {s l : List ℕ} {r : Read A} → ((a : A) → P a → Q a) → Gets P s l r → Gets Q s l r
+gets-weak f g = record { value = g .value; next = g .next; is = g .is; has = f (g .value) (g .has); left = g .left }
+
+pub gets-need : {A B : Type 0} {P : B → Type 0} {s l : List ℕ} (a : A) (m : Option A) (f : Refusal) (k : A → Read B) → m ≡ some a → Gets P s l (k a) → Gets P s l (need m f k)
+unfolding need
+gets-need a m f k e g = rw e g
+
+pub byte-gets : {s : List ℕ} {p b : ℕ} {l : List ℕ} → Rest s p (b ∷ l) → Gets (λ (x : ℕ). x ≡ b) s l (byteAt s p)
+unfolding byteAt
+byte-gets {s} {p} {b} {l} h =
+    gets-guard _ _ _ (lt-ltb p (length s) (omega (arith, rest-length h))) (gets-got (rest-byte h) (rest-next h))
+
+-- as many bytes as x has: the part is x
+pub span-gets : (x : List ℕ) (n : ℕ) {s : List ℕ} {p : ℕ} (l : List ℕ) → length x ≡ n → Rest s p (x ++ l)
+    → Gets (λ (a : Span). take (a .len) (drop (a .start) s) ≡ x) s l (spanAt s p n)
+unfolding spanAt
+span-gets x n {s} {p} l e h =
+    gets-guard _ _ _ (le-leb p (length s) (h .inside)) (gets-guard _ _ _ (le-leb n (length s - p) (omega (arith, rest-length h, length-append x l)))
+    (gets-got (rw (← e, rest-take x l h)) (rw e at (rest-skip x h))))

@@ -1,0 +1,252 @@
+// Ports parser/tlf.rs, and of parser/mod.rs the errors and the taking of bytes.
+// A place in the lent input stands for the Rust's rest of the input; refusals say the place, too.
+ghost use mathlib.Core.Bool.{_&&_};
+ghost use mathlib.Core.Path.{_≡_};
+ghost use lib.ListN.{length, drop};
+ghost use Rattle.tlf.specs.Read.{byteAt, spanAt};
+ghost use Rattle.tlf.specs.Refusals.{byteRead, spanRead, tyRead, lenRead, tlfRead};
+ghost use Rattle.tlf.specs.Lengths.{tyOf, longer, lengthFrom, lessOwn, tlfAt, isList, isBoolean, moreFollow};
+
+pub enum TlfParseError {
+    TlfLengthOverflow,
+    TlfReserved,
+    TlfLengthUnderflow,
+    TlfNextByteTypeMismatch,
+    TlfInvalidTy,
+}
+
+pub enum ParseError {
+    UnexpectedEOF,
+    InvalidTlf(TlfParseError),
+    TlfMismatch,
+    CrcMismatch,
+    MsgEndMismatch,
+    UnexpectedVariant,
+}
+
+// What was wrong, and where.
+pub struct Fault {
+    pub error: ParseError,
+    pub place: usize,
+}
+
+pub enum ByteRead {
+    Is { byte: u8, next: usize },
+    Refused(Fault),
+}
+
+// A part of the input, by its place.
+pub struct Span {
+    pub start: usize,
+    pub len: usize,
+}
+
+pub enum SpanRead {
+    Is { span: Span, next: usize },
+    Refused(Fault),
+}
+
+pub fn take_byte(input: &[u8], at: usize) -> ByteRead
+    ensures { λ r. ⌜ byteRead r ≡ byteAt (now (input .entry)) at ⌝ }
+{
+    if at < input.len() {
+        ByteRead::Is {
+            byte: input[at],
+            next: at + 1,
+        }
+    } else {
+        ByteRead::Refused(Fault {
+            error: ParseError::UnexpectedEOF,
+            place: input.len(),
+        })
+    }
+}
+
+pub fn take_n(input: &[u8], at: usize, n: usize) -> SpanRead
+    ensures { λ r. ⌜ spanRead r ≡ spanAt (now (input .entry)) at n ⌝ }
+{
+    if at <= input.len() {
+        if n <= input.len() - at {
+            return SpanRead::Is {
+                span: Span { start: at, len: n },
+                next: at + n,
+            };
+        }
+    }
+    SpanRead::Refused(Fault {
+        error: ParseError::UnexpectedEOF,
+        place: input.len(),
+    })
+}
+
+pub enum Ty {
+    OctetString,
+    Boolean,
+    Integer,
+    Unsigned,
+    ListOf,
+}
+
+pub enum TyRead {
+    Is(Ty),
+    Invalid,
+}
+
+impl Ty {
+    fn from_byte(bits: u8) -> TyRead
+        ensures { λ r. ⌜ tyRead r ≡ tyOf bits ⌝ }
+    {
+        match bits {
+            0 => TyRead::Is(Ty::OctetString),
+            4 => TyRead::Is(Ty::Boolean),
+            5 => TyRead::Is(Ty::Integer),
+            6 => TyRead::Is(Ty::Unsigned),
+            7 => TyRead::Is(Ty::ListOf),
+            _ => TyRead::Invalid,
+        }
+    }
+
+    pub fn is_list(self) -> bool
+        ensures { λ r. ⌜ r ≡ isList self ⌝ }
+    {
+        match self {
+            Ty::OctetString => false,
+            Ty::Boolean => false,
+            Ty::Integer => false,
+            Ty::Unsigned => false,
+            Ty::ListOf => true,
+        }
+    }
+
+    pub fn is_boolean(self) -> bool
+        ensures { λ r. ⌜ r ≡ isBoolean self ⌝ }
+    {
+        match self {
+            Ty::OctetString => false,
+            Ty::Boolean => true,
+            Ty::Integer => false,
+            Ty::Unsigned => false,
+            Ty::ListOf => false,
+        }
+    }
+}
+
+pub struct TypeLengthField {
+    pub ty: Ty,
+    pub len: u32,
+}
+
+pub enum TlfRead {
+    Is { tlf: TypeLengthField, next: usize },
+    Refused(Fault),
+}
+
+enum LenRead {
+    Is { len: u32, next: usize },
+    Refused(Fault),
+}
+
+// The length so far with the next byte's four bits behind it; as in the Rust, what passes 32 bits is lost.
+fn next_len(len: u32, b: u8) -> u32
+    ensures { λ r. ⌜ r ≡ longer len b ⌝ }
+{
+    let wide = len as u64 * 16 + b as u64 % 16;
+    (wide % 0x1_0000_0000) as u32
+}
+
+// A Boolean with more length bytes is reserved for future usages.
+fn is_reserved(ty: Ty, more: bool) -> bool
+    ensures { λ r. ⌜ r ≡ (isBoolean ty && more) ⌝ }
+{
+    ty.is_boolean() && more
+}
+
+// The loop of the Rust's parse: the further length bytes of the element at `start`, where there are any.
+fn more_bytes(input: &[u8], start: usize, at: usize, more: bool, first: u32) -> LenRead
+    ensures { λ r. ⌜ lenRead r ≡ lengthFrom (length (now (input .entry))) start (drop at (now (input .entry))) at more first ⌝ }
+{
+    let mut has_more_bytes = more;
+    let mut len = first;
+    let mut next = at;
+    while has_more_bytes {
+        if input.len() <= next {
+            return LenRead::Refused(Fault {
+                error: ParseError::UnexpectedEOF,
+                place: input.len(),
+            });
+        }
+        let b = input[next];
+        if b / 16 % 8 != 0 {
+            return LenRead::Refused(Fault {
+                error: ParseError::InvalidTlf(TlfParseError::TlfNextByteTypeMismatch),
+                place: start,
+            });
+        }
+        len = next_len(len, b);
+        has_more_bytes = 128 <= b;
+        next += 1;
+    }
+    LenRead::Is { len, next }
+}
+
+// For primitive types the length counts its own bytes, all of them, and they are taken off here.
+fn less_own(ty: Ty, own: usize, len: u32, start: usize, next: usize) -> TlfRead
+    ensures { λ r. ⌜ tlfRead r ≡ lessOwn ty own len start next ⌝ }
+{
+    if ty.is_list() {
+        return TlfRead::Is {
+            tlf: TypeLengthField { ty, len },
+            next,
+        };
+    }
+    if own <= len as usize {
+        TlfRead::Is {
+            tlf: TypeLengthField {
+                ty,
+                len: len - own as u32,
+            },
+            next,
+        }
+    } else {
+        TlfRead::Refused(Fault {
+            error: ParseError::InvalidTlf(TlfParseError::TlfLengthUnderflow),
+            place: start,
+        })
+    }
+}
+
+impl TypeLengthField {
+    // The type and length that stand at `at`.
+    pub fn parse(input: &[u8], at: usize) -> TlfRead
+        ensures { λ r. ⌜ tlfRead r ≡ tlfAt (now (input .entry)) at ⌝ }
+    {
+        let mut next = at;
+        let b = match take_byte(input, at) {
+            ByteRead::Is { byte, next: after } => {
+                next = after;
+                byte
+            }
+            ByteRead::Refused(f) => return TlfRead::Refused(f),
+        };
+        let TyRead::Is(ty) = Ty::from_byte(b / 16 % 8) else {
+            return TlfRead::Refused(Fault {
+                error: ParseError::InvalidTlf(TlfParseError::TlfInvalidTy),
+                place: at,
+            });
+        };
+        let has_more_bytes = 128 <= b;
+        if is_reserved(ty, has_more_bytes) {
+            return TlfRead::Refused(Fault {
+                error: ParseError::InvalidTlf(TlfParseError::TlfReserved),
+                place: at,
+            });
+        }
+        match more_bytes(input, at, next, has_more_bytes, (b % 16) as u32) {
+            LenRead::Is { len, next: end } => {
+                let tlf_len = end - at;
+                less_own(ty, tlf_len, len, at, end)
+            }
+            LenRead::Refused(f) => TlfRead::Refused(f),
+        }
+    }
+}
