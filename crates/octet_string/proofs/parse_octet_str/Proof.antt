@@ -1,0 +1,62 @@
+use Rattle.tlf.specs.Read.{then, guard}
+use Rattle.octet_string.specs.Strings.{octetsAt}
+use borrow.Author.Needs.{needs}
+use Rattle.octet_string.proofs.parse_octet_str.Statement.{statement}
+use Rattle.octet_string.proofs.parse_octet_str.Tie as tie
+
+parse-requires : tie.Need-parse-requires
+parse-requires c κs = search needs
+
+enum-known-tlf : tie.Need-enum-known-tlf
+enum-known-tlf c = search needs
+
+check-tlf-requires : tie.Need-check-tlf-requires
+check-tlf-requires c κs = search needs
+
+cast-take-n : tie.Need-cast-take-n
+cast-take-n c = search needs
+
+take-n-requires : tie.Need-take-n-requires
+take-n-requires c κs = search needs
+
+enum-known-f : tie.Need-enum-known-f
+enum-known-f c = search needs
+
+returns : tie.Need-returns
+unfolding octetsAt then guard
+returns c =
+    let p5 = c .before in
+    let p4 = p5 .before in
+    let p3 = p4 .before in
+    let p2 = p3 .before .before in
+    let p1 = p2 .before .before in
+    rw (← p1 .parse .ensures, p2 .tlf .given .1, ← p3 .check-tlf .ensures, p4 .if1 .taken, p5 .struct-known .given .1) (c .take-n .ensures)
+
+returns-2 : tie.Need-returns-2
+unfolding octetsAt then guard
+returns-2 c =
+    let p3 = c .before in
+    let p2 = p3 .before .before in
+    let p1 = p2 .before .before in
+    rw (← p1 .parse .ensures, p2 .tlf .given .1, ← p3 .check-tlf .ensures, c .if1 .left)
+
+returns-3 : tie.Need-returns-3
+unfolding octetsAt then guard
+returns-3 c =
+    let p2 = c .before in
+    let p1 = p2 .before .before in
+    rw (← p1 .parse .ensures, p2 .f .given .1)
+
+pub parse-octet-str-spec : {M : Type 1} → statement M
+parse-octet-str-spec =
+    tie.close
+    (tie.spec
+    parse-requires
+    enum-known-tlf
+    check-tlf-requires
+    cast-take-n
+    take-n-requires
+    enum-known-f
+    returns
+    returns-2
+    returns-3)

@@ -1,0 +1,3 @@
+pub mod Strings
+pub mod Optional
+pub mod Answers

@@ -1,0 +1,123 @@
+// Ports parser/octet_string.rs, and Option of parser/mod.rs for strings. A span stands for the Rust's OctetStr.
+ghost use mathlib.Core.Path.{_≡_};
+ghost use Rattle.tlf.specs.Refusals.{spanRead};
+ghost use Rattle.octet_string.specs.Strings.{isOctets, octetsAt, isWithin, partOf, spanRefusal};
+ghost use Rattle.octet_string.specs.Optional.{absentAt, optional};
+ghost use Rattle.octet_string.specs.Answers.{spanCheck, optSpanRead};
+use tlf::Fault;
+use tlf::ParseError;
+use tlf::Span;
+use tlf::SpanRead;
+use tlf::TlfRead;
+use tlf::Ty;
+use tlf::TypeLengthField;
+
+fn check_tlf(tlf: TypeLengthField) -> bool
+    ensures { λ r. ⌜ r ≡ isOctets (tlf .ty) ⌝ }
+{
+    let ty = tlf.ty;
+    match ty {
+        Ty::OctetString => true,
+        Ty::Boolean => false,
+        Ty::Integer => false,
+        Ty::Unsigned => false,
+        Ty::ListOf => false,
+    }
+}
+
+pub fn parse_octet_str(input: &[u8], at: usize) -> SpanRead
+    ensures { λ r. ⌜ spanRead r ≡ octetsAt (now (input .entry)) at ⌝ }
+{
+    match TypeLengthField::parse(input, at) {
+        TlfRead::Is { tlf, next } => {
+            if check_tlf(tlf) {
+                tlf::take_n(input, next, tlf.len as usize)
+            } else {
+                SpanRead::Refused(Fault {
+                    error: ParseError::TlfMismatch,
+                    place: at,
+                })
+            }
+        }
+        TlfRead::Refused(f) => SpanRead::Refused(f),
+    }
+}
+
+fn is_within(input: &[u8], span: Span) -> bool
+    ensures { λ r. ⌜ r ≡ isWithin (now (input .entry)) span ⌝ }
+{
+    let start = span.start;
+    let len = span.len;
+    if start <= input.len() {
+        len <= input.len() - start
+    } else {
+        false
+    }
+}
+
+// The part of the input that a span is; a bad span has the empty part, and check_span says that it is bad.
+pub fn octet_str<'i>(input: &'i [u8], span: Span) -> &'i [u8]
+    ensures { λ r. ⌜ now r ≡ partOf (now (input .entry)) span ⌝ }
+{
+    let start = span.start;
+    let len = span.len;
+    if is_within(input, span) {
+        &input[start..start + len]
+    } else {
+        &input[0..0]
+    }
+}
+
+pub enum SpanCheck {
+    Good,
+    BadSpan,
+}
+
+pub fn check_span(input: &[u8], span: Span) -> SpanCheck
+    ensures { λ r. ⌜ spanCheck r ≡ spanRefusal (now (input .entry)) span ⌝ }
+{
+    if is_within(input, span) {
+        SpanCheck::Good
+    } else {
+        SpanCheck::BadSpan
+    }
+}
+
+// Whether an optional field is absent, whatever its type: `Some(0x01u8) = input.first()` of the Rust.
+pub fn is_absent(input: &[u8], at: usize) -> bool
+    ensures { λ r. ⌜ r ≡ absentAt (now (input .entry)) at ⌝ }
+{
+    if at < input.len() {
+        input[at] == 0x01
+    } else {
+        false
+    }
+}
+
+pub enum OptSpan {
+    Present(Span),
+    Absent,
+}
+
+pub enum OptSpanRead {
+    Is { field: OptSpan, next: usize },
+    Refused(Fault),
+}
+
+pub fn parse_opt_octet_str(input: &[u8], at: usize) -> OptSpanRead
+    ensures { λ r. ⌜ optSpanRead r ≡ optional octetsAt (now (input .entry)) at ⌝ }
+{
+    if is_absent(input, at) {
+        return OptSpanRead::Is {
+            field: OptSpan::Absent,
+            next: at + 1,
+        };
+    }
+    match parse_octet_str(input, at) {
+        SpanRead::Is { span, next } => OptSpanRead::Is {
+            field: OptSpan::Present(span),
+            next,
+        },
+        SpanRead::Refused(f) => OptSpanRead::Refused(f),
+    }
+}
