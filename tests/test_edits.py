@@ -1,0 +1,36 @@
+"""Each must-fail edit is told in docs/WRONG-READINGS.md in three lines and named in docs/STATEMENTS.md, and the prover refused it at a fact and not at a shape."""
+import glob, os, re, sys
+
+os.chdir(os.path.join(os.path.dirname(os.path.abspath(__file__)), ".."))
+told = open("docs/WRONG-READINGS.md", encoding="utf-8").read()
+mapped = open("docs/STATEMENTS.md", encoding="utf-8").read()
+# where the first error says one of these, only the proof's shape or its caller broke
+SHAPE = ["can be named from here", "`close` was not admitted", "was not admitted (it has holes"]
+bad, labels, logs = [], set(), 0
+for edit in sorted(glob.glob("crates/*/must-fail/*.edit")):
+    crate, label = edit.split(os.sep)[1], os.path.basename(edit)[:-5]
+    if label in labels:
+        bad.append(f"{edit}: a second edit of that name")
+    labels.add(label)
+    if not open(edit, encoding="utf-8").readline().startswith("# "):
+        bad.append(f"{edit}: its first line does not name the mistake")
+    section = re.search(r"^### %s\n(.*?)(?=^#|\Z)" % re.escape(label), told, re.M | re.S)
+    lines = re.findall(r"^- (\w+):", section.group(1), re.M) if section else []
+    if lines != ["Belief", "Bytes", "Prover"]:
+        bad.append(f"{label}: docs/WRONG-READINGS.md does not tell it in three lines")
+    if f"`{label}`" not in mapped:
+        bad.append(f"{label}: docs/STATEMENTS.md does not say which wrong program it is")
+    log = os.path.join("target/must-fail", crate, label, ".log")
+    if os.path.isfile(log):
+        logs += 1
+        first = re.search(r"^.*: error: .*$", open(log, encoding="utf-8", errors="replace").read(), re.M)
+        if not first:
+            bad.append(f"{label}: the prover's log has no error")
+        elif any(s in first.group(0) for s in SHAPE):
+            bad.append(f"{label}: refused at a shape: {first.group(0)[:200]}")
+for name in re.findall(r"^### (\w+)$", told, re.M):
+    if name not in labels:
+        bad.append(f"{name}: told in docs/WRONG-READINGS.md, and no edit has that name")
+print("\n".join(bad))
+print(f"{len(labels)} edits, {logs} logs read, {len(bad)} faults")
+sys.exit(1 if bad or not labels else 0)
