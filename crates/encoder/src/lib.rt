@@ -1,0 +1,154 @@
+// encode and Encoder of transport.rs. The output is lent memory; the iterator became a lent payload and a place in it.
+ghost use mathlib.Core.Path.{_≡_};
+ghost use mathlib.Core.Bool.{cond, false};
+ghost use mathlib.Core.List.{List, [], _∷_, _++_};
+ghost use Prim.Native.Nat.{ℕ, _+_, _≤_, _<_};
+ghost use lib.ListN.{length, drop, replicate};
+ghost use lib.IntN.{pos, negℤ, sucℤ};
+ghost use lib.Seq.{sets};
+ghost use lib.Dec.{leb};
+ghost use Rattle.frame.specs.Frame.{escSeq, runWith, fourMore, escaped, missing, frameOf};
+ghost use Rattle.encoder.specs.Encode.{limit, answerOf, leaves, encodeTo};
+ghost use Rattle.encoder.specs.Encoder.{nextOf, stepTo, fresh, endOf, nextStep};
+ghost use Rattle.encoder.specs.Parts.{Writes, runAfter};
+
+// The longest payload.
+pub const LIMIT: usize = 1048576;
+
+// What encode answers.
+pub enum Encoded {
+    // The frame's length.
+    Frame(usize),
+    PayloadTooLong,
+    OutOfMemory,
+}
+
+pub enum EncoderState {
+    Init(u8),
+    LookingForEscape(u8),
+    HandlingEscape(u8),
+    End(i8),
+}
+
+// Gives the bytes of a payload's frame, one a call.
+pub struct Encoder {
+    pub state: EncoderState,
+    pub place: usize,
+    pub crc: u16,
+}
+
+// What next answers.
+pub enum Item {
+    Byte(u8),
+    Finished,
+    PayloadTooLong,
+    BadState,
+}
+
+// An answer, and the Encoder for the next call.
+pub struct Given {
+    pub answer: Item,
+    pub encoder: Encoder,
+}
+
+impl Encoder {
+    pub fn new() -> Encoder
+        ensures { λ r. ⌜ r ≡ fresh ⌝ }
+    {
+        Encoder {
+            state: EncoderState::Init(0),
+            place: 0,
+            crc: crc_x25::update(crc_x25::digest(), &frame::START),
+        }
+    }
+}
+
+// `bytes` go to `out` from `at` on; answers the place behind them.
+fn extend_from_slice(out: &mut [u8], at: usize, bytes: &[u8]) -> usize
+    requires { ⌜ at + length (now bytes) ≤ length (now out) ⌝ }
+    ensures { λ r. ⌜ (now (out .exit) ≡ sets (now (out .entry)) at (now (bytes .entry))) × (r ≡ at + length (now (bytes .entry))) ⌝ }
+{
+    let mut i = 0;
+    while i < bytes.len() {
+        out[at + i] = bytes[i];
+        i += 1;
+    }
+    at + i
+}
+
+// The payload's bytes from `from` on that are no 1b go to `out`, from `at` on; answers how many. n 1b of a run stand before them.
+fn put_plain(payload: &[u8], from: usize, n: u8, out: &mut [u8], at: usize) -> usize
+    requires { ⌜ (from ≤ length (now payload)) × (at + length (escaped n (drop from (now payload))) ≤ length (now out)) ⌝ }
+    ensures { λ k. ⌜ (from + k ≤ length (now (payload .entry))) × Writes (now (out .exit)) (at + k) (runAfter k n) (from + k) (now (out .entry)) at n from (now (payload .entry)) ⌝ }
+{
+    let left = payload.len() - from;
+    let mut k = 0;
+    while k < left {
+        let b = payload[from + k];
+        if b == 0x1b {
+            break;
+        }
+        out[at + k] = b;
+        k += 1;
+    }
+    k
+}
+
+fn run_after(k: usize, n: u8) -> u8
+    requires { ⌜ n ≤ 3 ⌝ }
+    ensures { λ r. ⌜ (r ≡ runAfter k n) × (r ≤ 3) ⌝ }
+{
+    if k == 0 { n } else { 0 }
+}
+
+// The run of 1b with the byte b more.
+fn run_with(n: u8, b: u8) -> u8
+    requires { ⌜ n ≤ 3 ⌝ }
+    ensures { λ r. ⌜ (r ≡ runWith n b) × (r ≤ 3) ⌝ }
+{
+    if b != 0x1b {
+        return 0;
+    }
+    if n == 3 {
+        return 0;
+    }
+    n + 1
+}
+
+// One byte of the payload, and the escape behind a fourth 1b; answers the place behind them.
+fn push(out: &mut [u8], at: usize, n: u8, b: u8) -> usize
+    requires { ⌜ at + length (b ∷ fourMore n b) ≤ length (now out) ⌝ }
+    ensures { λ r. ⌜ (now (out .exit) ≡ sets (now (out .entry)) at (b ∷ fourMore n b)) × (r ≡ at + length (b ∷ fourMore n b)) ⌝ }
+{
+    out[at] = b;
+    if b != 0x1b {
+        return at + 1;
+    }
+    if n != 3 {
+        return at + 1;
+    }
+    extend_from_slice(out, at + 1, &frame::ESCAPE)
+}
+
+// The escaped payload goes to `out` from `at` on; answers the place behind it.
+fn put_escaped(payload: &[u8], out: &mut [u8], at: usize) -> usize
+    requires { ⌜ at + length (escaped 0 (now payload)) ≤ length (now out) ⌝ }
+    ensures { λ r. ⌜ (now (out .exit) ≡ sets (now (out .entry)) at (escaped 0 (now (payload .entry)))) × (r ≡ at + length (escaped 0 (now (payload .entry)))) ⌝ }
+{
+    let mut o = at;
+    let mut n: u8 = 0;
+    let mut i = 0;
+    while i < payload.len() {
+        let k = put_plain(payload, i, n, out, o);
+        n = run_after(k, n);
+        i += k;
+        o += k;
+        if i < payload.len() {
+            let b = payload[i];
+            o = push(out, o, n, b);
+            n = run_with(n, b);
+            i += 1;
+        }
+    }
+    o
+}
