@@ -1,4 +1,4 @@
--- How the code is cut: what is left to write gives what all gives.
+-- How the code is cut: bytes put into the output one after the other.
 use mathlib.Core.Bool.{cond}
 use mathlib.Core.List.{List}
 use mathlib.Core.Path.{_≡_}
@@ -8,7 +8,11 @@ use lib.Seq.{sets}
 use lib.Dec.{eqb}
 use Rattle.frame.specs.Frame.{escaped}
 
--- from o on in m, the payload p from i on behind n 1b of a run gives what m₀, o₀, n₀ and i₀ gave, and ends where that ends
+-- m′ is m with the bytes from o on, and r is the place behind them
+abbrev pub Stored : List ℕ → ℕ → List ℕ → ℕ → List ℕ → Type 0
+Stored m′ r m o bytes = (m′ ≡ sets m o bytes) × (r ≡ o + length bytes)
+
+-- what is left to write gives what all gives: from o on in m, the payload p from i on behind n 1b of a run gives what m₀, o₀, n₀ and i₀ gave, and ends where that ends
 abbrev pub Writes : List ℕ → ℕ → ℕ → ℕ → List ℕ → ℕ → ℕ → ℕ → List ℕ → Type 0
 Writes m o n i m₀ o₀ n₀ i₀ p =
     (sets m o (escaped n (drop i p)) ≡ sets m₀ o₀ (escaped n₀ (drop i₀ p)))

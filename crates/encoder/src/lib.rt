@@ -2,7 +2,7 @@
 ghost use mathlib.Core.Path.{_≡_};
 ghost use mathlib.Core.Bool.{cond, false};
 ghost use mathlib.Core.List.{List, [], _∷_, _++_};
-ghost use Prim.Native.Nat.{ℕ, _+_, _≤_, _<_};
+ghost use Prim.Native.Nat.{ℕ, _+_, _/_, _%_, _≤_, _<_};
 ghost use lib.ListN.{length, drop, replicate};
 ghost use lib.IntN.{pos, negℤ, sucℤ};
 ghost use lib.Seq.{sets};
@@ -10,7 +10,7 @@ ghost use lib.Dec.{leb};
 ghost use Rattle.frame.specs.Frame.{escSeq, runWith, fourMore, escaped, missing, frameOf};
 ghost use Rattle.encoder.specs.Encode.{limit, answerOf, leaves, encodeTo};
 ghost use Rattle.encoder.specs.Encoder.{nextOf, stepTo, fresh, endOf, nextStep};
-ghost use Rattle.encoder.specs.Parts.{Writes, runAfter};
+ghost use Rattle.encoder.specs.Parts.{Stored, Writes, runAfter};
 
 // The longest payload.
 pub const LIMIT: usize = 1048576;
@@ -66,7 +66,7 @@ impl Encoder {
 // `bytes` go to `out` from `at` on; answers the place behind them.
 fn extend_from_slice(out: &mut [u8], at: usize, bytes: &[u8]) -> usize
     requires { ⌜ at + length (now bytes) ≤ length (now out) ⌝ }
-    ensures { λ r. ⌜ (now (out .exit) ≡ sets (now (out .entry)) at (now (bytes .entry))) × (r ≡ at + length (now (bytes .entry))) ⌝ }
+    ensures { λ r. ⌜ Stored (now (out .exit)) r (now (out .entry)) at (now (bytes .entry)) ⌝ }
 {
     let mut i = 0;
     while i < bytes.len() {
@@ -118,7 +118,7 @@ fn run_with(n: u8, b: u8) -> u8
 // One byte of the payload, and the escape behind a fourth 1b; answers the place behind them.
 fn push(out: &mut [u8], at: usize, n: u8, b: u8) -> usize
     requires { ⌜ at + length (b ∷ fourMore n b) ≤ length (now out) ⌝ }
-    ensures { λ r. ⌜ (now (out .exit) ≡ sets (now (out .entry)) at (b ∷ fourMore n b)) × (r ≡ at + length (b ∷ fourMore n b)) ⌝ }
+    ensures { λ r. ⌜ Stored (now (out .exit)) r (now (out .entry)) at (b ∷ fourMore n b) ⌝ }
 {
     out[at] = b;
     if b != 0x1b {
@@ -133,7 +133,7 @@ fn push(out: &mut [u8], at: usize, n: u8, b: u8) -> usize
 // The escaped payload goes to `out` from `at` on; answers the place behind it.
 fn put_escaped(payload: &[u8], out: &mut [u8], at: usize) -> usize
     requires { ⌜ at + length (escaped 0 (now payload)) ≤ length (now out) ⌝ }
-    ensures { λ r. ⌜ (now (out .exit) ≡ sets (now (out .entry)) at (escaped 0 (now (payload .entry)))) × (r ≡ at + length (escaped 0 (now (payload .entry)))) ⌝ }
+    ensures { λ r. ⌜ Stored (now (out .exit)) r (now (out .entry)) at (escaped 0 (now (payload .entry))) ⌝ }
 {
     let mut o = at;
     let mut n: u8 = 0;
@@ -151,4 +151,97 @@ fn put_escaped(payload: &[u8], out: &mut [u8], at: usize) -> usize
         }
     }
     o
+}
+
+// How many bytes one byte of the payload takes.
+fn bytes_of(n: u8, b: u8) -> usize
+    ensures { λ r. ⌜ r ≡ length (b ∷ fourMore n b) ⌝ }
+{
+    if b != 0x1b {
+        return 1;
+    }
+    if n == 3 { 5 } else { 1 }
+}
+
+// The escaped payload's length.
+fn escaped_len(payload: &[u8]) -> usize
+    requires { ⌜ length (now payload) ≤ limit ⌝ }
+    ensures { λ r. ⌜ r ≡ length (escaped 0 (now (payload .entry))) ⌝ }
+{
+    let mut len = 0;
+    let mut n: u8 = 0;
+    let mut i = 0;
+    while i < payload.len() {
+        let b = payload[i];
+        len += bytes_of(n, b);
+        n = run_with(n, b);
+        i += 1;
+    }
+    len
+}
+
+// The pad count of a payload.
+fn num_padding_bytes(len: usize) -> usize
+    ensures { λ r. ⌜ r ≡ missing len ⌝ }
+{
+    (4 - len % 4) % 4
+}
+
+// Whether the payload's frame fits in `room` bytes. A payload at most doubles, so most outputs need no count.
+fn fits(payload: &[u8], room: usize) -> bool
+    requires { ⌜ length (now payload) ≤ limit ⌝ }
+    ensures { λ r. ⌜ r ≡ leb (length (frameOf (now (payload .entry)))) room ⌝ }
+{
+    let len = payload.len();
+    if 2 * len + 19 <= room {
+        return true;
+    }
+    8 + escaped_len(payload) + num_padding_bytes(len) + 8 <= room
+}
+
+// Two bytes go to `out` from `at` on; answers the place behind them.
+fn put_pair(out: &mut [u8], at: usize, a: u8, b: u8) -> usize
+    requires { ⌜ at + 2 ≤ length (now out) ⌝ }
+    ensures { λ r. ⌜ Stored (now (out .exit)) r (now (out .entry)) at (a ∷ b ∷ []) ⌝ }
+{
+    out[at] = a;
+    out[at + 1] = b;
+    at + 2
+}
+
+// Pad bytes, escape, 1a and the pad count go to `out` from `at` on; answers the place behind them.
+fn put_end(out: &mut [u8], at: usize, pad: usize) -> usize
+    requires { ⌜ (pad ≤ 3) × (at + (pad + 6) ≤ length (now out)) ⌝ }
+    ensures { λ r. ⌜ Stored (now (out .exit)) r (now (out .entry)) at (endOf pad) ⌝ }
+{
+    let zeros = [0; 3];
+    let after = extend_from_slice(out, at, &zeros[..pad]);
+    let escape = extend_from_slice(out, after, &frame::ESCAPE);
+    put_pair(out, escape, 0x1a, pad as u8)
+}
+
+// The payload's frame goes to `out` from its first place on; answers the frame's length.
+fn put_frame(payload: &[u8], out: &mut [u8]) -> usize
+    requires { ⌜ length (frameOf (now payload)) ≤ length (now out) ⌝ }
+    ensures { λ r. ⌜ Stored (now (out .exit)) r (now (out .entry)) 0 (frameOf (now (payload .entry))) ⌝ }
+{
+    let begun = extend_from_slice(out, 0, &frame::START);
+    let at = put_escaped(payload, out, begun);
+    let end = put_end(out, at, num_padding_bytes(payload.len()));
+    let crc = crc_x25::checksum(&out[..end]);
+    put_pair(out, end, (crc % 256) as u8, (crc / 256) as u8)
+}
+
+// The payload's frame goes to `out`; what stands behind it there is unchanged. A refusal changes nothing.
+pub fn encode(payload: &[u8], out: &mut [u8]) -> Encoded
+    ensures { λ r. ⌜ leaves (answerOf r) (now (out .exit)) ≡ encodeTo (now (payload .entry)) (now (out .entry)) ⌝ }
+{
+    if LIMIT < payload.len() {
+        return Encoded::PayloadTooLong;
+    }
+    if !fits(payload, out.len()) {
+        return Encoded::OutOfMemory;
+    }
+    let len = put_frame(payload, out);
+    Encoded::Frame(len)
 }
