@@ -6,7 +6,7 @@ use lib.ListN.{replicate}
 use Rattle.crc_x25.specs.Crc.{reflect, polynomial, bitStep, bitSteps, byteStep, register, finalXor, crcOf}
 use Rattle.frame.specs.Frame.{escaped, closed, frameOf}
 use Rattle.encoder.specs.Encode.{length-is, refused, leaves, encodeTo}
-use Rattle.encoder.specs.Encoder.{Next, byte, finished, fresh, ended, looked, stepOf, badState, nextStep}
+use Rattle.encoder.specs.Encoder.{Next, byte, finished, fresh, ended, looked, stepFrom, badState, nextStep}
 use Rattle.encoder.specs.Calls.{calls}
 
 abbrev p1 : List ℕ
@@ -43,5 +43,5 @@ escape-example = refl
 
 -- encode_streaming's: the same bytes, one a call, then finished
 stream-1 : calls 23 fresh p1 ≡ map byte f1 ++ finished ∷ finished ∷ finished ∷ []
-unfolding reflect polynomial bitStep bitSteps byteStep register finalXor fresh ended looked stepOf badState nextStep calls
+unfolding reflect polynomial bitStep bitSteps byteStep register finalXor fresh ended looked stepFrom badState nextStep calls
 stream-1 = refl

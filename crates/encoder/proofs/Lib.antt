@@ -1,3 +1,5 @@
 pub mod Stores
 pub mod Encodes
+pub mod Ends
+pub mod Steps
 pub mod Bench

@@ -11,6 +11,7 @@ use Rattle.frame.specs.Frame.{escSeq, startSeq, missing}
 use Rattle.encoder.specs.declared.Encoder.{Encoder}
 use Rattle.encoder.specs.declared.EncoderState.{EncoderState}
 use Rattle.encoder.specs.declared.EncoderState.the-variants.{Init, LookingForEscape, HandlingEscape, End}
+use Rattle.encoder.specs.declared.Given.{Given}
 use Rattle.encoder.specs.declared.Item.{Item}
 use Rattle.encoder.specs.declared.Item.the-variants.{Byte, Finished, PayloadTooLong, BadState}
 use Rattle.encoder.specs.Encode.{limit}
@@ -34,6 +35,9 @@ pub record Step : Type 0 where
 abbrev pub stepTo : Next → Encoder → Step
 stepTo answer e = record { answer = answer; encoder = e }
 
+abbrev pub stepOf : Given → Step
+stepOf g = stepTo (nextOf (g .answer)) (g .encoder)
+
 abbrev pub encoderAt : EncoderState → ℕ → ℕ → Encoder
 encoderAt state place crc = record { state = state; place = place; crc = crc }
 
@@ -50,8 +54,21 @@ abbrev pub endByte : ℤ → ℕ → ℕ → ℕ
 endByte (negsuc n) pad crc = 0x00
 endByte (pos n) pad crc = getD (escSeq ++ (0x1a ∷ pad ∷ crc % 256 ∷ crc / 256 ∷ [])) n 0x00
 
+-- End runs from -3 to 8; at 8 all is given
+abbrev pub badEnd : ℤ → Bool
+badEnd (negsuc n) = ltb 2 n
+badEnd (pos n) = ltb 8 n
+
+abbrev pub lastEnd : ℤ → Bool
+lastEnd (negsuc n) = false
+lastEnd (pos n) = leb 8 n
+
 unfoldable pub ended : ℤ → ℕ → ℕ → Step
 ended n place reg = stepTo (byte (endByte n (missing place) (finalXor reg))) (encoderAt (End (sucℤ n)) place reg)
+
+-- the 1b of a run, with the byte b more
+abbrev pub runOf : ℕ → ℕ → ℕ
+runOf n b = cond (eqb b 0x1b) (suc n) 0
 
 -- the payload's next byte, behind n 1b of a run; behind the payload the end's first, its pads, escape and pad count in the register
 unfoldable pub looked : ℕ → ℕ → ℕ → List ℕ → Step
@@ -59,36 +76,32 @@ looked n place reg payload =
     let b = getD payload place 0 in
     let pad = missing place in
     cond (ltb place (length payload))
-    (stepTo (byte b) (encoderAt (LookingForEscape (cond (eqb b 0x1b) (suc n) 0)) (suc place) (byteStep reg b)))
+    (stepTo (byte b) (encoderAt (LookingForEscape (runOf n b)) (suc place) (byteStep reg b)))
     (ended (negℤ (pos pad)) place (register reg (endOf pad)))
 
-unfoldable pub stepOf : EncoderState → ℕ → ℕ → List ℕ → Step
-stepOf (Init n) place reg payload =
+-- behind the start, an escape or a byte the next one follows in the same call
+unfoldable pub stepFrom : EncoderState → ℕ → ℕ → List ℕ → Step
+stepFrom (Init n) place reg payload =
     cond (ltb n 8) (stepTo (byte (getD startSeq n 0)) (encoderAt (Init (suc n)) place reg)) (looked 0 place reg payload)
-stepOf (LookingForEscape n) place reg payload =
+stepFrom (LookingForEscape n) place reg payload =
     cond (ltb n 4) (looked n place reg payload) (stepTo (byte 0x1b) (encoderAt (HandlingEscape 1) place (register reg escSeq)))
-stepOf (HandlingEscape n) place reg payload =
+stepFrom (HandlingEscape n) place reg payload =
     cond (ltb n 4) (stepTo (byte 0x1b) (encoderAt (HandlingEscape (suc n)) place reg)) (looked 0 place reg payload)
-stepOf (End n) place reg payload = cond (over n) (stepTo finished (encoderAt (End n) place reg)) (ended n place reg)
-  where
-    over : ℤ → Bool
-    over (pos n) = leb 8 n
-    over (negsuc n) = false
+stepFrom (End n) place reg payload = cond (lastEnd n) (stepTo finished (encoderAt (End n) place reg)) (ended n place reg)
 
 -- Init over 8, either escape count over 4, End outside -3 to 8
 abbrev pub badCount : EncoderState → Bool
 badCount (Init n) = ltb 8 n
 badCount (LookingForEscape n) = ltb 4 n
 badCount (HandlingEscape n) = ltb 4 n
-badCount (End (pos n)) = ltb 8 n
-badCount (End (negsuc n)) = ltb 2 n
+badCount (End n) = badEnd n
 
--- the position beyond its payload, or a bad count
-unfoldable pub badState : Encoder → List ℕ → Bool
-badState e payload = cond (ltb (length payload) (e .place)) true (badCount (e .state))
+-- the position beyond its payload, which is len long, or a bad count
+unfoldable pub badState : Encoder → ℕ → Bool
+badState e len = cond (ltb len (e .place)) true (badCount (e .state))
 
 unfoldable pub nextStep : Encoder → List ℕ → Step
 nextStep e payload =
     cond (leb (length payload) limit)
-    (cond (badState e payload) (stepTo (refused 4) e) (stepOf (e .state) (e .place) (e .crc) payload))
+    (cond (badState e (length payload)) (stepTo (refused 4) e) (stepFrom (e .state) (e .place) (e .crc) payload))
     (stepTo (refused 1) e)
