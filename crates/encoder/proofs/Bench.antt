@@ -5,8 +5,12 @@ use Prim.Native.Nat.{ℕ}
 use lib.ListN.{replicate}
 use Rattle.crc_x25.specs.Crc.{reflect, polynomial, bitStep, bitSteps, byteStep, register, finalXor, crcOf}
 use Rattle.frame.specs.Frame.{escaped, closed, frameOf}
-use Rattle.encoder.specs.Encode.{length-is, refused, leaves, encodeTo}
-use Rattle.encoder.specs.Encoder.{Next, byte, finished, fresh, ended, looked, stepFrom, badState, nextStep}
+use Rattle.encoder.specs.Encode.{length-is, leaves, encodeTo}
+use Rattle.encoder.specs.Encode as E
+use Rattle.encoder.specs.Encoder.{byte, finished, refused, stepTo, encoderAt, fresh, ended, looked, stepFrom, badState, nextStep}
+use Rattle.encoder.specs.declared.EncoderState.{EncoderState}
+use Rattle.encoder.specs.declared.EncoderState.the-variants.{Init, LookingForEscape, HandlingEscape, End}
+use lib.IntN.{pos, negsuc}
 use Rattle.encoder.specs.Calls.{calls}
 
 abbrev p1 : List ℕ
@@ -32,7 +36,7 @@ encode-22 : encodeTo p1 (replicate 22 0xff) ≡ leaves (length-is 20) (f1 ++ 0xf
 unfolding reflect polynomial bitStep bitSteps byteStep register finalXor crcOf escaped closed frameOf encodeTo
 encode-22 = refl
 
-encode-19 : encodeTo p1 (replicate 19 0xff) ≡ leaves (refused 2) (replicate 19 0xff)
+encode-19 : encodeTo p1 (replicate 19 0xff) ≡ leaves (E.refused 2) (replicate 19 0xff)
 unfolding reflect polynomial bitStep bitSteps byteStep register finalXor crcOf escaped closed frameOf encodeTo
 encode-19 = refl
 
@@ -45,3 +49,15 @@ escape-example = refl
 stream-1 : calls 23 fresh p1 ≡ map byte f1 ++ finished ∷ finished ∷ finished ∷ []
 unfolding reflect polynomial bitStep bitSteps byteStep register finalXor fresh ended looked stepFrom badState nextStep calls
 stream-1 = refl
+
+abbrev states : List EncoderState
+states = Init 9 ∷ LookingForEscape 5 ∷ HandlingEscape 5 ∷ End (negsuc 3) ∷ End (pos 9) ∷ []
+
+-- each bad state that document 01 lists is answered with 4 and left as it is: place, Init, both escape counts, End on both sides
+bad-states : map (λ e. nextStep e p1) (map (λ s. encoderAt s 0 0) states) ≡ map (λ e. stepTo (refused 4) e) (map (λ s. encoderAt s 0 0) states)
+unfolding badState nextStep
+bad-states = refl
+
+bad-place : nextStep (encoderAt (Init 0) 5 0) p1 ≡ stepTo (refused 4) (encoderAt (Init 0) 5 0)
+unfolding badState nextStep
+bad-place = refl

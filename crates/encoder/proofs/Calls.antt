@@ -1,27 +1,28 @@
 -- The Encoder gives the frame's bytes, one a call, then says finished: by the bytes that are still to come.
 use mathlib.Core.Path.{_≡_, refl, ap, sym, _∙_, subst}
-use mathlib.Core.Bool.{Bool, true, false, cond}
-use mathlib.Core.List.{List, [], _∷_, _++_, map, append-assoc, append-nil}
+use mathlib.Core.Bool.{true, false, cond}
+use mathlib.Core.List.{List, [], _∷_, _++_, map, append-assoc}
 use Prim.Native.Nat.{ℕ, zero, suc, _+_, _-_, _%_, _/_, _≤_, _<_}
 use native.Mathlib.Omega.{arith}
-use native.Mathlib.Nat.{add-zero, zero-add, suc-add}
-use lib.IntN.{ℤ, pos, negsuc, sucℤ, negℤ}
-use lib.ListN.{length, replicate, drop, getD, length-append, length-replicate, getD-replicate, drop-of-length-le}
-use lib.Seq.{drop-cons, drop-nil, drop-append-add}
-use lib.Dec.{eqb, ltb, leb}
-use borrow.Author.Tests.{eq-eqb, ne-eqb, lt-ltb, le-ltb, le-leb, lt-leb, leb-true, leb-false, ltb-false}
-use Rattle.crc_x25.specs.Crc.{start, byteStep, register, finalXor, crcOf}
+use native.Mathlib.Nat.{zero-add, suc-add}
+use lib.IntN.{ℤ, pos, negsuc, negℤ}
+use lib.ListN.{length, replicate, drop, getD, getD-replicate, drop-of-length-le}
+use lib.Seq.{drop-cons}
+use lib.Dec.{ltb}
+use borrow.Author.Tests.{ne-eqb, lt-ltb, le-ltb, leb-true, leb-false, ltb-false}
+use Rattle.crc_x25.specs.Crc.{start, byteStep, register, finalXor}
 use Rattle.crc_x25.proofs.Laws.{register-append, register-one, register-none, crc-is}
 use Rattle.frame.specs.Frame.{escSeq, startSeq, missing, escaped, closed, frameOf}
-use Rattle.frame.proofs.Cases.{by-test, by-eq, by-lt, either}
+use Rattle.frame.proofs.Cases.{by-test, by-lt, either}
 use Rattle.frame.proofs.Escapes.{escaped-other, escaped-wait, escaped-fourth, escaped-nil}
 use Rattle.frame.proofs.Frames.{frame-parts}
 use Rattle.encoder.specs.declared.Encoder.{Encoder}
 use Rattle.encoder.specs.declared.EncoderState.{EncoderState}
 use Rattle.encoder.specs.declared.EncoderState.the-variants.{Init, LookingForEscape, HandlingEscape, End}
 use Rattle.encoder.specs.Encode.{limit}
-use Rattle.encoder.specs.Encoder.{Next, byte, finished, refused, Step, stepTo, encoderAt, fresh, endOf, endByte, badEnd, lastEnd, ended, runOf, looked, stepFrom, badCount, badState, nextStep}
+use Rattle.encoder.specs.Encoder.{Next, byte, finished, Step, stepTo, encoderAt, fresh, endOf, badEnd, lastEnd, ended, runOf, looked, stepFrom, badCount, nextStep}
 use Rattle.encoder.specs.Calls.{calls, GivesTheFrame}
+use Rattle.encoder.proofs.Ends.{not-last}
 use Rattle.encoder.proofs.Steps.{next-good, bad-inside}
 
 -- the end behind its pad bytes
@@ -69,7 +70,7 @@ comes-cons n n′ place reg b l P d e =
     let rest = escaped n′ (drop (suc place) P) in
     let t : escaped n (drop place P) ≡ b ∷ (l ++ rest) = ap (escaped n) d ∙ e in
     let r : register reg (b ∷ (l ++ rest)) ≡ register (register (byteStep reg b) l) rest =
-        register-append reg (b ∷ []) (l ++ rest) ∙ ap (λ (x : ℕ). register x (l ++ rest)) (register-one reg b) ∙ register-append (byteStep reg b) l rest in
+    register-append reg (b ∷ []) (l ++ rest) ∙ ap (λ (x : ℕ). register x (l ++ rest)) (register-one reg b) ∙ register-append (byteStep reg b) l rest in
     rw (t, r) (ap (λ (q : List ℕ). b ∷ q) (append-assoc l rest _))
 
 comes-plain : (n n′ place reg b : ℕ) (P : List ℕ) → drop place P ≡ b ∷ drop (suc place) P → escaped n (b ∷ drop (suc place) P) ≡ b ∷ escaped n′ (drop (suc place) P)
@@ -94,10 +95,6 @@ gives-byte P n place reg b le d h =
     (λ ne. rw e (gives 0x1b (LookingForEscape (suc n)) (suc place) (byteStep reg 0x1b)
     (rw (lt-ltb (suc n) 4 (omega arith)) (comes-plain n (suc n) place reg 0x1b P (rw e at d) (escaped-wait n (drop (suc place) P) ne))) (le-ltb 4 (suc n) (omega arith)) h)))
     (λ ne. rw (ne-eqb b 0x1b ne) (gives b (LookingForEscape 0) (suc place) (byteStep reg b) (comes-plain n 0 place reg b P d (escaped-other n b (drop (suc place) P) ne)) refl h))
-
-not-last : (n : ℕ) → lastEnd (negℤ (pos n)) ≡ false
-not-last zero = refl
-not-last (suc n) = refl
 
 not-bad : (n : ℕ) → n ≤ 3 → badEnd (negℤ (pos n)) ≡ false
 not-bad zero h = refl
@@ -139,7 +136,7 @@ gives-step P (End n) place reg b h =
 next-is : (P : List ℕ) (s : EncoderState) (place reg : ℕ) → length P ≤ limit → badCount s ≡ false → place ≤ length P
     → Gives P (coming s place reg P) (nextStep (encoderAt s place reg) P)
 next-is P s place reg lim b h =
-    subst (Gives P (coming s place reg P)) (next-good (encoderAt s place reg) P lim (sym (bad-inside (encoderAt s place reg) P (length P) h) ∙ b)) (gives-step P s place reg b h)
+    subst (Gives P (coming s place reg P)) (next-good (encoderAt s place reg) P lim (sym (bad-inside (encoderAt s place reg) (length P) h) ∙ b)) (gives-step P s place reg b h)
 
 -- calls give the bytes to come, then finished
 module _ (P : List ℕ) (lim : length P ≤ limit) where
@@ -191,7 +188,7 @@ coming-frame P =
     let e = escaped 0 P in
     let z = endOf (missing (length P)) in
     let r : register (register (register start startSeq) e) z ≡ register start (startSeq ++ e ++ z) =
-        ap (λ (x : ℕ). register x z) (sym (register-append start startSeq e)) ∙ sym (register-append start (startSeq ++ e) z) in
+    ap (λ (x : ℕ). register x z) (sym (register-append start startSeq e)) ∙ sym (register-append start (startSeq ++ e) z) in
     ap (λ (l : List ℕ). startSeq ++ (e ++ l)) (end-is (missing (length P)) _)
     ∙ sym (append-assoc startSeq e _) ∙ sym (append-assoc (startSeq ++ e) z _)
     ∙ ap (λ (x : ℕ). startSeq ++ e ++ z ++ (x % 256 ∷ x / 256 ∷ [])) (ap finalXor r ∙ sym (crc-is (startSeq ++ e ++ z)))

@@ -2,7 +2,7 @@
 use Prim.Native.Nat.{ℕ, _+_, _*_, _<_, _≤_}
 use mathlib.Core.Bool.{true, false}
 use mathlib.Core.List.{List, _++_}
-use mathlib.Core.Path.{_≡_, refl, sym, ap, _∙_}
+use mathlib.Core.Path.{_≡_, ap, _∙_}
 use native.Mathlib.Omega.{arith}
 use native.Mathlib.Nat.{zero-add}
 use borrow.Author.Tests.{le-leb, lt-leb}
@@ -11,7 +11,7 @@ use lib.ListN.{length, drop}
 use lib.Seq.{sets-eq}
 use Rattle.frame.specs.Frame.{escaped, missing, frameOf}
 use Rattle.frame.proofs.Frames.{escaped-short, length-frame}
-use Rattle.encoder.specs.Encode.{limit, Leaves, length-is, refused, leaves, encodeTo}
+use Rattle.encoder.specs.Encode.{limit, length-is, refused, leaves, encodeTo}
 use Rattle.encoder.specs.Encoder.{endOf}
 use Rattle.encoder.specs.Parts.{Stored}
 use Rattle.encoder.proofs.Stores.{length-end}

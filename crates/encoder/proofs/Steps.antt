@@ -1,8 +1,8 @@
 -- Laws of the Encoder's step, one for each of its cases.
-use Prim.Native.Nat.{ℕ, zero, suc, _+_, _≤_, _<_}
-use mathlib.Core.Bool.{Bool, true, false}
+use Prim.Native.Nat.{ℕ, _+_, _≤_, _<_}
+use mathlib.Core.Bool.{true, false}
 use mathlib.Core.List.{List, [], _∷_, _++_}
-use mathlib.Core.Path.{_≡_, refl, sym, ap, _∙_}
+use mathlib.Core.Path.{_≡_, sym, ap, _∙_}
 use native.Mathlib.Numerals.{add-one}
 use borrow.Author.Tests.{lt-ltb, le-ltb, le-leb, lt-leb}
 use lib.IntN.{ℤ, pos, negℤ, sucℤ}
@@ -14,7 +14,7 @@ use Rattle.encoder.specs.declared.Encoder.{Encoder}
 use Rattle.encoder.specs.declared.EncoderState.{EncoderState}
 use Rattle.encoder.specs.declared.EncoderState.the-variants.{Init, LookingForEscape, HandlingEscape, End}
 use Rattle.encoder.specs.Encode.{limit}
-use Rattle.encoder.specs.Encoder.{Step, byte, finished, refused, stepTo, encoderAt, endOf, endByte, lastEnd, ended, runOf, looked, stepFrom, badCount, badState, nextStep}
+use Rattle.encoder.specs.Encoder.{byte, finished, refused, stepTo, encoderAt, endOf, endByte, lastEnd, ended, runOf, looked, stepFrom, badCount, badState, nextStep}
 use Rattle.encoder.proofs.Stores.{zeros-take}
 
 -- the register over the end, part by part
@@ -41,37 +41,46 @@ unfolding looked
 look-end n place reg pad x z p h e f g = rw (le-ltb place (length p) h, f, g, e)
 
 module _ (place reg : ℕ) (p : List ℕ) where
-  pub at-start : (n : ℕ) → n < 8 → stepTo (byte (getD startSeq n 0)) (encoderAt (Init (n + 1)) place reg) ≡ stepFrom (Init n) place reg p
+  pub at-start : (s : EncoderState) (n : ℕ) → s ≡ Init n → n < 8 → stepTo (byte (getD startSeq n 0)) (encoderAt (Init (n + 1)) place reg) ≡ stepFrom s place reg p
   unfolding stepFrom
-  at-start n h = rw (lt-ltb n 8 h, add-one)
+  at-start s n q h = rw (q, lt-ltb n 8 h, add-one)
 
-  pub behind-start : (n : ℕ) → 8 ≤ n → looked 0 place reg p ≡ stepFrom (Init n) place reg p
+  pub behind-start : (s : EncoderState) (n : ℕ) → s ≡ Init n → 8 ≤ n → looked 0 place reg p ≡ stepFrom s place reg p
   unfolding stepFrom
-  behind-start n h = rw (le-ltb n 8 h)
+  behind-start s n q h = rw (q, le-ltb n 8 h)
 
-  pub looking : (n : ℕ) → n < 4 → looked n place reg p ≡ stepFrom (LookingForEscape n) place reg p
+  pub looking : (s : EncoderState) (n : ℕ) → s ≡ LookingForEscape n → n < 4 → looked n place reg p ≡ stepFrom s place reg p
   unfolding stepFrom
-  looking n h = rw (lt-ltb n 4 h)
+  looking s n q h = rw (q, lt-ltb n 4 h)
 
-  pub fourth : (n x : ℕ) → 4 ≤ n → x ≡ register reg escSeq → stepTo (byte 0x1b) (encoderAt (HandlingEscape 1) place x) ≡ stepFrom (LookingForEscape n) place reg p
+  pub fourth : (s : EncoderState) (n x : ℕ) → s ≡ LookingForEscape n → 4 ≤ n → x ≡ register reg escSeq → stepTo (byte 0x1b) (encoderAt (HandlingEscape 1) place x) ≡ stepFrom s place reg p
   unfolding stepFrom
-  fourth n x h e = rw (le-ltb n 4 h, e)
+  fourth s n x q h e = rw (q, le-ltb n 4 h, e)
 
-  pub at-escape : (n : ℕ) → n < 4 → stepTo (byte 0x1b) (encoderAt (HandlingEscape (n + 1)) place reg) ≡ stepFrom (HandlingEscape n) place reg p
+  pub at-escape : (s : EncoderState) (n : ℕ) → s ≡ HandlingEscape n → n < 4 → stepTo (byte 0x1b) (encoderAt (HandlingEscape (n + 1)) place reg) ≡ stepFrom s place reg p
   unfolding stepFrom
-  at-escape n h = rw (lt-ltb n 4 h, add-one)
+  at-escape s n q h = rw (q, lt-ltb n 4 h, add-one)
 
-  pub behind-escape : (n : ℕ) → 4 ≤ n → looked 0 place reg p ≡ stepFrom (HandlingEscape n) place reg p
+  pub behind-escape : (s : EncoderState) (n : ℕ) → s ≡ HandlingEscape n → 4 ≤ n → looked 0 place reg p ≡ stepFrom s place reg p
   unfolding stepFrom
-  behind-escape n h = rw (le-ltb n 4 h)
+  behind-escape s n q h = rw (q, le-ltb n 4 h)
 
-  pub all-given : (n : ℤ) → lastEnd n ≡ true → stepTo finished (encoderAt (End n) place reg) ≡ stepFrom (End n) place reg p
+  pub all-given : (s : EncoderState) (n : ℤ) → s ≡ End n → lastEnd n ≡ true → stepTo finished (encoderAt (End n) place reg) ≡ stepFrom s place reg p
   unfolding stepFrom
-  all-given n e = rw e
+  all-given s n q e = rw (q, e)
 
-  pub at-end : (n : ℤ) → lastEnd n ≡ false → ended n place reg ≡ stepFrom (End n) place reg p
+  pub at-end : (s : EncoderState) (n : ℤ) → s ≡ End n → lastEnd n ≡ false → ended n place reg ≡ stepFrom s place reg p
   unfolding stepFrom
-  at-end n e = rw e
+  at-end s n q e = rw (q, e)
+
+module _ (e : Encoder) where
+  pub bad-beyond : (len : ℕ) → len < e .place → true ≡ badState e len
+  unfolding badState
+  bad-beyond len h = rw (lt-ltb len (e .place) h)
+
+  pub bad-inside : (len : ℕ) → e .place ≤ len → badCount (e .state) ≡ badState e len
+  unfolding badState
+  bad-inside len h = rw (le-ltb len (e .place) h)
 
 module _ (e : Encoder) (p : List ℕ) where
   pub next-long : limit < length p → stepTo (refused 1) e ≡ nextStep e p
@@ -85,11 +94,3 @@ module _ (e : Encoder) (p : List ℕ) where
   pub next-good : length p ≤ limit → badState e (length p) ≡ false → stepFrom (e .state) (e .place) (e .crc) p ≡ nextStep e p
   unfolding nextStep
   next-good h b = rw (le-leb (length p) limit h, b)
-
-  pub bad-beyond : (len : ℕ) → len < e .place → true ≡ badState e len
-  unfolding badState
-  bad-beyond len h = rw (lt-ltb len (e .place) h)
-
-  pub bad-inside : (len : ℕ) → e .place ≤ len → badCount (e .state) ≡ badState e len
-  unfolding badState
-  bad-inside len h = rw (le-ltb len (e .place) h)

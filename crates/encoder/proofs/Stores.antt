@@ -1,9 +1,9 @@
 -- Laws of what is stored: lists one after the other, and the escaped payload byte by byte (`Writes`).
 use Prim.Native.Nat.{ℕ, zero, suc, _+_, _/_, _%_, _<_, _≤_}
-use mathlib.Core.List.{List, [], _∷_, _++_, append-nil}
+use mathlib.Core.List.{List, [], _∷_, _++_}
 use mathlib.Core.Path.{_≡_, refl, sym, ap, _∙_, subst}
 use native.Mathlib.Omega.{arith}
-use native.Mathlib.Nat.{add-zero, zero-add, add-suc, suc-add}
+use native.Mathlib.Nat.{add-zero}
 use native.Mathlib.Numerals.{add-one}
 use borrow.Author.Tests.{ne-eqb, eq-eqb}
 use lib.ListN.{length, set, drop, take, getD, replicate, length-append, length-replicate, drop-of-length-le}
@@ -84,9 +84,6 @@ byte-more m m₀ p o n i o₀ n₀ i₀ h w =
     let l : length (escaped n (drop i p)) ≡ length (b ∷ fourMore n b) + length rest = ap length t ∙ length-append (b ∷ fourMore n b) rest in
     (sym (sets-append m o (b ∷ fourMore n b) rest) ∙ ap (sets m o) (sym t) ∙ w .0, omega (arith, l, w .1))
 
-pub joined : (m m′ m″ p : List ℕ) (o o′ o″ n n′ n″ i i′ i″ : ℕ) → Writes m o n i m′ o′ n′ i′ p → Writes m′ o′ n′ i′ m″ o″ n″ i″ p → Writes m o n i m″ o″ n″ i″ p
-joined m m′ m″ p o o′ o″ n n′ n″ i i′ i″ a b = (a .0 ∙ b .0, a .1 ∙ b .1)
-
 pub all-done : (m : List ℕ) (o n i : ℕ) (p : List ℕ) → length p ≤ i → (sets m o (escaped n (drop i p)) ≡ m) × (o + length (escaped n (drop i p)) ≡ o)
 all-done m o n i p h = rw (drop-of-length-le p h, escaped-nil n) (refl, add-zero o)
 
@@ -124,9 +121,10 @@ byte-done m m′ m₀ p o o′ n n′ i o₀ n₀ i₀ h q e w =
 
 -- one list behind the other, with the places
 pub stored-then : (m m′ m″ : List ℕ) (o r r′ : ℕ) (xs ys : List ℕ) → Stored m′ r m o xs → Stored m″ r′ m′ r ys → Stored m″ r′ m o (xs ++ ys)
-stored-then m m′ m″ o r r′ xs ys a b =
-    (b .0 ∙ ap (λ (x : List ℕ). sets x r ys) (a .0) ∙ ap (λ (k : ℕ). sets (sets m o xs) k ys) (a .1) ∙ sym (sets-append m o xs ys),
-    simp length-append (omega (arith, a .1, b .1)))
+stored-then m m′ m″ o r r′ xs ys a b = (
+  b .0 ∙ ap (λ (x : List ℕ). sets x r ys) (a .0) ∙ ap (λ (k : ℕ). sets (sets m o xs) k ys) (a .1) ∙ sym (sets-append m o xs ys),
+  simp length-append (omega (arith, a .1, b .1)),
+)
 
 -- what was stored from the first place on is read back
 pub stored-take : (m m′ : List ℕ) (r : ℕ) (xs : List ℕ) → Stored m′ r m 0 xs → length xs ≤ length m → take r m′ ≡ xs

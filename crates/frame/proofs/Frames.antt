@@ -1,11 +1,10 @@
 -- Laws of whole frames: their parts, their length, and that a payload's frame is sound.
 use mathlib.Core.Path.{_≡_, refl, ap, sym, _∙_}
 use mathlib.Core.List.{List, [], _∷_, _++_, append-assoc}
-use Prim.Native.Nat.{ℕ, zero, suc, _+_, _*_, _-_, _/_, _%_, _≤_, _<_}
+use Prim.Native.Nat.{ℕ, suc, _+_, _*_, _-_, _≤_}
 use native.Mathlib.Omega.{arith}
-use lib.ListN.{length, replicate, take, length-append, length-replicate}
+use lib.ListN.{length, replicate, length-append, length-replicate}
 use lib.Seq.{take-at}
-use Rattle.crc_x25.specs.Crc.{crcOf}
 use Rattle.frame.specs.Frame.{escSeq, startSeq, runWith, fourMore, missing, escaped, closed, frameOf, framed, Sound}
 use Rattle.frame.proofs.Cases.{either}
 use Rattle.frame.proofs.Escapes.{escaped-other, escaped-wait, escaped-fourth, escaped-append, escaped-zeros, escaped-nil, run}

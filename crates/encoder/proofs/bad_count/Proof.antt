@@ -1,7 +1,6 @@
-use mathlib.Core.Path.{_≡_, refl, sym, ap, _∙_}
-use Rattle.encoder.specs.Encoder.{badCount}
+use mathlib.Core.Path.{sym, ap, _∙_}
+use Rattle.encoder.specs.Encoder.{badCount, badEnd}
 use Rattle.encoder.proofs.Ends.{read-back}
-use Rattle.encoder.specs.Encoder.{badEnd}
 use borrow.Author.Needs.{needs}
 use Rattle.encoder.proofs.bad_count.Statement.{statement}
 use Rattle.encoder.proofs.bad_count.Tie as tie

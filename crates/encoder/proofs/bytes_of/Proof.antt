@@ -1,5 +1,4 @@
-use mathlib.Core.Path.{sym, ap, refl}
-use lib.ListN.{length}
+use mathlib.Core.Path.{refl}
 use borrow.Author.Tests.{eq-eqb, ne-eqb}
 use Rattle.encoder.proofs.bytes_of.Statement.{statement}
 use Rattle.encoder.proofs.bytes_of.Tie as tie

@@ -1,11 +1,6 @@
-use Prim.Native.Nat.{ℕ, _≤_}
-use mathlib.Core.Path.{_≡_, sym, _∙_}
-use mathlib.Core.Bool.{true, false}
-use native.Mathlib.Omega.{arith}
+use mathlib.Core.Path.{sym, _∙_}
 use borrow.Author.Tests.{not-true, not-false, leb-true}
 use denote.Ref.{now}
-use lib.ListN.{length}
-use Rattle.frame.specs.Frame.{frameOf}
 use Rattle.encoder.proofs.Encodes.{encode-long, encode-full, encode-whole}
 use borrow.Author.Needs.{needs}
 use Rattle.encoder.proofs.encode.Statement.{statement}

@@ -1,7 +1,5 @@
-use mathlib.Core.Path.{_≡_, refl, sym, ap, _∙_}
+use mathlib.Core.Path.{sym, _∙_}
 use Rattle.encoder.proofs.Ends.{read-back, pad-byte, escape-byte, byte-at, last-byte}
-use lib.Signed.{ltZ}
-use lib.IntN.{ℤ, pos}
 use borrow.Author.Needs.{needs}
 use Rattle.encoder.proofs.end_byte.Statement.{statement}
 use Rattle.encoder.proofs.end_byte.Tie as tie

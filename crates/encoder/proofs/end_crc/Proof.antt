@@ -1,4 +1,4 @@
-use mathlib.Core.Path.{_≡_, refl, sym, ap, _∙_}
+use mathlib.Core.Path.{sym}
 use Rattle.encoder.proofs.Stores.{zeros-length}
 use Rattle.encoder.proofs.Steps.{end-register}
 use borrow.Author.Needs.{needs}

@@ -1,14 +1,13 @@
 use borrow.Author.Needs.{needs}
-use Prim.Native.Nat.{ℕ, _+_, _-_, _<_, _≤_}
+use Prim.Native.Nat.{_+_, _-_, _≤_}
 use mathlib.Core.Path.{_≡_, sym, _∙_}
 use native.Mathlib.Omega.{arith}
 use denote.Ref.{now}
-use lib.ListN.{length, drop, getD}
-use Rattle.frame.specs.Frame.{escaped, fourMore}
+use lib.ListN.{length, drop}
+use Rattle.frame.specs.Frame.{escaped}
 use Rattle.frame.proofs.Frames.{escaped-short}
-use Rattle.encoder.specs.Encode.{limit}
 use Rattle.encoder.proofs.Stores.{counted-more, counted-room, all-done}
-use mathlib.Core.List.{[], _∷_}
+use mathlib.Core.List.{[]}
 use Rattle.encoder.proofs.escaped_len.Statement.{statement}
 use Rattle.encoder.proofs.escaped_len.Tie as tie
 

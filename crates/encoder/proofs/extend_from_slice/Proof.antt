@@ -1,10 +1,9 @@
 use borrow.Author.Needs.{needs}
-use Prim.Native.Nat.{ℕ, _+_, _-_, _<_, _≤_}
-use mathlib.Core.Path.{_≡_, refl, ap, sym, _∙_}
+use Prim.Native.Nat.{_+_, _-_, _≤_}
+use mathlib.Core.Path.{_≡_, refl, _∙_}
 use native.Mathlib.Nat.{add-zero}
-use native.Mathlib.Omega.{arith}
 use denote.Ref.{now}
-use lib.ListN.{length, drop, length-set, drop-of-length-le}
+use lib.ListN.{length, drop, length-set}
 use lib.Seq.{sets}
 use Rattle.encoder.proofs.Stores.{copied, copied-all}
 use Rattle.encoder.proofs.extend_from_slice.Statement.{statement}

@@ -1,7 +1,7 @@
 use lib.IntN.{ℤ, sucℤ}
 use Rattle.encoder.specs.Encoder.{endByte}
 use Rattle.encoder.proofs.Ends.{read-back}
-use mathlib.Core.Path.{_≡_, refl, sym, ap, _∙_}
+use mathlib.Core.Path.{ap, _∙_}
 use Rattle.encoder.proofs.Steps.{ended-is}
 use borrow.Author.Needs.{needs}
 use Rattle.encoder.proofs.give_end.Statement.{statement}

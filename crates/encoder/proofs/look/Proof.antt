@@ -1,6 +1,5 @@
-use mathlib.Core.Path.{_≡_, refl, sym, ap, _∙_}
+use mathlib.Core.Path.{ap, _∙_}
 use denote.Ref.{now}
-use lib.IntN.{ℤ}
 use Rattle.encoder.specs.Encoder.{lastEnd}
 use Rattle.encoder.proofs.Ends.{read-back, not-last}
 use Rattle.encoder.proofs.Steps.{look-byte, look-end}

@@ -1,9 +1,8 @@
 use borrow.Author.Needs.{needs}
 use native.Mathlib.Omega.{arith}
 use mathlib.Core.Path.{_≡_, ap}
-use Prim.Native.Nat.{_+_, _≤_}
 use denote.Ref.{now}
-use lib.ListN.{length, set, length-set}
+use lib.ListN.{length, length-set}
 use Rattle.frame.specs.Frame.{fourMore}
 use Rattle.frame.proofs.Escapes.{four-other}
 use Rattle.encoder.proofs.Stores.{push-one, push-five, four-fourth, four-early}

@@ -1,11 +1,11 @@
 use borrow.Author.Needs.{needs}
-use Prim.Native.Nat.{ℕ, _+_, _-_, _<_, _≤_}
+use Prim.Native.Nat.{_+_, _-_, _≤_}
 use mathlib.Core.Path.{_≡_, refl, sym, _∙_}
 use native.Mathlib.Omega.{arith}
 use denote.Ref.{now}
 use lib.ListN.{length, drop}
 use Rattle.frame.specs.Frame.{escaped}
-use Rattle.encoder.specs.Parts.{Writes, runAfter}
+use Rattle.encoder.specs.Parts.{Writes}
 use Rattle.encoder.proofs.Stores.{plain-done, byte-done, byte-room, all-done}
 use Rattle.encoder.proofs.put_escaped.Statement.{statement}
 use Rattle.encoder.proofs.put_escaped.Tie as tie
@@ -72,9 +72,13 @@ loop-again c =
     let m = k .last .1 .1 .1 .0 in
     let w = plain-done (l .out) m (now (a .out)) p (l .o) (k .result) (l .n) (g .result) (l .i) (a .at) 0 0 (k .ensures .1) (g .ensures .0) (l .inv .4) in
     let q = c .before .before .before .push in
-    let h = c .run-with in
-    (search needs, h .ensures .1, search needs, l .inv .3,
-    byte-done m (q .last .0) (now (a .out)) p (l .o + k .result) (q .result) (g .result) (h .result) (l .i + k .result) (a .at) 0 0 (c .before .before .before .before .before .before .if1 .taken) (q .ensures) (h .ensures .0) w)
+    let h = c .run-with in (
+      search needs,
+      h .ensures .1,
+      search needs,
+      l .inv .3,
+      byte-done m (q .last .0) (now (a .out)) p (l .o + k .result) (q .result) (g .result) (h .result) (l .i + k .result) (a .at) 0 0 (c .before .before .before .before .before .before .if1 .taken) (q .ensures) (h .ensures .0) w,
+    )
 
 loop-less-2 : tie.Need-loop-less-2 Inv-loop μ-loop
 loop-less-2 c = search needs

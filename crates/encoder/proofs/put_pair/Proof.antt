@@ -1,4 +1,3 @@
-use Prim.Native.Nat.{_+_, _<_}
 use mathlib.Core.Path.{refl}
 use native.Mathlib.Numerals.{add-one}
 use native.Mathlib.Omega.{arith}

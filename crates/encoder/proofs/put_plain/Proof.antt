@@ -1,5 +1,5 @@
 use borrow.Author.Needs.{needs}
-use Prim.Native.Nat.{ℕ, _+_, _-_, _<_, _≤_}
+use Prim.Native.Nat.{_+_, _-_, _≤_}
 use mathlib.Core.Path.{_≡_}
 use native.Mathlib.Omega.{arith}
 use denote.Ref.{now}
@@ -53,9 +53,14 @@ loop-less c = search needs
 loop-again : tie.Need-loop-again Inv-loop μ-loop
 loop-again c =
     let l = c .before .before .before .loop in
-    let a = c .before .before .before .before .args in
-    (search needs, search needs, search needs, simp length-set (l .inv .3), l .inv .4,
-    plain-more (l .out) (now (a .out)) (now (a .payload)) (a .at) (l .k) (a .n) (a .from) (search needs) (c .if1 .left) (l .inv .5))
+    let a = c .before .before .before .before .args in (
+      search needs,
+      search needs,
+      search needs,
+      simp length-set (l .inv .3),
+      l .inv .4,
+      plain-more (l .out) (now (a .out)) (now (a .payload)) (a .at) (l .k) (a .n) (a .from) (search needs) (c .if1 .left) (l .inv .5),
+    )
 
 same-length : tie.Need-same-length Inv-loop μ-loop
 same-length c = search needs
