@@ -66,3 +66,8 @@ register-fits r (b ∷ s) h k =
 pub crc-fits : (s : List ℕ) → ((i : ℕ) → getD s i 0 < 2 ^ 8) → crcOf s < 2 ^ 16
 unfolding crcOf finalXor
 crc-fits s k = xor-lt 16 _ 0xffff (register-fits start s (omega arith) k) (omega arith)
+
+-- the CRC is what the register is closed with
+pub crc-is : (s : List ℕ) → crcOf s ≡ finalXor (register start s)
+unfolding crcOf
+crc-is s = refl

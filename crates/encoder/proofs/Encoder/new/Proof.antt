@@ -1,0 +1,20 @@
+use borrow.Author.Needs.{needs}
+use Rattle.encoder.specs.Encoder.{fresh}
+use Rattle.encoder.proofs.Encoder.new.Statement.{statement}
+use Rattle.encoder.proofs.Encoder.new.Tie as tie
+
+digest-requires : tie.Need-digest-requires
+digest-requires c κs = search needs
+
+slice-aggregate-update : tie.Need-slice-aggregate-update
+slice-aggregate-update c = search needs
+
+update-requires : tie.Need-update-requires
+update-requires c κs = search needs
+
+returns : tie.Need-returns
+unfolding fresh
+returns c = cc
+
+pub new-spec : {M : Type 1} → statement M
+new-spec = tie.close (tie.spec digest-requires slice-aggregate-update update-requires returns)

@@ -1,0 +1,6 @@
+pub mod Stores
+pub mod Encodes
+pub mod Ends
+pub mod Steps
+pub mod Calls
+pub mod Bench

@@ -1,0 +1,96 @@
+-- Laws of the Encoder's step, one for each of its cases.
+use Prim.Native.Nat.{ℕ, _+_, _≤_, _<_}
+use mathlib.Core.Bool.{true, false}
+use mathlib.Core.List.{List, [], _∷_, _++_}
+use mathlib.Core.Path.{_≡_, sym, ap, _∙_}
+use native.Mathlib.Numerals.{add-one}
+use borrow.Author.Tests.{lt-ltb, le-ltb, le-leb, lt-leb}
+use lib.IntN.{ℤ, pos, negℤ, sucℤ}
+use lib.ListN.{length, getD, take, replicate}
+use Rattle.crc_x25.specs.Crc.{byteStep, register, finalXor}
+use Rattle.crc_x25.proofs.Laws.{register-append}
+use Rattle.frame.specs.Frame.{escSeq, startSeq, missing}
+use Rattle.encoder.specs.declared.Encoder.{Encoder}
+use Rattle.encoder.specs.declared.EncoderState.{EncoderState}
+use Rattle.encoder.specs.declared.EncoderState.the-variants.{Init, LookingForEscape, HandlingEscape, End}
+use Rattle.encoder.specs.Encode.{limit}
+use Rattle.encoder.specs.Encoder.{byte, finished, refused, stepTo, encoderAt, endOf, endByte, lastEnd, ended, runOf, looked, stepFrom, badCount, badState, nextStep}
+use Rattle.encoder.proofs.Stores.{zeros-take}
+
+-- the register over the end, part by part
+pub end-register : (reg pad a b c : ℕ) → pad ≤ 3 → a ≡ register reg (take {A = ℕ} pad (0x00 ∷ 0x00 ∷ 0x00 ∷ [])) → b ≡ register a escSeq
+    → c ≡ register b (0x1a ∷ pad ∷ []) → c ≡ register reg (endOf pad)
+end-register reg pad a b c h e f g =
+    let z : a ≡ register reg (replicate pad 0x00) = e ∙ ap (register reg) (zeros-take pad h) in
+    g ∙ ap (λ (x : ℕ). register x (0x1a ∷ pad ∷ [])) (f ∙ ap (λ (x : ℕ). register x escSeq) z ∙ sym (register-append reg (replicate pad 0x00) escSeq))
+    ∙ sym (register-append reg (replicate pad 0x00 ++ escSeq) (0x1a ∷ pad ∷ []))
+
+pub ended-is : (n z : ℤ) (place reg pad b x : ℕ) → pad ≡ missing place → x ≡ finalXor reg → b ≡ endByte n pad x → z ≡ sucℤ n
+    → stepTo (byte b) (encoderAt (End z) place reg) ≡ ended n place reg
+unfolding ended
+ended-is n z place reg pad b x e f g h = rw (h, g, f, e)
+
+pub look-byte : (n place reg r x : ℕ) (p : List ℕ) → place < length p → r ≡ runOf n (getD p place 0) → x ≡ byteStep reg (getD p place 0)
+    → stepTo (byte (getD p place 0)) (encoderAt (LookingForEscape r) (place + 1) x) ≡ looked n place reg p
+unfolding looked
+look-byte n place reg r x p h e f = rw (lt-ltb place (length p) h, e, f, add-one)
+
+pub look-end : (n place reg pad x : ℕ) (z : ℤ) (p : List ℕ) → length p ≤ place → pad ≡ missing place → z ≡ negℤ (pos pad) → x ≡ register reg (endOf pad)
+    → ended z place x ≡ looked n place reg p
+unfolding looked
+look-end n place reg pad x z p h e f g = rw (le-ltb place (length p) h, f, g, e)
+
+module _ (place reg : ℕ) (p : List ℕ) where
+  pub at-start : (s : EncoderState) (n : ℕ) → s ≡ Init n → n < 8 → stepTo (byte (getD startSeq n 0)) (encoderAt (Init (n + 1)) place reg) ≡ stepFrom s place reg p
+  unfolding stepFrom
+  at-start s n q h = rw (q, lt-ltb n 8 h, add-one)
+
+  pub behind-start : (s : EncoderState) (n : ℕ) → s ≡ Init n → 8 ≤ n → looked 0 place reg p ≡ stepFrom s place reg p
+  unfolding stepFrom
+  behind-start s n q h = rw (q, le-ltb n 8 h)
+
+  pub looking : (s : EncoderState) (n : ℕ) → s ≡ LookingForEscape n → n < 4 → looked n place reg p ≡ stepFrom s place reg p
+  unfolding stepFrom
+  looking s n q h = rw (q, lt-ltb n 4 h)
+
+  pub fourth : (s : EncoderState) (n x : ℕ) → s ≡ LookingForEscape n → 4 ≤ n → x ≡ register reg escSeq → stepTo (byte 0x1b) (encoderAt (HandlingEscape 1) place x) ≡ stepFrom s place reg p
+  unfolding stepFrom
+  fourth s n x q h e = rw (q, le-ltb n 4 h, e)
+
+  pub at-escape : (s : EncoderState) (n : ℕ) → s ≡ HandlingEscape n → n < 4 → stepTo (byte 0x1b) (encoderAt (HandlingEscape (n + 1)) place reg) ≡ stepFrom s place reg p
+  unfolding stepFrom
+  at-escape s n q h = rw (q, lt-ltb n 4 h, add-one)
+
+  pub behind-escape : (s : EncoderState) (n : ℕ) → s ≡ HandlingEscape n → 4 ≤ n → looked 0 place reg p ≡ stepFrom s place reg p
+  unfolding stepFrom
+  behind-escape s n q h = rw (q, le-ltb n 4 h)
+
+  pub all-given : (s : EncoderState) (n : ℤ) → s ≡ End n → lastEnd n ≡ true → stepTo finished (encoderAt (End n) place reg) ≡ stepFrom s place reg p
+  unfolding stepFrom
+  all-given s n q e = rw (q, e)
+
+  pub at-end : (s : EncoderState) (n : ℤ) → s ≡ End n → lastEnd n ≡ false → ended n place reg ≡ stepFrom s place reg p
+  unfolding stepFrom
+  at-end s n q e = rw (q, e)
+
+module _ (e : Encoder) where
+  pub bad-beyond : (len : ℕ) → len < e .place → true ≡ badState e len
+  unfolding badState
+  bad-beyond len h = rw (lt-ltb len (e .place) h)
+
+  pub bad-inside : (len : ℕ) → e .place ≤ len → badCount (e .state) ≡ badState e len
+  unfolding badState
+  bad-inside len h = rw (le-ltb len (e .place) h)
+
+module _ (e : Encoder) (p : List ℕ) where
+  pub next-long : limit < length p → stepTo (refused 1) e ≡ nextStep e p
+  unfolding nextStep
+  next-long h = rw (lt-leb (length p) limit h)
+
+  pub next-bad : length p ≤ limit → badState e (length p) ≡ true → stepTo (refused 4) e ≡ nextStep e p
+  unfolding nextStep
+  next-bad h b = rw (le-leb (length p) limit h, b)
+
+  pub next-good : length p ≤ limit → badState e (length p) ≡ false → stepFrom (e .state) (e .place) (e .crc) p ≡ nextStep e p
+  unfolding nextStep
+  next-good h b = rw (le-leb (length p) limit h, b)

@@ -1,0 +1,4 @@
+pub mod Encode
+pub mod Encoder
+pub mod Calls
+pub mod Parts
