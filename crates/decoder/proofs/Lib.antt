@@ -1,0 +1,7 @@
+pub mod Saw
+pub mod Valid
+pub mod Faithful
+pub mod Runs
+pub mod Counts
+pub mod Bench
+pub mod Answers

@@ -1,0 +1,4 @@
+pub mod Push
+pub mod Record
+pub mod Run
+pub mod Saw
