@@ -72,5 +72,5 @@ rows =
     ∷ []
 
 pub bench : map (λ (r : Row). heard 1 (run (newRecord (r .capacity)) (replicate (r .capacity) 0) (r .operations))) rows ≡ map (λ (r : Row). r .answers) rows
-unfolding run act pushRecord pushed finalizeRecord resetRecord newRecord badState wrongBuffer wrote step searching store judge finish finalized resetCount reflect polynomial bitStep bitSteps byteStep register finalXor
+unfolding run act pushRecord pushed finalizeRecord resetRecord badState wrongBuffer wrote step searching store judge finish finalized resetCount reflect polynomial bitStep bitSteps byteStep register finalXor
 bench = refl

@@ -3,5 +3,7 @@ pub mod Valid
 pub mod Faithful
 pub mod Runs
 pub mod Counts
+pub mod Payload
 pub mod Bench
 pub mod Answers
+pub mod Tied

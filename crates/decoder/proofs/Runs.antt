@@ -78,7 +78,7 @@ leads (o ∷ os) a f =
 
 -- a new decoder, with a buffer of its capacity
 pub new-fit : (C : ℕ) (m : List ℕ) → length m ≡ C → C ≤ 1048576 → Fit (newRecord C) m
-unfolding newRecord wrongBuffer
+unfolding wrongBuffer
 new-fit C m l le =
     record {
       state = not-bad (record { capacity = C }) fresh (omega arith);
@@ -86,13 +86,11 @@ new-fit C m l le =
     }
 
 pub run-new : (C : ℕ) (m : List ℕ) (os : List Op) → length m ≡ C → C ≤ 1048576 → run (newRecord C) m os ≡ runState (record { capacity = C }) fresh os
-unfolding newRecord
 run-new C m os l le = run-is os (newRecord C) m (new-fit C m l le)
 
 -- what is reached from a new decoder is never refused with 4 or 5
 pub never-bad : (C : ℕ) (m : List ℕ) (os : List Op) → length m ≡ C → C ≤ 1048576
     → let a : After = behind (after nothing (newRecord C) m) os in (badState (a .decoder) ≡ false) × (a .decoder .capacity ≡ C)
-unfolding newRecord
 never-bad C m os l le =
     let r = leads os (after nothing (newRecord C) m) (new-fit C m l le) in
     (r .fit .state, ap (λ (x : Setup). x .capacity) (r .setup′))

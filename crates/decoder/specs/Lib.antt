@@ -2,3 +2,4 @@ pub mod Push
 pub mod Record
 pub mod Run
 pub mod Saw
+pub mod Cut

@@ -167,7 +167,7 @@ finalizeRecord d = cond (badState d) (left (refused 4 []) d) (left (numbered (fi
 unfoldable pub resetRecord : Decoder → Left
 resetRecord d = left (count (resetCount (view d []))) (pack (setup d) fresh)
 
-unfoldable pub newRecord : ℕ → Decoder
+abbrev pub newRecord : ℕ → Decoder
 newRecord capacity = pack (record { capacity = capacity }) fresh
 
 -- does a payload stand in the lent memory?
