@@ -6,7 +6,7 @@ use Prim.Native.Nat.{ℕ, suc}
 use lib.ListN.{replicate}
 use Rattle.crc_x25.specs.Crc.{reflect, polynomial, bitStep, bitSteps, byteStep, register, finalXor}
 use Rattle.frame.specs.Frame.{startSeq, escSeq}
-use Rattle.decoder.specs.Push.{searching, store, finish, judge, step, finalized, resetCount}
+use Rattle.decoder.specs.Push.{searching, store, same, finish, judge, step, finalized, resetCount}
 use Rattle.decoder.specs.Record.{Answer, nothing, payload, count, refused, wrote, badState, wrongBuffer, pushed, pushRecord, finalizeRecord, resetRecord, newRecord}
 use Rattle.decoder.specs.Run.{Op, push, finalize, reset, act, run}
 
@@ -72,5 +72,5 @@ rows =
     ∷ []
 
 pub bench : map (λ (r : Row). heard 1 (run (newRecord (r .capacity)) (replicate (r .capacity) 0) (r .operations))) rows ≡ map (λ (r : Row). r .answers) rows
-unfolding run act pushRecord pushed finalizeRecord resetRecord badState wrongBuffer wrote step searching store judge finish finalized resetCount reflect polynomial bitStep bitSteps byteStep register finalXor
+unfolding run act pushRecord pushed finalizeRecord resetRecord badState wrongBuffer wrote step searching store same judge finish finalized resetCount reflect polynomial bitStep bitSteps byteStep register finalXor
 bench = refl

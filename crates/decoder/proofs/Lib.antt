@@ -7,3 +7,7 @@ pub mod Payload
 pub mod Bench
 pub mod Answers
 pub mod Tied
+pub mod Same
+pub mod Stores
+pub mod Tests
+pub mod Checks

@@ -14,6 +14,7 @@ use Rattle.decoder.specs.Saw.{Passed, Judged, is-data, restarts, good, b
 
 -- two lists that `same` finds equal are equal, and the other way round
 pub same-true : (a b : List ℕ) → same a b ≡ true → a ≡ b
+unfolding same
 same-true [] [] e = refl
 same-true [] (y ∷ b) e = absurd (false≢true e)
 same-true (x ∷ a) [] e = absurd (false≢true e)
@@ -23,6 +24,7 @@ same-true (x ∷ a) (y ∷ b) e =
     (λ n f. absurd (false≢true f)) e
 
 same-self : (a : List ℕ) → same a a ≡ true
+unfolding same
 same-self [] = refl
 same-self (x ∷ a) = rw (eq-eqb x x refl) (same-self a)
 

@@ -256,3 +256,10 @@ push-wrong d m b e w = rw (e, w)
 pub push-step : (d : Decoder) (m : List ℕ) (b : ℕ) (s : DecodeState) (r : Cut) → badState d ≡ false → wrongBuffer (d .capacity) (length m) ≡ false
     → d .state ≡ s → r ≡ stepOf s d m b → told r ≡ pushRecord d m b
 push-step d m b s r e w q h = ap told (h ∙ ap (λ (x : DecodeState). stepOf x d m b) (sym q)) ∙ tied d m b (record { state = e; buffer = w })
+
+-- ---- and the last of the four bytes, in the code's words
+
+pub other-refused : (d : Decoder) (m : List ℕ) → early (missing (d .fill)) (four (d .fill) m) ≡ false
+    → freshWith (d .capacity) (InvalidEsc (getD m (d .fill - 4) 0) (getD m (d .fill - 4 + 1) 0) (getD m (d .fill - 4 + 2) 0) (getD m (d .fill - 4 + 3) 0)) ≡ otherStep d m
+unfolding otherStep
+other-refused d m e = rw (e, add-zero (d .fill - 4))

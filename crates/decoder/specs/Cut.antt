@@ -9,7 +9,7 @@ use Rattle.crc_x25.specs.Crc.{register, finalXor}
 use Rattle.frame.specs.Frame.{escSeq, restartSeq, missing}
 use Rattle.decoder.specs.Push as P
 use Rattle.decoder.specs.Push.{Setup, Out, fresh, begun, stopped, searching, same, early}
-use Rattle.decoder.specs.Record.{After, leaves, setup, packed, pack}
+use Rattle.decoder.specs.Record.{After, leaves, setup, packed, pack, badState, wrongBuffer}
 use Rattle.decoder.specs.declared.DecodeState.{DecodeState}
 use Rattle.decoder.specs.declared.DecodeState.the-variants.{LookingForMessageStart, ParsingNormal, ParsingEscChars, ParsingEscPayload, Done}
 use Rattle.decoder.specs.declared.Decoder.{Decoder}
@@ -153,3 +153,6 @@ isDone ParsingNormal = false
 isDone (ParsingEscChars n) = false
 isDone (ParsingEscPayload k) = false
 isDone Done = true
+
+unfoldable pub payloadIn : Decoder → ℕ → Bool
+payloadIn d lent = cond (badState d) false (cond (wrongBuffer (d .capacity) lent) false (isDone (d .state)))

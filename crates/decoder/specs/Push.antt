@@ -92,7 +92,7 @@ store C m l then = cond (leb (length (m .stored) + length l) (C .capacity)) (the
 
 -- ---- the four bytes behind an escape, stored last
 
-abbrev pub same : List ℕ → List ℕ → Bool
+unfoldable pub same : List ℕ → List ℕ → Bool
 same [] [] = true
 same [] (y ∷ ys) = false
 same (x ∷ xs) [] = false
