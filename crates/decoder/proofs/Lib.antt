@@ -11,3 +11,4 @@ pub mod Same
 pub mod Stores
 pub mod Tests
 pub mod Checks
+pub mod Reached

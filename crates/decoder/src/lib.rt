@@ -446,9 +446,9 @@ fn escape(d: Decoder, buf: &mut [u8], n: u8, b: u8) -> Pushed
     requires { ⌜ (d .«crc_idx» + n ≤ d .fill) × (n ≤ 3) × (8 ≤ d .«raw_msg_len») ⌝ }
     ensures { λ r. ⌜ cut r (now (buf .exit)) ≡ escapeStep d (now (buf .entry)) n b ⌝ }
 {
-    let at = d.fill;
-    if at < buf.len() {
-        buf[at] = b;
+    let last = d.fill;
+    if last < buf.len() {
+        buf[last] = b;
         if n < 3 {
             return quietly(stored_on(d, 1, DecodeState::ParsingEscPayload(n + 1)));
         }
