@@ -1,0 +1,81 @@
+-- An answer says the code's event: the views lose nothing, so two outcomes that a contract allows are equal.
+use mathlib.Core.Path.{_≡_, refl, ap, sym, _∙_}
+use mathlib.Core.Bool.{Bool, true, false, cond}
+use mathlib.Core.List.{List, [], _∷_}
+use Prim.Native.Nat.{ℕ}
+use lib.ListN.{getD}
+use lib.Dec.{eqb}
+use Rattle.decoder.specs.Record.{Answer, nothing, payload, count, refused, answerOf, answerAsked, After, leaves, Left, leavesFinal, leavesReset}
+use Rattle.decoder.specs.declared.Event.{Event}
+use Rattle.decoder.specs.declared.Event.the-variants.{Nothing, Payload, DiscardedBytes, InvalidEsc, OutOfMemory, InvalidMessage, BadState, WrongBuffer}
+use Rattle.decoder.specs.declared.Pushed.{Pushed}
+use Rattle.decoder.specs.declared.Finalized.{Finalized}
+use Rattle.decoder.specs.declared.Resetted.{Resetted}
+use Rattle.decoder.specs.declared.Asked.{Asked}
+use Rattle.decoder.specs.declared.Asked.the-variants.{Good, BadSpan}
+
+-- the event that an answer came from
+eventOf : Answer → Event
+eventOf nothing = Nothing
+eventOf (payload bytes) = Payload
+eventOf (count n) = Nothing
+eventOf (refused n v) =
+    cond (eqb n 3) OutOfMemory (cond (eqb n 4) BadState (cond (eqb n 5) WrongBuffer
+    (cond (eqb n 6) (DiscardedBytes (getD v 0 0))
+    (cond (eqb n 7) (InvalidEsc (getD v 0 0) (getD v 1 0) (getD v 2 0) (getD v 3 0))
+    (InvalidMessage (getD v 0 0) (getD v 1 0) (eqb (getD v 2 0) 1) (getD v 3 0))))))
+
+event-back : (e : Event) (bytes : List ℕ) → eventOf (answerOf e bytes) ≡ e
+unfolding eventOf
+event-back Nothing bytes = refl
+event-back Payload bytes = refl
+event-back (DiscardedBytes n) bytes = refl
+event-back (InvalidEsc a b c d) bytes = refl
+event-back OutOfMemory bytes = refl
+event-back (InvalidMessage read computed true p) bytes = refl
+event-back (InvalidMessage read computed false p) bytes = refl
+event-back BadState bytes = refl
+event-back WrongBuffer bytes = refl
+
+event-one : (e f : Event) (bytes more : List ℕ) → answerOf e bytes ≡ answerOf f more → e ≡ f
+event-one e f bytes more h = sym (event-back e bytes) ∙ ap eventOf h ∙ event-back f more
+
+-- push: answer, record and memory
+pub push-one : (r s : Pushed) (m n : List ℕ) → leaves r m ≡ leaves s n → (r ≡ s) × (m ≡ n)
+push-one r s m n h =
+    let d : r .decoder ≡ s .decoder = ap (λ (a : After). a .decoder) h in
+    let e : r .event ≡ s .event = event-one _ _ _ _ (ap (λ (a : After). a .answer) h) in
+    (λ i. record { decoder = d i; event = e i }, ap (λ (a : After). a .memory) h)
+
+pub finalize-one : (r s : Finalized) → leavesFinal r ≡ leavesFinal s → r ≡ s
+finalize-one r s h =
+    let d : r .decoder ≡ s .decoder = ap (λ (a : Left). a .decoder) h in
+    let e : r .event ≡ s .event = event-one _ _ [] [] (ap (λ (a : Left). a .answer) h) in
+    λ i. record { decoder = d i; event = e i }
+
+countOf : Answer → ℕ
+countOf nothing = 0
+countOf (payload bytes) = 0
+countOf (count n) = n
+countOf (refused n v) = 0
+
+pub reset-one : (r s : Resetted) → leavesReset r ≡ leavesReset s → r ≡ s
+unfolding countOf
+reset-one r s h =
+    let d : r .decoder ≡ s .decoder = ap (λ (a : Left). a .decoder) h in
+    let e : r .count ≡ s .count = ap (λ (a : Left). countOf (a .answer)) h in
+    λ i. record { decoder = d i; count = e i }
+
+askedOf : Answer → Asked
+askedOf nothing = Good
+askedOf (payload bytes) = Good
+askedOf (count n) = Good
+askedOf (refused n v) = BadSpan
+
+asked-back : (a : Asked) → askedOf (answerAsked a) ≡ a
+unfolding askedOf
+asked-back Good = refl
+asked-back BadSpan = refl
+
+pub ask-one : (a b : Asked) → answerAsked a ≡ answerAsked b → a ≡ b
+ask-one a b h = sym (asked-back a) ∙ ap askedOf h ∙ asked-back b

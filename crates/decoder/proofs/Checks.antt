@@ -1,0 +1,127 @@
+-- What the public functions answer, by what the code's tests said, over any record.
+use Prim.Native.Nat.{ℕ, zero, suc, _+_, _-_, _<_, _≤_}
+use mathlib.Core.List.{List, []}
+use mathlib.Core.Path.{_≡_, refl, ap, sym, _∙_}
+use mathlib.Core.Bool.{Bool, true, false, cond}
+use native.Mathlib.Omega.{arith}
+use lib.ListN.{length, take}
+use lib.Dec.{ltb, eqb}
+use borrow.Author.Tests.{ltb-true, ltb-false, lt-ltb, le-ltb}
+use Rattle.decoder.specs.Push.{Event, silent, discarded, finalized, resetCount}
+use Rattle.decoder.specs.Record.{numbered, left, nothing, refused, count, setup, viewAs, view, newRecord, badState, wrongBuffer, leavesFinal, leavesReset, finalizeRecord, resetRecord, stands, hasPayload, payloadRecord, askRecord}
+use Rattle.decoder.specs.Cut.{isFresh, isDone, payloadIn}
+use Rattle.decoder.specs.declared.DecodeState.{DecodeState}
+use Rattle.decoder.specs.declared.DecodeState.the-variants.{LookingForMessageStart, ParsingNormal, ParsingEscChars, ParsingEscPayload, Done}
+use Rattle.decoder.specs.declared.Decoder.{Decoder}
+use Rattle.decoder.specs.declared.Event.the-variants.{Nothing, DiscardedBytes, BadState}
+use Rattle.decoder.proofs.Valid.{sane, right-buffer}
+
+-- ---- BadState
+
+-- the code's test of the escape count can't wrap
+ltb-moved : (a b n : ℕ) (t : Bool) → b ≤ a → ltb a (b + n) ≡ t → ltb (a - b) n ≡ t
+ltb-moved a b n true h e = lt-ltb (a - b) n (omega (arith, ltb-true a (b + n) e))
+ltb-moved a b n false h e = le-ltb (a - b) n (omega (arith, ltb-false a (b + n) e))
+
+ltb-move : (a b n : ℕ) → b ≤ a → ltb (a - b) n ≡ ltb a (b + n)
+ltb-move a b n h = ltb-moved a b n (ltb a (b + n)) h refl
+
+pub bad-normal : (d : Decoder) → d .fill ≤ d .capacity → d .«crc_idx» ≤ d .fill → d .state ≡ ParsingNormal → ltb (d .«raw_msg_len») 8 ≡ badState d
+unfolding badState
+bad-normal d h k s = simp (le-ltb (d .capacity) (d .fill) h, le-ltb (d .fill) (d .«crc_idx») k, s)
+
+pub bad-escape : (d : Decoder) (n : ℕ) → d .fill ≤ d .capacity → d .«crc_idx» ≤ d .fill → d .state ≡ ParsingEscPayload n
+    → 8 ≤ d .«raw_msg_len» → n ≤ 3 → ltb (d .fill - d .«crc_idx») n ≡ badState d
+unfolding badState
+bad-escape d n h k s r e =
+    simp (le-ltb (d .capacity) (d .fill) h, le-ltb (d .fill) (d .«crc_idx») k, s, le-ltb (d .«raw_msg_len») 8 r, le-ltb 3 n e, ltb-move (d .fill) (d .«crc_idx») n k)
+
+-- ---- finalize and reset
+
+cond-cond : {A : Type 0} (s t : Bool) (x y : A) → cond s (cond t x y) y ≡ cond (cond s t false) x y
+cond-cond true t x y = refl
+cond-cond false t x y = refl
+
+final-is : (d : Decoder) (s : DecodeState) → finalized (viewAs s d []) ≡ cond (isFresh s) silent (cond (isDone s) silent (discarded (d .«raw_msg_len»)))
+unfolding finalized
+final-is d (LookingForMessageStart noise n) = cond-cond (eqb n 0) (eqb noise 0) silent (discarded (d .«raw_msg_len»))
+final-is d ParsingNormal = refl
+final-is d (ParsingEscChars n) = refl
+final-is d (ParsingEscPayload k) = refl
+final-is d Done = refl
+
+module _ (d : Decoder) where
+  pub final-bad : badState d ≡ true → leavesFinal (record { decoder = d; event = BadState }) ≡ finalizeRecord d
+  unfolding finalizeRecord
+  final-bad e = rw e
+
+  pub final-fresh : badState d ≡ false → isFresh (d .state) ≡ true → leavesFinal (record { decoder = newRecord (d .capacity); event = Nothing }) ≡ finalizeRecord d
+  unfolding finalizeRecord
+  final-fresh e f = rw (e, final-is d (d .state), f)
+
+  pub final-done : badState d ≡ false → isFresh (d .state) ≡ false → isDone (d .state) ≡ true → leavesFinal (record { decoder = newRecord (d .capacity); event = Nothing }) ≡ finalizeRecord d
+  unfolding finalizeRecord
+  final-done e f g = rw (e, final-is d (d .state), f, g)
+
+  pub final-lost : badState d ≡ false → isFresh (d .state) ≡ false → isDone (d .state) ≡ false
+      → leavesFinal (record { decoder = newRecord (d .capacity); event = DiscardedBytes (d .«raw_msg_len») }) ≡ finalizeRecord d
+  unfolding finalizeRecord
+  final-lost e f g = rw (e, final-is d (d .state), f, g)
+
+reset-is : (d : Decoder) (s : DecodeState) → resetCount (viewAs s d []) ≡ cond (isDone s) 0 (d .«raw_msg_len»)
+unfolding resetCount
+reset-is d (LookingForMessageStart noise n) = refl
+reset-is d ParsingNormal = refl
+reset-is d (ParsingEscChars n) = refl
+reset-is d (ParsingEscPayload k) = refl
+reset-is d Done = refl
+
+module _ (d : Decoder) where
+  pub reset-done : isDone (d .state) ≡ true → leavesReset (record { decoder = newRecord (d .capacity); count = 0 }) ≡ resetRecord d
+  unfolding resetRecord
+  reset-done e = rw (reset-is d (d .state), e)
+
+  pub reset-lost : isDone (d .state) ≡ false → leavesReset (record { decoder = newRecord (d .capacity); count = d .«raw_msg_len» }) ≡ resetRecord d
+  unfolding resetRecord
+  reset-lost e = rw (reset-is d (d .state), e)
+
+-- ---- the payload
+
+stands-is : (d : Decoder) (m : List ℕ) (s : DecodeState) → isDone s ≡ stands (viewAs s d m)
+stands-is d m (LookingForMessageStart noise n) = refl
+stands-is d m ParsingNormal = refl
+stands-is d m (ParsingEscChars n) = refl
+stands-is d m (ParsingEscPayload k) = refl
+stands-is d m Done = refl
+
+module _ (d : Decoder) (m : List ℕ) where
+  has-is : payloadIn d (length m) ≡ hasPayload d m
+  unfolding payloadIn hasPayload
+  has-is = rw (stands-is d m (d .state))
+
+  pub payload-is : payloadIn d (length m) ≡ true → take (d .fill) m ≡ payloadRecord d m
+  unfolding payloadRecord
+  payload-is e = rw (sym has-is ∙ e)
+
+  pub payload-no : payloadIn d (length m) ≡ false → [] ≡ payloadRecord d m
+  unfolding payloadRecord
+  payload-no e = rw (sym has-is ∙ e)
+
+  pub ask-is : payloadIn d (length m) ≡ true → nothing ≡ askRecord d m
+  unfolding askRecord
+  ask-is e = rw (sym has-is ∙ e)
+
+  pub ask-no : payloadIn d (length m) ≡ false → refused 16 [] ≡ askRecord d m
+  unfolding askRecord
+  ask-no e = rw (sym has-is ∙ e)
+
+both-false : (a b : Bool) → cond a false b ≡ true → (a ≡ false) × (b ≡ true)
+both-false true b e = (cc, cc)
+both-false false b e = (refl, e)
+
+pub payload-room : (d : Decoder) (lent : ℕ) → payloadIn d lent ≡ true → d .fill ≤ lent
+unfolding payloadIn
+payload-room d lent e =
+    let p = both-false (badState d) _ e in
+    let q = both-false (wrongBuffer (d .capacity) lent) _ (p .1) in
+    omega (arith, sane d (p .0) .0, right-buffer (d .capacity) lent (q .0) .0)

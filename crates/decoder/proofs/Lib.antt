@@ -1,0 +1,14 @@
+pub mod Saw
+pub mod Valid
+pub mod Faithful
+pub mod Runs
+pub mod Counts
+pub mod Payload
+pub mod Bench
+pub mod Answers
+pub mod Tied
+pub mod Same
+pub mod Stores
+pub mod Tests
+pub mod Checks
+pub mod Reached

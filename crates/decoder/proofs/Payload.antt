@@ -1,0 +1,65 @@
+-- A payload: the step that answers with one is behind it, and its record has CRC index and raw length 0.
+use mathlib.Core.Path.{_≡_, refl, ap, sym, _∙_}
+use mathlib.Core.Bool.{Bool, true, false, cond, false≢true}
+use mathlib.Core.List.{List, [], _∷_, _++_}
+use Prim.Native.Nat.{ℕ}
+use lib.ListN.{length}
+use lib.Dec.{eqb}
+use Rattle.frame.proofs.Cases.{by-eq, by-test}
+use Rattle.decoder.specs.Push.{Setup, Mem, State, done, Event, got, Out, noticed, fresh, step}
+use Rattle.decoder.specs.Record.{Answer, nothing, payload, count, refused, After, numbered, setup, view, pack, badState, wrongBuffer, pushed, pushRecord}
+use Rattle.decoder.specs.Saw.{Judged, is-data, restarts, good, bad, shifts, refused, Saw, matched, began, missed, again, waits, opens, stores, full, reads, judges, full′}
+use Rattle.decoder.specs.declared.DecodeState.the-variants.{Done}
+use Rattle.decoder.specs.declared.Decoder.{Decoder}
+use Rattle.decoder.proofs.Saw.{saw}
+
+-- the step that answers with a payload is behind it
+Paid : Out → Type 0
+Paid o = (bytes : List ℕ) → numbered (o .event) ≡ payload bytes → o .state ≡ done bytes
+
+paid-judged : (m : Mem) (four : List ℕ) (o : Out) → Judged m four o → Paid o
+unfolding Paid
+paid-judged m four o (is-data e) bytes h = cc
+paid-judged m four o (restarts e) bytes h = cc
+paid-judged m four o (good e p) bytes h = cc
+paid-judged m four o (bad e p) bytes h = cc
+paid-judged m four o (shifts a e lo hi t) bytes h = cc
+paid-judged m four o (refused a b c d) bytes h = cc
+
+no-payload : Answer → Bool
+no-payload nothing = true
+no-payload (payload bytes) = false
+no-payload (count n) = true
+no-payload (refused n values) = true
+
+noticed-not : (noise : ℕ) (bytes : List ℕ) → numbered (noticed noise) ≡ payload bytes → ⊥
+unfolding no-payload
+noticed-not noise bytes =
+    by-eq (λ (v : Event). numbered v ≡ payload bytes → ⊥) noise 0 _ _ (λ e h. false≢true (sym (ap no-payload h))) (λ e h. false≢true (sym (ap no-payload h)))
+
+paid : (C : Setup) (s : State) (b : ℕ) (o : Out) → Saw C s b o → Paid o
+unfolding Paid
+paid C s b o (matched t ne) bytes h = cc
+paid C s b o (began {noise = noise} t e) bytes h = absurd (noticed-not noise bytes h)
+paid C s b o (missed t) bytes h = cc
+paid C s b o (again w) bytes h = paid C fresh b o w bytes h
+paid C s b o (waits e ne) bytes h = cc
+paid C s b o (opens e f) bytes h = cc
+paid C s b o (stores ne fit) bytes h = cc
+paid C s b o (full ne f) bytes h = cc
+paid C s b o (reads fit lt) bytes h = cc
+paid C s b o (judges fit ge j) bytes h = paid-judged _ _ o j bytes h
+paid C s b o (full′ f) bytes h = cc
+
+-- the record behind a payload: its fill is the payload's length, CRC index and raw length are 0, the CRC register ffff
+pub payload-leaves : (d : Decoder) (m : List ℕ) (b : ℕ) (bytes : List ℕ) → pushRecord d m b .answer ≡ payload bytes
+    → pushRecord d m b .decoder ≡ record { capacity = d .capacity; fill = length bytes; «raw_msg_len» = 0; crc = 0xffff; «crc_idx» = 0; state = Done }
+unfolding pushRecord pushed Paid
+payload-leaves d m b bytes =
+    by-test (λ (a : After). a .answer ≡ payload bytes → a .decoder ≡ pack (setup d) (done bytes)) (badState d) _ _ (λ t h. cc) (λ f.
+    by-test (λ (a : After). a .answer ≡ payload bytes → a .decoder ≡ pack (setup d) (done bytes)) (wrongBuffer (d .capacity) (length m)) _ _ (λ t h. cc) (λ g h.
+    ap (pack (setup d)) (paid (setup d) (view d m) b (step (setup d) (view d m) b) (saw (setup d) (view d m) b) bytes h)))
+
+pub got-done : (C : Setup) (s : State) (b : ℕ) (bytes : List ℕ) → (step C s b) .event ≡ got bytes → (step C s b) .state ≡ done bytes
+unfolding Paid
+got-done C s b bytes h = paid C s b (step C s b) (saw C s b) bytes (ap numbered h)

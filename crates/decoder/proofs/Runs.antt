@@ -1,0 +1,96 @@
+-- Any number of operations: a record that is not refused stays so and keeps its setup, and the run over record and memory says what the run over the state says.
+use mathlib.Core.Path.{_≡_, refl, ap, ap₂, sym, _∙_}
+use mathlib.Core.Bool.{Bool, true, false, cond}
+use mathlib.Core.List.{List, [], _∷_, _++_}
+use Prim.Native.Nat.{ℕ, zero, suc, _≤_}
+use native.Mathlib.Omega.{arith}
+use lib.ListN.{length}
+use lib.Dec.{eqb, ltb}
+use borrow.Author.Tests.{eq-eqb, le-ltb}
+use Rattle.decoder.specs.Push.{Setup, Mem, State, search, body, escape, done, Event, fresh, step, finalized, resetCount}
+use Rattle.decoder.specs.Record.{Answer, nothing, payload, count, refused, After, after, Left, numbered, setup, viewAs, view, pack, badState, wrongBuffer, pushRecord, finalizeRecord, resetRecord, newRecord}
+use Rattle.decoder.specs.Run.{Op, push, finalize, reset, act, run, behind, actState, answerState, runState, stateBehind}
+use Rattle.decoder.specs.declared.DecodeState.{DecodeState}
+use Rattle.decoder.specs.declared.DecodeState.the-variants.{LookingForMessageStart, ParsingNormal, ParsingEscChars, ParsingEscPayload, Done}
+use Rattle.decoder.specs.declared.Decoder.{Decoder}
+use Rattle.decoder.proofs.Valid.{not-bad, right-buffer}
+use Rattle.decoder.proofs.Faithful.{Fit, Steps, push-is-step}
+
+-- an operation over the record is the operation over its state
+pub record Acts (d : Decoder) (m : List ℕ) (o : Op) (a : After) : Type 0 where
+  pub answer : a .answer ≡ answerState (setup d) (view d m) o
+  pub fit : Fit (a .decoder) (a .memory)
+  pub setup′ : setup (a .decoder) ≡ setup d
+  pub view′ : view (a .decoder) (a .memory) ≡ actState (setup d) (view d m) o
+
+-- finalize and reset look at no stored byte
+final-as : (d : Decoder) (m n : List ℕ) (s : DecodeState) → finalized (viewAs s d m) ≡ finalized (viewAs s d n)
+unfolding finalized
+final-as d m n (LookingForMessageStart noise k) = refl
+final-as d m n ParsingNormal = refl
+final-as d m n (ParsingEscChars k) = refl
+final-as d m n (ParsingEscPayload k) = refl
+final-as d m n Done = refl
+
+reset-as : (d : Decoder) (m n : List ℕ) (s : DecodeState) → resetCount (viewAs s d m) ≡ resetCount (viewAs s d n)
+unfolding resetCount
+reset-as d m n (LookingForMessageStart noise k) = refl
+reset-as d m n ParsingNormal = refl
+reset-as d m n (ParsingEscChars k) = refl
+reset-as d m n (ParsingEscPayload k) = refl
+reset-as d m n Done = refl
+
+fresh-fit : (d : Decoder) (m : List ℕ) → Fit d m → Fit (pack (setup d) fresh) m
+fresh-fit d m f = record { state = not-bad (setup d) fresh (omega arith); buffer = f .buffer }
+
+pub acts : (d : Decoder) (m : List ℕ) (o : Op) → Fit d m → Acts d m o (act d m o)
+unfolding act actState answerState finalizeRecord resetRecord
+acts d m (push b) f =
+    let s = push-is-step d m b f in
+    record { answer = s .answer; fit = s .fit; setup′ = s .setup′; view′ = s .view′ }
+acts d m finalize f =
+    rw (f .state) (record { answer = ap numbered (final-as d [] m (d .state)); fit = fresh-fit d m f; setup′ = refl; view′ = refl })
+acts d m reset f = record { answer = ap count (reset-as d [] m (d .state)); fit = fresh-fit d m f; setup′ = refl; view′ = refl }
+
+-- ---- any number of operations
+
+pub run-is : (os : List Op) (d : Decoder) (m : List ℕ) → Fit d m → run d m os ≡ runState (setup d) (view d m) os
+unfolding run runState
+run-is [] d m f = refl
+run-is (o ∷ os) d m f =
+    let a = acts d m o f in
+    rw (a .answer) (ap (λ (l : List Answer). answerState (setup d) (view d m) o ∷ l)
+    (run-is os (act d m o .decoder) (act d m o .memory) (a .fit) ∙ rw (a .setup′, a .view′)))
+
+-- where they lead
+pub record Leads (d : Decoder) (m : List ℕ) (os : List Op) (a : After) : Type 0 where
+  pub fit : Fit (a .decoder) (a .memory)
+  pub setup′ : setup (a .decoder) ≡ setup d
+  pub view′ : view (a .decoder) (a .memory) ≡ stateBehind (setup d) (view d m) os
+
+pub leads : (os : List Op) (a : After) → Fit (a .decoder) (a .memory) → Leads (a .decoder) (a .memory) os (behind a os)
+unfolding behind stateBehind
+leads [] a f = record { fit = f; setup′ = refl; view′ = refl }
+leads (o ∷ os) a f =
+    let h = acts (a .decoder) (a .memory) o f in
+    let r = leads os (act (a .decoder) (a .memory) o) (h .fit) in
+    record { fit = r .fit; setup′ = r .setup′ ∙ h .setup′; view′ = r .view′ ∙ rw (h .setup′, h .view′) }
+
+-- a new decoder, with a buffer of its capacity
+pub new-fit : (C : ℕ) (m : List ℕ) → length m ≡ C → C ≤ 1048576 → Fit (newRecord C) m
+unfolding wrongBuffer
+new-fit C m l le =
+    record {
+      state = not-bad (record { capacity = C }) fresh (omega arith);
+      buffer = rw (l, eq-eqb C C refl, le-ltb 1048576 C le);
+    }
+
+pub run-new : (C : ℕ) (m : List ℕ) (os : List Op) → length m ≡ C → C ≤ 1048576 → run (newRecord C) m os ≡ runState (record { capacity = C }) fresh os
+run-new C m os l le = run-is os (newRecord C) m (new-fit C m l le)
+
+-- what is reached from a new decoder is never refused with 4 or 5
+pub never-bad : (C : ℕ) (m : List ℕ) (os : List Op) → length m ≡ C → C ≤ 1048576
+    → let a : After = behind (after nothing (newRecord C) m) os in (badState (a .decoder) ≡ false) × (a .decoder .capacity ≡ C)
+never-bad C m os l le =
+    let r = leads os (after nothing (newRecord C) m) (new-fit C m l le) in
+    (r .fit .state, ap (λ (x : Setup). x .capacity) (r .setup′))

@@ -1,0 +1,5 @@
+pub mod Push
+pub mod Record
+pub mod Run
+pub mod Saw
+pub mod Cut

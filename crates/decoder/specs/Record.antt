@@ -1,0 +1,189 @@
+-- What a reader must believe: the record that the code keeps of a decoder, with the lent buffer, as the packed form of the push rules' state; what is refused; document 01's number and values of every answer.
+use mathlib.Core.Bool.{Bool, true, false, cond}
+use mathlib.Core.List.{List, [], _∷_, _++_}
+use Prim.Native.Nat.{ℕ, zero, suc, _+_}
+use lib.ListN.{length, take, drop, replicate}
+use lib.Dec.{eqb, leb, ltb}
+use Rattle.crc_x25.specs.Crc.{start}
+use Rattle.decoder.specs.Push as P
+use Rattle.decoder.specs.Push.{Setup, Mem, State, search, body, escape, done, Out, fresh, step, finalized, resetCount}
+use Rattle.decoder.specs.declared.DecodeState.{DecodeState}
+use Rattle.decoder.specs.declared.DecodeState.the-variants.{LookingForMessageStart, ParsingNormal, ParsingEscChars, ParsingEscPayload, Done}
+use Rattle.decoder.specs.declared.Decoder.{Decoder}
+use Rattle.decoder.specs.declared.Event.{Event}
+use Rattle.decoder.specs.declared.Event.the-variants.{Nothing, Payload, DiscardedBytes, InvalidEsc, OutOfMemory, InvalidMessage, BadState, WrongBuffer}
+use Rattle.decoder.specs.declared.Pushed.{Pushed}
+use Rattle.decoder.specs.declared.Finalized.{Finalized}
+use Rattle.decoder.specs.declared.Resetted.{Resetted}
+use Rattle.decoder.specs.declared.Asked.{Asked}
+use Rattle.decoder.specs.declared.Asked.the-variants.{Good, BadSpan}
+
+-- ---- answers, with document 01's numbers and values
+
+pub data Answer : Type 0 where
+  nothing : Answer
+  payload : List ℕ → Answer  -- the payload's bytes
+  count : ℕ → Answer  -- what reset gives
+  refused : ℕ → List ℕ → Answer  -- document 01's number, and the values
+
+-- misaligned 1, aligned 0
+abbrev pub flag : Bool → ℕ
+flag true = 1
+flag false = 0
+
+abbrev pub numbered : P.Event → Answer
+numbered P.silent = nothing
+numbered (P.got bytes) = payload bytes
+numbered P.memory = refused 3 []
+numbered (P.discarded n) = refused 6 (n ∷ [])
+numbered (P.badEscape a b c d) = refused 7 (a ∷ b ∷ c ∷ d ∷ [])
+numbered (P.badMessage read computed misaligned p) = refused 8 (read ∷ computed ∷ flag misaligned ∷ p ∷ [])
+
+-- the code's event; `bytes` are those of a payload
+abbrev pub answerOf : Event → List ℕ → Answer
+answerOf Nothing bytes = nothing
+answerOf Payload bytes = payload bytes
+answerOf OutOfMemory bytes = refused 3 []
+answerOf BadState bytes = refused 4 []
+answerOf WrongBuffer bytes = refused 5 []
+answerOf (DiscardedBytes n) bytes = refused 6 (n ∷ [])
+answerOf (InvalidEsc a b c d) bytes = refused 7 (a ∷ b ∷ c ∷ d ∷ [])
+answerOf (InvalidMessage read computed misaligned p) bytes = refused 8 (read ∷ computed ∷ flag misaligned ∷ p ∷ [])
+
+-- an answer, with the record and the lent memory as they are then
+pub record After : Type 0 where
+  pub answer : Answer
+  pub decoder : Decoder
+  pub memory : List ℕ
+
+abbrev pub after : Answer → Decoder → List ℕ → After
+after a d m = record { answer = a; decoder = d; memory = m }
+
+-- what push, finalize and reset gave; a payload is the first bytes of the lent memory m
+abbrev pub leaves : Pushed → List ℕ → After
+leaves r m = after (answerOf (r .event) (take (r .decoder .fill) m)) (r .decoder) m
+
+-- an answer, with the record as it is then
+pub record Left : Type 0 where
+  pub answer : Answer
+  pub decoder : Decoder
+
+abbrev pub left : Answer → Decoder → Left
+left a d = record { answer = a; decoder = d }
+
+abbrev pub leavesFinal : Finalized → Left
+leavesFinal r = left (answerOf (r .event) []) (r .decoder)
+
+abbrev pub leavesReset : Resetted → Left
+leavesReset r = left (count (r .count)) (r .decoder)
+
+abbrev pub answerAsked : Asked → Answer
+answerAsked Good = nothing
+answerAsked BadSpan = refused 16 []
+
+-- ---- the record's state, and the record of a state
+
+abbrev pub setup : Decoder → Setup
+setup d = record { capacity = d .capacity }
+
+-- a frame's bytes are the buffer's first
+abbrev pub memOf : Decoder → List ℕ → Mem
+memOf d m = record { stored = take (d .fill) m; reg = d .crc; idx = d .«crc_idx»; raw = d .«raw_msg_len» }
+
+abbrev pub viewAs : DecodeState → Decoder → List ℕ → State
+viewAs (LookingForMessageStart noise n) d m = search n noise (d .«raw_msg_len»)
+viewAs ParsingNormal d m = body 0 (memOf d m)
+viewAs (ParsingEscChars n) d m = body n (memOf d m)
+viewAs (ParsingEscPayload k) d m = escape k (memOf d m)
+viewAs Done d m = done (take (d .fill) m)
+
+abbrev pub view : Decoder → List ℕ → State
+view d m = viewAs (d .state) d m
+
+abbrev pub waiting : ℕ → DecodeState
+waiting zero = ParsingNormal
+waiting (suc n) = ParsingEscChars (suc n)
+
+abbrev pub packed : Setup → ℕ → ℕ → ℕ → ℕ → DecodeState → Decoder
+packed C fill raw reg idx s = record { capacity = C .capacity; fill = fill; «raw_msg_len» = raw; crc = reg; «crc_idx» = idx; state = s }
+
+-- counts that a state doesn't use are 0, and its CRC register is ffff
+abbrev pub pack : Setup → State → Decoder
+pack C (search n noise raw) = packed C 0 raw start 0 (LookingForMessageStart noise n)
+pack C (body n m) = packed C (length (m .stored)) (m .raw) (m .reg) (m .idx) (waiting n)
+pack C (escape k m) = packed C (length (m .stored)) (m .raw) (m .reg) (m .idx) (ParsingEscPayload k)
+pack C (done bytes) = packed C (length bytes) 0 start 0 Done
+
+-- ---- what a push writes
+
+-- the bytes that a push stores: those that it has to, or none if they don't fit
+unfoldable pub wrote : Setup → State → ℕ → List ℕ
+wrote C (search n noise raw) b = []
+wrote C (done bytes) b = []
+wrote C (body n m) b =
+    cond (eqb b 0x1b) []
+    (cond (leb (length (m .stored) + length (replicate n 0x1b ++ b ∷ [])) (C .capacity)) (replicate n 0x1b ++ b ∷ []) [])
+wrote C (escape k m) b = cond (leb (length (m .stored) + 1) (C .capacity)) (b ∷ []) []
+
+-- the memory m with the bytes l from `at` on
+abbrev pub written : List ℕ → ℕ → List ℕ → List ℕ
+written m at l = take at m ++ (l ++ drop (at + length l) m)
+
+-- ---- what is refused
+
+-- by the state: searching with fill not 0 or n over 7; raw length under 8 inside a frame; waiting count outside 1 to 3; escape count over 3, or CRC index plus it over fill
+abbrev pub badIn : ℕ → ℕ → ℕ → DecodeState → Bool
+badIn fill idx raw (LookingForMessageStart noise n) = cond (eqb fill 0) (ltb 7 n) true
+badIn fill idx raw ParsingNormal = ltb raw 8
+badIn fill idx raw (ParsingEscChars n) = cond (ltb raw 8) true (cond (eqb n 0) true (ltb 3 n))
+badIn fill idx raw (ParsingEscPayload k) = cond (ltb raw 8) true (cond (ltb 3 k) true (ltb fill (idx + k)))
+badIn fill idx raw Done = false
+
+-- fill over the recorded capacity; CRC index over fill; or by the state
+unfoldable pub badState : Decoder → Bool
+badState d =
+    cond (ltb (d .capacity) (d .fill)) true
+    (cond (ltb (d .fill) (d .«crc_idx»)) true (badIn (d .fill) (d .«crc_idx») (d .«raw_msg_len») (d .state)))
+
+-- the lent capacity isn't the recorded one, or is over 1,048,576
+unfoldable pub wrongBuffer : ℕ → ℕ → Bool
+wrongBuffer recorded lent = cond (eqb lent recorded) (ltb 1048576 lent) true
+
+-- ---- the public functions
+
+unfoldable pub pushed : Decoder → List ℕ → ℕ → Out → After
+pushed d m b o = after (numbered (o .event)) (pack (setup d) (o .state)) (written m (d .fill) (wrote (setup d) (view d m) b))
+
+-- a push: the checks for 4 and 5, then the step
+unfoldable pub pushRecord : Decoder → List ℕ → ℕ → After
+pushRecord d m b =
+    cond (badState d) (after (refused 4 []) d m)
+    (cond (wrongBuffer (d .capacity) (length m)) (after (refused 5 []) d m) (pushed d m b (step (setup d) (view d m) b)))
+
+-- finalize and reset look at no stored byte, so the view is over no memory
+unfoldable pub finalizeRecord : Decoder → Left
+finalizeRecord d = cond (badState d) (left (refused 4 []) d) (left (numbered (finalized (view d []))) (pack (setup d) fresh))
+
+unfoldable pub resetRecord : Decoder → Left
+resetRecord d = left (count (resetCount (view d []))) (pack (setup d) fresh)
+
+abbrev pub newRecord : ℕ → Decoder
+newRecord capacity = pack (record { capacity = capacity }) fresh
+
+-- does a payload stand in the lent memory?
+abbrev pub stands : State → Bool
+stands (search n noise raw) = false
+stands (body n m) = false
+stands (escape k m) = false
+stands (done bytes) = true
+
+unfoldable pub hasPayload : Decoder → List ℕ → Bool
+hasPayload d m = cond (badState d) false (cond (wrongBuffer (d .capacity) (length m)) false (stands (view d m)))
+
+-- its part of the memory, or the empty part
+unfoldable pub payloadRecord : Decoder → List ℕ → List ℕ
+payloadRecord d m = cond (hasPayload d m) (take (d .fill) m) []
+
+-- the question behind an empty part: 16 if no payload stands there
+unfoldable pub askRecord : Decoder → List ℕ → Answer
+askRecord d m = cond (hasPayload d m) nothing (refused 16 [])

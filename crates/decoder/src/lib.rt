@@ -1,0 +1,661 @@
+// Decoder of transport.rs, by value: a byte a push, into a buffer that is lent at each call.
+ghost use mathlib.Core.Path.{_≡_};
+ghost use mathlib.Core.List.{[], _∷_, _++_};
+ghost use Prim.Native.Nat.{suc, _+_, _*_, _-_, _^_, _<_, _≤_};
+ghost use lib.ListN.{length, replicate};
+ghost use lib.Seq.{sets};
+ghost use Rattle.decoder.specs.Push.{stopped, starts, searching, begun, search, same, early};
+ghost use Rattle.decoder.specs.Record.{setup, pack, leaves, leavesFinal, leavesReset, answerAsked, badState, wrongBuffer, newRecord, pushRecord, finalizeRecord, resetRecord, payloadRecord, askRecord};
+ghost use Rattle.decoder.specs.Cut.{code, cut, grown, moved, inState, quiet, freshWith, normalStep, escapeAt, waitStep, sound, verdict, endStep, otherStep, judgeStep, escapeStep, isFresh, isDone, payloadIn};
+
+pub enum DecodeState {
+    LookingForMessageStart {
+        num_discarded_bytes: u32,
+        num_init_seq_bytes: u8,
+    },
+    ParsingNormal,
+    ParsingEscChars(u8),
+    ParsingEscPayload(u8),
+    Done,
+}
+
+pub struct Decoder {
+    pub capacity: usize,
+    pub fill: usize,
+    pub raw_msg_len: u32,
+    pub crc: u16,
+    pub crc_idx: usize,
+    pub state: DecodeState,
+}
+
+// What a push or finalize says: the Rust's DecodeErr, and nothing or a payload, and the refusals of a record or buffer that doesn't fit.
+pub enum Event {
+    Nothing,
+    Payload,
+    DiscardedBytes(u32),
+    InvalidEsc(u8, u8, u8, u8),
+    OutOfMemory,
+    InvalidMessage {
+        read_crc: u16,
+        calculated_crc: u16,
+        misaligned: bool,
+        num_padding_bytes: u8,
+    },
+    BadState,
+    WrongBuffer,
+}
+
+pub struct Pushed {
+    pub decoder: Decoder,
+    pub event: Event,
+}
+
+pub struct Finalized {
+    pub decoder: Decoder,
+    pub event: Event,
+}
+
+pub struct Resetted {
+    pub decoder: Decoder,
+    pub count: u32,
+}
+
+// Whether a payload stands in the buffer.
+pub enum Asked {
+    Good,
+    BadSpan,
+}
+
+impl Decoder {
+    // The byte that escapes are made of.
+    pub const ESC: u8 = 0x1b;
+
+    // The length of the start sequence, with which a frame's raw length begins.
+    pub const START_LEN: u32 = 8;
+
+    // The bytes of the end sequence that are stored: those behind its escape.
+    pub const END_LEN: usize = 4;
+
+    pub fn new(capacity: usize) -> Decoder
+        ensures { λ r. ⌜ r ≡ newRecord capacity ⌝ }
+    {
+        Decoder {
+            capacity: capacity,
+            fill: 0,
+            raw_msg_len: 0,
+            crc: 0xffff,
+            crc_idx: 0,
+            state: DecodeState::LookingForMessageStart {
+                num_discarded_bytes: 0,
+                num_init_seq_bytes: 0,
+            },
+        }
+    }
+}
+
+// One more, or as many as 32 bits hold.
+fn one_more(x: u32) -> u32
+    ensures { λ r. ⌜ r ≡ stopped (suc x) ⌝ }
+{
+    if x == 4294967295 { x } else { x + 1 }
+}
+
+// The noise with the n matched bytes and the one that doesn't match, or as many as 32 bits hold.
+fn more_noise(noise: u32, n: u8) -> u32
+    ensures { λ r. ⌜ r ≡ stopped (noise + suc n) ⌝ }
+{
+    let add = (n as u32) + 1;
+    if noise <= 4294967295 - add {
+        noise + add
+    } else {
+        4294967295
+    }
+}
+
+// No event.
+fn quietly(d: Decoder) -> Pushed
+    ensures { λ r. ⌜ r ≡ quiet d ⌝ }
+{
+    Pushed {
+        decoder: d,
+        event: Event::Nothing,
+    }
+}
+
+// Fresh again, with an event.
+fn refused(capacity: usize, e: Event) -> Pushed
+    ensures { λ r. ⌜ r ≡ freshWith capacity e ⌝ }
+{
+    Pushed {
+        decoder: Decoder::new(capacity),
+        event: e,
+    }
+}
+
+// The same counts in another state.
+fn in_state(d: Decoder, s: DecodeState) -> Decoder
+    ensures { λ r. ⌜ r ≡ inState d s ⌝ }
+{
+    Decoder {
+        capacity: d.capacity,
+        fill: d.fill,
+        raw_msg_len: d.raw_msg_len,
+        crc: d.crc,
+        crc_idx: d.crc_idx,
+        state: s,
+    }
+}
+
+// One byte more pushed, and none stored.
+fn moved_on(d: Decoder, s: DecodeState) -> Decoder
+    ensures { λ r. ⌜ r ≡ moved d s ⌝ }
+{
+    Decoder {
+        capacity: d.capacity,
+        fill: d.fill,
+        raw_msg_len: one_more(d.raw_msg_len),
+        crc: d.crc,
+        crc_idx: d.crc_idx,
+        state: s,
+    }
+}
+
+// One byte more pushed, and k stored.
+fn stored_on(d: Decoder, k: usize, s: DecodeState) -> Decoder
+    requires { ⌜ d .fill + k < 2 ^ 64 ⌝ }
+    ensures { λ r. ⌜ r ≡ grown d k s ⌝ }
+{
+    Decoder {
+        capacity: d.capacity,
+        fill: d.fill + k,
+        raw_msg_len: one_more(d.raw_msg_len),
+        crc: d.crc,
+        crc_idx: d.crc_idx,
+        state: s,
+    }
+}
+
+// A frame begins: the CRC has gone over the start sequence.
+fn begun_frame(capacity: usize) -> Decoder
+    ensures { λ r. ⌜ r ≡ pack (record { capacity = capacity }) begun ⌝ }
+{
+    Decoder {
+        capacity: capacity,
+        fill: 0,
+        raw_msg_len: Decoder::START_LEN,
+        crc: crc_x25::update(0xffff, &frame::START),
+        crc_idx: 0,
+        state: DecodeState::ParsingNormal,
+    }
+}
+
+// A search goes on, or begins: nothing is stored, and no CRC runs.
+fn looking(d: Decoder, noise: u32, n: u8) -> Decoder
+    ensures { λ r. ⌜ r ≡ pack (setup d) (search n noise (stopped (suc (d .«raw_msg_len»)))) ⌝ }
+{
+    Decoder {
+        capacity: d.capacity,
+        fill: 0,
+        raw_msg_len: one_more(d.raw_msg_len),
+        crc: 0xffff,
+        crc_idx: 0,
+        state: DecodeState::LookingForMessageStart {
+            num_discarded_bytes: noise,
+            num_init_seq_bytes: n,
+        },
+    }
+}
+
+// Behind n start bytes, b is the next one.
+fn matching(n: u8, b: u8) -> bool
+    ensures { λ r. ⌜ r ≡ starts n b ⌝ }
+{
+    if n < 4 { b == Decoder::ESC } else { b == 0x01 }
+}
+
+fn look(d: Decoder, noise: u32, n: u8, b: u8) -> Pushed
+    requires { ⌜ n < 8 ⌝ }
+    ensures { λ r. ⌜ r ≡ code (setup d) (searching n noise (d .«raw_msg_len») b) ⌝ }
+{
+    if matching(n, b) {
+        if n == 7 {
+            let begun = begun_frame(d.capacity);
+            if noise == 0 {
+                return quietly(begun);
+            }
+            return Pushed {
+                decoder: begun,
+                event: Event::DiscardedBytes(noise),
+            };
+        }
+        return quietly(looking(d, noise, n + 1));
+    }
+    quietly(looking(d, more_noise(noise, n), 0))
+}
+
+fn normal(d: Decoder, buf: &mut [u8], b: u8) -> Pushed
+    ensures { λ r. ⌜ cut r (now (buf .exit)) ≡ normalStep d (now (buf .entry)) b ⌝ }
+{
+    if b == Decoder::ESC {
+        return quietly(moved_on(d, DecodeState::ParsingEscChars(1)));
+    }
+    let at = d.fill;
+    if at < buf.len() {
+        buf[at] = b;
+        return quietly(stored_on(d, 1, DecodeState::ParsingNormal));
+    }
+    refused(d.capacity, Event::OutOfMemory)
+}
+
+// n bytes 1b from `at` on.
+fn put_run(buf: &mut [u8], at: usize, n: usize)
+    requires { ⌜ at + n ≤ length (now buf) ⌝ }
+    ensures { λ r. ⌜ now (buf .exit) ≡ sets (now (buf .entry)) at (replicate n 0x1b) ⌝ }
+{
+    let mut i = 0;
+    while i < n {
+        buf[at + i] = 0x1b;
+        i += 1;
+    }
+}
+
+// n bytes 1b from `at` on, and b.
+fn put_run_and(buf: &mut [u8], at: usize, n: usize, b: u8)
+    requires { ⌜ at + n < length (now buf) ⌝ }
+    ensures { λ r. ⌜ now (buf .exit) ≡ sets (now (buf .entry)) at (replicate n 0x1b ++ (b ∷ [])) ⌝ }
+{
+    put_run(buf, at, n);
+    buf[at + n] = b;
+}
+
+// The fourth 1b: the CRC goes over what it hasn't, and over the four, which aren't stored.
+fn opened(d: Decoder, buf: &[u8]) -> Decoder
+    requires { ⌜ (d .fill ≤ length (now buf)) × (d .«crc_idx» ≤ d .fill) ⌝ }
+    ensures { λ r. ⌜ r ≡ escapeAt d (now (buf .entry)) ⌝ }
+{
+    let from = d.crc_idx;
+    let to = d.fill;
+    let seen = crc_x25::update(d.crc, &buf[from..to]);
+    Decoder {
+        capacity: d.capacity,
+        fill: to,
+        raw_msg_len: one_more(d.raw_msg_len),
+        crc: crc_x25::update(seen, &frame::ESCAPE),
+        crc_idx: to,
+        state: DecodeState::ParsingEscPayload(0),
+    }
+}
+
+fn waiting(d: Decoder, buf: &mut [u8], n: u8, b: u8) -> Pushed
+    requires { ⌜ (d .fill ≤ length (now buf)) × (d .«crc_idx» ≤ d .fill) × (n ≤ 3) ⌝ }
+    ensures { λ r. ⌜ cut r (now (buf .exit)) ≡ waitStep d (now (buf .entry)) n b ⌝ }
+{
+    if b == Decoder::ESC {
+        if n == 3 {
+            return quietly(opened(d, &buf[..]));
+        }
+        return quietly(moved_on(d, DecodeState::ParsingEscChars(n + 1)));
+    }
+    let at = d.fill;
+    let k = n as usize;
+    if k < buf.len() - at {
+        put_run_and(buf, at, k, b);
+        return quietly(stored_on(d, k + 1, DecodeState::ParsingNormal));
+    }
+    refused(d.capacity, Event::OutOfMemory)
+}
+
+// The two slices hold the same bytes.
+fn is(s: &[u8], t: &[u8]) -> bool
+    ensures { λ r. ⌜ r ≡ same (now (s .entry)) (now (t .entry)) ⌝ }
+{
+    if s.len() != t.len() {
+        return false;
+    }
+    let mut i = 0;
+    while i < s.len() {
+        if s[i] != t[i] {
+            return false;
+        }
+        i += 1;
+    }
+    true
+}
+
+fn le16(lo: u8, hi: u8) -> u16
+    ensures { λ r. ⌜ r ≡ lo + hi * 256 ⌝ }
+{
+    (lo as u16) + (hi as u16) * 256
+}
+
+fn is_sound(fill: usize, read_crc: u16, calculated_crc: u16, p: u8) -> bool
+    requires { ⌜ 4 ≤ fill ⌝ }
+    ensures { λ r. ⌜ r ≡ sound fill «read_crc» «calculated_crc» p ⌝ }
+{
+    if read_crc != calculated_crc {
+        return false;
+    }
+    if fill % 4 != 0 {
+        return false;
+    }
+    if 3 < p {
+        return false;
+    }
+    p as usize + Decoder::END_LEN <= fill
+}
+
+// An end sequence with the pad count p: a payload, or no valid message.
+fn judged_end(capacity: usize, fill: usize, read_crc: u16, calculated_crc: u16, p: u8) -> Pushed
+    requires { ⌜ 4 ≤ fill ⌝ }
+    ensures { λ r. ⌜ r ≡ verdict capacity fill «read_crc» «calculated_crc» p ⌝ }
+{
+    if is_sound(fill, read_crc, calculated_crc, p) {
+        return Pushed {
+            decoder: Decoder {
+                capacity: capacity,
+                fill: fill - (p as usize + Decoder::END_LEN),
+                raw_msg_len: 0,
+                crc: 0xffff,
+                crc_idx: 0,
+                state: DecodeState::Done,
+            },
+            event: Event::Payload,
+        };
+    }
+    refused(
+        capacity,
+        Event::InvalidMessage {
+            read_crc: read_crc,
+            calculated_crc: calculated_crc,
+            misaligned: fill % 4 != 0,
+            num_padding_bytes: p,
+        },
+    )
+}
+
+// The end sequence: 1a, the pad count, the CRC low byte first. The CRC goes over all but itself.
+fn end(d: Decoder, buf: &[u8]) -> Pushed
+    requires { ⌜ (4 ≤ d .fill) × (d .fill ≤ length (now buf)) × (d .«crc_idx» + 4 ≤ d .fill) ⌝ }
+    ensures { λ r. ⌜ r ≡ endStep d (now (buf .entry)) ⌝ }
+{
+    let fill = d.fill;
+    let from = d.crc_idx;
+    let at = fill - Decoder::END_LEN;
+    let to = fill - 2;
+    let read = le16(buf[at + 2], buf[at + 3]);
+    let seen = crc_x25::update(d.crc, &buf[from..to]);
+    let calculated = crc_x25::finalize(seen);
+    judged_end(d.capacity, fill, read, calculated, buf[at + 1])
+}
+
+// The first a of the four bytes are 1b, and the next is 1a.
+fn is_cut_end(a: usize, q: &[u8]) -> bool
+    requires { ⌜ (a ≤ 3) × (length (now q) ≡ 4) ⌝ }
+    ensures { λ r. ⌜ r ≡ early a (now (q .entry)) ⌝ }
+{
+    if a == 0 {
+        return false;
+    }
+    let t: &[u8] = b"\x1b\x1b\x1b\x1a";
+    let from = 3 - a;
+    let to = a + 1;
+    is(&q[..to], &t[from..])
+}
+
+// Behind an escape none of the known sequences: the message ends with 1 to 3 bytes 1b and the end sequence behind them is cut, or the escape is invalid.
+fn other(d: Decoder, buf: &[u8]) -> Pushed
+    requires { ⌜ (4 ≤ d .fill) × (d .fill ≤ length (now buf)) ⌝ }
+    ensures { λ r. ⌜ r ≡ otherStep d (now (buf .entry)) ⌝ }
+{
+    let fill = d.fill;
+    let at = fill - Decoder::END_LEN;
+    let bytes_until_alignment = (4 - fill % 4) % 4;
+    if is_cut_end(bytes_until_alignment, &buf[at..at + 4]) {
+        let read = (4 - bytes_until_alignment) as u8;
+        return quietly(in_state(d, DecodeState::ParsingEscPayload(read)));
+    }
+    refused(
+        d.capacity,
+        Event::InvalidEsc(buf[at], buf[at + 1], buf[at + 2], buf[at + 3]),
+    )
+}
+
+// The four bytes behind an escape, the last of which has been stored.
+fn judge(d: Decoder, buf: &[u8]) -> Pushed
+    requires { ⌜ (4 ≤ d .fill) × (d .fill ≤ length (now buf)) × (d .«crc_idx» + 4 ≤ d .fill) × (8 ≤ d .«raw_msg_len») ⌝ }
+    ensures { λ r. ⌜ r ≡ judgeStep d (now (buf .entry)) ⌝ }
+{
+    let at = d.fill - Decoder::END_LEN;
+    if is(&buf[at..at + 4], &frame::ESCAPE) {
+        return quietly(in_state(d, DecodeState::ParsingNormal));
+    }
+    if is(&buf[at..at + 4], &frame::RESTART) {
+        let ignored_bytes = d.raw_msg_len - Decoder::START_LEN;
+        return Pushed {
+            decoder: begun_frame(d.capacity),
+            event: Event::DiscardedBytes(ignored_bytes),
+        };
+    }
+    if buf[at] == 0x1a {
+        return end(d, buf);
+    }
+    other(d, buf)
+}
+
+fn escape(d: Decoder, buf: &mut [u8], n: u8, b: u8) -> Pushed
+    requires { ⌜ (d .«crc_idx» + n ≤ d .fill) × (n ≤ 3) × (8 ≤ d .«raw_msg_len») ⌝ }
+    ensures { λ r. ⌜ cut r (now (buf .exit)) ≡ escapeStep d (now (buf .entry)) n b ⌝ }
+{
+    let last = d.fill;
+    if last < buf.len() {
+        buf[last] = b;
+        if n < 3 {
+            return quietly(stored_on(d, 1, DecodeState::ParsingEscPayload(n + 1)));
+        }
+        return judge(stored_on(d, 1, DecodeState::ParsingEscPayload(3)), &buf[..]);
+    }
+    refused(d.capacity, Event::OutOfMemory)
+}
+
+// A record that no pushes lead to.
+fn bad_state(d: Decoder) -> bool
+    ensures { λ r. ⌜ r ≡ badState d ⌝ }
+{
+    if d.capacity < d.fill {
+        return true;
+    }
+    if d.fill < d.crc_idx {
+        return true;
+    }
+    let s = d.state;
+    match s {
+        DecodeState::LookingForMessageStart {
+            num_discarded_bytes: _,
+            num_init_seq_bytes,
+        } => {
+            if d.fill == 0 {
+                7 < num_init_seq_bytes
+            } else {
+                true
+            }
+        }
+        DecodeState::ParsingNormal => d.raw_msg_len < Decoder::START_LEN,
+        DecodeState::ParsingEscChars(n) => {
+            if d.raw_msg_len < Decoder::START_LEN {
+                return true;
+            }
+            if n == 0 { true } else { 3 < n }
+        }
+        DecodeState::ParsingEscPayload(n) => {
+            if d.raw_msg_len < Decoder::START_LEN {
+                return true;
+            }
+            if 3 < n {
+                return true;
+            }
+            d.fill - d.crc_idx < n as usize
+        }
+        DecodeState::Done => false,
+    }
+}
+
+fn wrong_buffer(recorded: usize, lent: usize) -> bool
+    ensures { λ r. ⌜ r ≡ wrongBuffer recorded lent ⌝ }
+{
+    if lent == recorded {
+        1048576 < lent
+    } else {
+        true
+    }
+}
+
+// A search that has seen nothing.
+fn is_fresh(s: DecodeState) -> bool
+    ensures { λ r. ⌜ r ≡ isFresh s ⌝ }
+{
+    match s {
+        DecodeState::LookingForMessageStart {
+            num_discarded_bytes,
+            num_init_seq_bytes,
+        } => {
+            if num_init_seq_bytes == 0 {
+                num_discarded_bytes == 0
+            } else {
+                false
+            }
+        }
+        DecodeState::ParsingNormal => false,
+        DecodeState::ParsingEscChars(_) => false,
+        DecodeState::ParsingEscPayload(_) => false,
+        DecodeState::Done => false,
+    }
+}
+
+fn is_done(s: DecodeState) -> bool
+    ensures { λ r. ⌜ r ≡ isDone s ⌝ }
+{
+    match s {
+        DecodeState::LookingForMessageStart {
+            num_discarded_bytes: _,
+            num_init_seq_bytes: _,
+        } => false,
+        DecodeState::ParsingNormal => false,
+        DecodeState::ParsingEscChars(_) => false,
+        DecodeState::ParsingEscPayload(_) => false,
+        DecodeState::Done => true,
+    }
+}
+
+impl Decoder {
+    // Pushes a byte: the checks of record and buffer, then one step.
+    pub fn push_byte(self, buf: &mut [u8], b: u8) -> Pushed
+        ensures { λ r. ⌜ leaves r (now (buf .exit)) ≡ pushRecord self (now (buf .entry)) b ⌝ }
+    {
+        if bad_state(self) {
+            return Pushed {
+                decoder: self,
+                event: Event::BadState,
+            };
+        }
+        if wrong_buffer(self.capacity, buf.len()) {
+            return Pushed {
+                decoder: self,
+                event: Event::WrongBuffer,
+            };
+        }
+        let s = self.state;
+        match s {
+            DecodeState::LookingForMessageStart {
+                num_discarded_bytes,
+                num_init_seq_bytes,
+            } => { look(self, num_discarded_bytes, num_init_seq_bytes, b) }
+            DecodeState::ParsingNormal => normal(self, buf, b),
+            DecodeState::ParsingEscChars(n) => waiting(self, buf, n, b),
+            DecodeState::ParsingEscPayload(n) => escape(self, buf, n, b),
+            DecodeState::Done => look(Decoder::new(self.capacity), 0, 0, b),
+        }
+    }
+
+    // Says how many bytes are lost, if any, and begins again.
+    pub fn finalize(self) -> Finalized
+        ensures { λ r. ⌜ leavesFinal r ≡ finalizeRecord self ⌝ }
+    {
+        if bad_state(self) {
+            return Finalized {
+                decoder: self,
+                event: Event::BadState,
+            };
+        }
+        let f = Decoder::new(self.capacity);
+        let s = self.state;
+        if is_fresh(s) {
+            return Finalized {
+                decoder: f,
+                event: Event::Nothing,
+            };
+        }
+        if is_done(s) {
+            return Finalized {
+                decoder: f,
+                event: Event::Nothing,
+            };
+        }
+        Finalized {
+            decoder: f,
+            event: Event::DiscardedBytes(self.raw_msg_len),
+        }
+    }
+
+    // Begins again, and gives the number of bytes that are lost. Any record will do.
+    pub fn reset(self) -> Resetted
+        ensures { λ r. ⌜ leavesReset r ≡ resetRecord self ⌝ }
+    {
+        let f = Decoder::new(self.capacity);
+        let s = self.state;
+        if is_done(s) {
+            return Resetted {
+                decoder: f,
+                count: 0,
+            };
+        }
+        Resetted {
+            decoder: f,
+            count: self.raw_msg_len,
+        }
+    }
+
+    // Whether a payload stands in the buffer, or why `payload` gives the empty part.
+    pub fn ask_payload(self, buf: &[u8]) -> Asked
+        ensures { λ r. ⌜ answerAsked r ≡ askRecord self (now (buf .entry)) ⌝ }
+    {
+        if has_payload(self, buf.len()) {
+            return Asked::Good;
+        }
+        Asked::BadSpan
+    }
+
+    // The payload: the buffer's first bytes, from the push that said it to the next. Otherwise the empty part.
+    pub fn payload(self, buf: &[u8]) -> &[u8]
+        ensures { λ r. ⌜ now r ≡ payloadRecord self (now (buf .entry)) ⌝ }
+    {
+        let at = self.fill;
+        if has_payload(self, buf.len()) {
+            return &buf[..at];
+        }
+        &buf[..0]
+    }
+}
+
+// A payload stands in a buffer of this length.
+fn has_payload(d: Decoder, lent: usize) -> bool
+    ensures { λ r. ⌜ r ≡ payloadIn d lent ⌝ }
+{
+    if bad_state(d) {
+        return false;
+    }
+    if wrong_buffer(d.capacity, lent) {
+        return false;
+    }
+    let s = d.state;
+    is_done(s)
+}
