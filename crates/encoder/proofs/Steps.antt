@@ -7,14 +7,14 @@ use native.Mathlib.Numerals.{add-one}
 use borrow.Author.Tests.{lt-ltb, le-ltb, le-leb, lt-leb}
 use lib.IntN.{ℤ, pos, negℤ, sucℤ}
 use lib.ListN.{length, getD, take, replicate}
-use Rattle.crc_x25.specs.Crc.{byteStep, register, finalXor}
+use Rattle.crc_x25.specs.Crc.{start, byteStep, register, finalXor}
 use Rattle.crc_x25.proofs.Laws.{register-append}
 use Rattle.frame.specs.Frame.{escSeq, startSeq, missing}
 use Rattle.encoder.specs.declared.Encoder.{Encoder}
 use Rattle.encoder.specs.declared.EncoderState.{EncoderState}
 use Rattle.encoder.specs.declared.EncoderState.the-variants.{Init, LookingForEscape, HandlingEscape, End}
 use Rattle.encoder.specs.Encode.{limit}
-use Rattle.encoder.specs.Encoder.{byte, finished, refused, stepTo, encoderAt, endOf, endByte, lastEnd, ended, runOf, looked, stepFrom, badCount, badState, nextStep}
+use Rattle.encoder.specs.Encoder.{byte, finished, refused, stepTo, encoderAt, fresh, endOf, endByte, lastEnd, ended, runOf, looked, stepFrom, badCount, badState, nextStep}
 use Rattle.encoder.proofs.Stores.{zeros-take}
 
 -- the register over the end, part by part
@@ -24,6 +24,10 @@ end-register reg pad a b c h e f g =
     let z : a ≡ register reg (replicate pad 0x00) = e ∙ ap (register reg) (zeros-take pad h) in
     g ∙ ap (λ (x : ℕ). register x (0x1a ∷ pad ∷ [])) (f ∙ ap (λ (x : ℕ). register x escSeq) z ∙ sym (register-append reg (replicate pad 0x00) escSeq))
     ∙ sym (register-append reg (replicate pad 0x00 ++ escSeq) (0x1a ∷ pad ∷ []))
+
+pub new-is : (d x : ℕ) → d ≡ start → x ≡ register d startSeq → encoderAt (Init 0) 0 x ≡ fresh
+unfolding fresh
+new-is d x e f = rw (f, e)
 
 pub ended-is : (n z : ℤ) (place reg pad b x : ℕ) → pad ≡ missing place → x ≡ finalXor reg → b ≡ endByte n pad x → z ≡ sucℤ n
     → stepTo (byte b) (encoderAt (End z) place reg) ≡ ended n place reg
