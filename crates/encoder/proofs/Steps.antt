@@ -2,19 +2,21 @@
 use Prim.Native.Nat.{ℕ, _+_, _≤_, _<_}
 use mathlib.Core.Bool.{true, false}
 use mathlib.Core.List.{List, [], _∷_, _++_}
-use mathlib.Core.Path.{_≡_, sym, ap, _∙_}
+use mathlib.Core.Path.{_≡_, refl, sym, ap, _∙_, subst}
 use native.Mathlib.Numerals.{add-one}
 use borrow.Author.Tests.{lt-ltb, le-ltb, le-leb, lt-leb}
+use lib.Dec.{ltb, leb}
 use lib.IntN.{ℤ, pos, negℤ, sucℤ}
 use lib.ListN.{length, getD, take, replicate}
-use Rattle.crc_x25.specs.Crc.{byteStep, register, finalXor}
+use Rattle.crc_x25.specs.Crc.{start, byteStep, register, finalXor}
 use Rattle.crc_x25.proofs.Laws.{register-append}
 use Rattle.frame.specs.Frame.{escSeq, startSeq, missing}
+use Rattle.frame.proofs.Cases.{by-test}
 use Rattle.encoder.specs.declared.Encoder.{Encoder}
 use Rattle.encoder.specs.declared.EncoderState.{EncoderState}
 use Rattle.encoder.specs.declared.EncoderState.the-variants.{Init, LookingForEscape, HandlingEscape, End}
 use Rattle.encoder.specs.Encode.{limit}
-use Rattle.encoder.specs.Encoder.{byte, finished, refused, stepTo, encoderAt, endOf, endByte, lastEnd, ended, runOf, looked, stepFrom, badCount, badState, nextStep}
+use Rattle.encoder.specs.Encoder.{Next, Step, byte, finished, refused, stepTo, encoderAt, fresh, endOf, endByte, lastEnd, ended, runOf, looked, stepFrom, badCount, badState, nextStep}
 use Rattle.encoder.proofs.Stores.{zeros-take}
 
 -- the register over the end, part by part
@@ -24,6 +26,10 @@ end-register reg pad a b c h e f g =
     let z : a ≡ register reg (replicate pad 0x00) = e ∙ ap (register reg) (zeros-take pad h) in
     g ∙ ap (λ (x : ℕ). register x (0x1a ∷ pad ∷ [])) (f ∙ ap (λ (x : ℕ). register x escSeq) z ∙ sym (register-append reg (replicate pad 0x00) escSeq))
     ∙ sym (register-append reg (replicate pad 0x00 ++ escSeq) (0x1a ∷ pad ∷ []))
+
+pub new-is : (d x : ℕ) → d ≡ start → x ≡ register d startSeq → encoderAt (Init 0) 0 x ≡ fresh
+unfolding fresh
+new-is d x e f = rw (f, e)
 
 pub ended-is : (n z : ℤ) (place reg pad b x : ℕ) → pad ≡ missing place → x ≡ finalXor reg → b ≡ endByte n pad x → z ≡ sucℤ n
     → stepTo (byte b) (encoderAt (End z) place reg) ≡ ended n place reg
@@ -94,3 +100,33 @@ module _ (e : Encoder) (p : List ℕ) where
   pub next-good : length p ≤ limit → badState e (length p) ≡ false → stepFrom (e .state) (e .place) (e .crc) p ≡ nextStep e p
   unfolding nextStep
   next-good h b = rw (le-leb (length p) limit h, b)
+
+-- a call that gives no byte leaves the Encoder as it was
+pub data Kept (e : Encoder) : Step → Type 0 where
+  moves : (b : ℕ) (e′ : Encoder) → Kept e (stepTo (byte b) e′)
+  stays : (a : Next) → Kept e (stepTo a e)
+
+ended-moves : (e : Encoder) (n : ℤ) (place reg : ℕ) → Kept e (ended n place reg)
+unfolding ended
+ended-moves e n place reg = moves _ _
+
+looked-moves : (e : Encoder) (n place reg : ℕ) (p : List ℕ) → Kept e (looked n place reg p)
+unfolding looked
+looked-moves e n place reg p = by-test (Kept e) (ltb place (length p)) _ _ (λ t. moves _ _) (λ f. ended-moves e _ place _)
+
+step-keeps : (e : Encoder) (p : List ℕ) (s : EncoderState) → e .state ≡ s → Kept e (stepFrom s (e .place) (e .crc) p)
+unfolding stepFrom
+step-keeps e p (Init n) q = by-test (Kept e) (ltb n 8) _ _ (λ t. moves _ _) (λ f. looked-moves e 0 (e .place) (e .crc) p)
+step-keeps e p (LookingForEscape n) q = by-test (Kept e) (ltb n 4) _ _ (λ t. looked-moves e n (e .place) (e .crc) p) (λ f. moves _ _)
+step-keeps e p (HandlingEscape n) q = by-test (Kept e) (ltb n 4) _ _ (λ t. moves _ _) (λ f. looked-moves e 0 (e .place) (e .crc) p)
+step-keeps e p (End n) q =
+    by-test (Kept e) (lastEnd n) _ _
+    (λ t. subst (λ (s : EncoderState). Kept e (stepTo finished (encoderAt s (e .place) (e .crc)))) q (stays finished))
+    (λ f. ended-moves e n (e .place) (e .crc))
+
+pub next-keeps : (e : Encoder) (p : List ℕ) → Kept e (nextStep e p)
+unfolding nextStep
+next-keeps e p =
+    by-test (Kept e) (leb (length p) limit) _ _
+    (λ t. by-test (Kept e) (badState e (length p)) _ _ (λ b. stays (refused 4)) (λ g. step-keeps e p (e .state) refl))
+    (λ f. stays (refused 1))

@@ -1,5 +1,5 @@
--- What a reader must believe: the Encoder's next byte, with document 01's numbers. What an Encoder holds: where it is in the frame, the
--- place in the payload, the CRC register over all that was taken from it.
+-- What a reader must believe: the Encoder's next byte, with document 01's numbers. An Encoder holds where it is in the frame, its place
+-- in the payload, and the CRC register.
 use mathlib.Core.Bool.{Bool, true, false, cond}
 use mathlib.Core.List.{List, [], _∷_, _++_}
 use Prim.Native.Nat.{ℕ, suc, _/_, _%_}
@@ -79,7 +79,8 @@ looked n place reg payload =
     (stepTo (byte b) (encoderAt (LookingForEscape (runOf n b)) (suc place) (byteStep reg b)))
     (ended (negℤ (pos pad)) place (register reg (endOf pad)))
 
--- behind the start, an escape or a byte the next one follows in the same call
+-- the start; payload bytes, and four more 1b behind four of a run; the end. Where the start or an escape is whole, the payload's next
+-- byte comes in the same call; finished leaves the Encoder as it is
 unfoldable pub stepFrom : EncoderState → ℕ → ℕ → List ℕ → Step
 stepFrom (Init n) place reg payload =
     cond (ltb n 8) (stepTo (byte (getD startSeq n 0)) (encoderAt (Init (suc n)) place reg)) (looked 0 place reg payload)

@@ -2,8 +2,7 @@ use Prim.Native.Nat.{ℕ, _+_, _≤_}
 use mathlib.Core.Path.{_≡_, sym, subst}
 use native.Mathlib.Omega.{arith}
 use denote.Ref.{now}
-use lib.ListN.{length}
-use lib.Seq.{length-take-le}
+use lib.ListN.{length, length-take}
 use Rattle.frame.specs.Frame.{escaped, missing}
 use Rattle.encoder.specs.Encoder.{endOf}
 use Rattle.encoder.specs.Parts.{Stored}
@@ -51,7 +50,8 @@ slice-reshare-prefix-checksum c =
     let q = c .before .before .put-end in
     let s : length (q .last .0) ≡ length (now (a .out)) = search needs in
     let t : q .result + 2 ≤ length (now (a .out)) = end-room (now (a .payload)) _ (k .result) (e .result) (q .result) (m .result) (k .ensures .1) (e .ensures .1) (m .ensures) (q .ensures .1) (c .before .before .before .before .before .before .before .before .before .before .before .before .before .before .before .before .pre) in
-    omega (arith, s, t)
+    let u : q .result ≡ e .result + length (endOf (m .result)) = q .ensures .1 in
+    omega (arith, s, t, u)
 
 slice-aggregate-checksum : tie.Need-slice-aggregate-checksum
 slice-aggregate-checksum c =
@@ -62,7 +62,8 @@ slice-aggregate-checksum c =
     let q = c .before .before .before .put-end in
     let s : length (q .last .0) ≡ length (now (a .out)) = search needs in
     let t : q .result + 2 ≤ length (now (a .out)) = end-room (now (a .payload)) _ (k .result) (e .result) (q .result) (m .result) (k .ensures .1) (e .ensures .1) (m .ensures) (q .ensures .1) (c .before .before .before .before .before .before .before .before .before .before .before .before .before .before .before .before .before .pre) in
-    sym (length-take-le (q .result) (q .last .0) (omega (arith, s, t)))
+    let u : q .result ≡ e .result + length (endOf (m .result)) = q .ensures .1 in
+    simp length-take (omega (arith, s, t, u))
 
 checksum-requires : tie.Need-checksum-requires
 checksum-requires c κs = search needs
