@@ -16,29 +16,33 @@ use Rattle.encoder.specs.Calls.{calls}
 abbrev p1 : List ℕ
 p1 = 0x12 ∷ 0x34 ∷ 0x56 ∷ 0x78 ∷ []
 
+abbrev p4 : List ℕ
+p4 = 0x01 ∷ 0x02 ∷ 0x03 ∷ 0x1b ∷ 0x1b ∷ []
+
 abbrev f1 : List ℕ
 f1 = 0x1b ∷ 0x1b ∷ 0x1b ∷ 0x1b ∷ 0x01 ∷ 0x01 ∷ 0x01 ∷ 0x01 ∷ 0x12 ∷ 0x34 ∷ 0x56 ∷ 0x78 ∷ 0x1b ∷ 0x1b ∷ 0x1b ∷ 0x1b ∷ 0x1a ∷ 0x00 ∷ 0xb8 ∷ 0x7b ∷ []
 
-b1 : frameOf p1 ≡ f1
-unfolding reflect polynomial bitStep bitSteps byteStep register finalXor crcOf escaped closed frameOf
-b1 = refl
+abbrev f2 : List ℕ
+f2 = 0x1b ∷ 0x1b ∷ 0x1b ∷ 0x1b ∷ 0x01 ∷ 0x01 ∷ 0x01 ∷ 0x01 ∷ 0x13 ∷ 0x24 ∷ 0x35 ∷ 0x46 ∷ 0x1b ∷ 0x1b ∷ 0x1b ∷ 0x1b ∷ 0x1a ∷ 0x00 ∷ 0xb1 ∷ 0xa1 ∷ []
 
-b2 : frameOf (0x13 ∷ 0x24 ∷ 0x35 ∷ 0x46 ∷ []) ≡ 0x1b ∷ 0x1b ∷ 0x1b ∷ 0x1b ∷ 0x01 ∷ 0x01 ∷ 0x01 ∷ 0x01 ∷ 0x13 ∷ 0x24 ∷ 0x35 ∷ 0x46 ∷ 0x1b ∷ 0x1b ∷ 0x1b ∷ 0x1b ∷ 0x1a ∷ 0x00 ∷ 0xb1 ∷ 0xa1 ∷ []
+abbrev f3 : List ℕ
+f3 = 0x1b ∷ 0x1b ∷ 0x1b ∷ 0x1b ∷ 0x01 ∷ 0x01 ∷ 0x01 ∷ 0x01 ∷ 0x1b ∷ 0x1b ∷ 0x1b ∷ 0x1b ∷ 0x1b ∷ 0x1b ∷ 0x1b ∷ 0x1b ∷ 0x1b ∷ 0x1b ∷ 0x1b ∷ 0x1b ∷ 0x1a ∷ 0x00 ∷ 0x94 ∷ 0xfc ∷ []
+
+abbrev f4 : List ℕ
+f4 = 0x1b ∷ 0x1b ∷ 0x1b ∷ 0x1b ∷ 0x01 ∷ 0x01 ∷ 0x01 ∷ 0x01 ∷ 0x01 ∷ 0x02 ∷ 0x03 ∷ 0x1b ∷ 0x1b ∷ 0x00 ∷ 0x00 ∷ 0x00 ∷ 0x1b ∷ 0x1b ∷ 0x1b ∷ 0x1b ∷ 0x1a ∷ 0x03 ∷ 0x48 ∷ 0x0e ∷ []
+
+abbrev f5 : List ℕ
+f5 = 0x1b ∷ 0x1b ∷ 0x1b ∷ 0x1b ∷ 0x01 ∷ 0x01 ∷ 0x01 ∷ 0x01 ∷ 0x1b ∷ 0x1b ∷ 0x1b ∷ 0x1b ∷ 0x1a ∷ 0x00 ∷ 0xc6 ∷ 0xe5 ∷ []
+
+-- B1 and B2; four 1b at the payload's end, pads behind a run of two, and no payload, whose CRCs were taken elsewhere
+frames : map frameOf (p1 ∷ (0x13 ∷ 0x24 ∷ 0x35 ∷ 0x46 ∷ []) ∷ (0x1b ∷ 0x1b ∷ 0x1b ∷ 0x1b ∷ []) ∷ p4 ∷ [] ∷ []) ≡ f1 ∷ f2 ∷ f3 ∷ f4 ∷ f5 ∷ []
 unfolding reflect polynomial bitStep bitSteps byteStep register finalXor crcOf escaped closed frameOf
-b2 = refl
+frames = refl
 
 -- encode's own: an output of 20 bytes takes the frame, one of 22 keeps its last two, one of 19 refuses
-encode-20 : encodeTo p1 (replicate 20 0xff) ≡ leaves (length-is 20) f1
+encodes : map (λ n. encodeTo p1 (replicate n 0xff)) (20 ∷ 22 ∷ 19 ∷ []) ≡ leaves (length-is 20) f1 ∷ leaves (length-is 20) (f1 ++ 0xff ∷ 0xff ∷ []) ∷ leaves (E.refused 2) (replicate 19 0xff) ∷ []
 unfolding reflect polynomial bitStep bitSteps byteStep register finalXor crcOf escaped closed frameOf encodeTo
-encode-20 = refl
-
-encode-22 : encodeTo p1 (replicate 22 0xff) ≡ leaves (length-is 20) (f1 ++ 0xff ∷ 0xff ∷ [])
-unfolding reflect polynomial bitStep bitSteps byteStep register finalXor crcOf escaped closed frameOf encodeTo
-encode-22 = refl
-
-encode-19 : encodeTo p1 (replicate 19 0xff) ≡ leaves (E.refused 2) (replicate 19 0xff)
-unfolding reflect polynomial bitStep bitSteps byteStep register finalXor crcOf escaped closed frameOf encodeTo
-encode-19 = refl
+encodes = refl
 
 -- the escape of transport.rs's first page
 escape-example : escaped 0 (0x00 ∷ 0x1b ∷ 0x1b ∷ 0x1b ∷ 0x1b ∷ 0x01 ∷ 0x02 ∷ 0x03 ∷ []) ≡ 0x00 ∷ 0x1b ∷ 0x1b ∷ 0x1b ∷ 0x1b ∷ 0x1b ∷ 0x1b ∷ 0x1b ∷ 0x1b ∷ 0x01 ∷ 0x02 ∷ 0x03 ∷ []
@@ -46,9 +50,9 @@ unfolding escaped
 escape-example = refl
 
 -- encode_streaming's: the same bytes, one a call, then finished
-stream-1 : calls 23 fresh p1 ≡ map byte f1 ++ finished ∷ finished ∷ finished ∷ []
+streams : map (calls 25 fresh) (p1 ∷ p4 ∷ []) ≡ (map byte f1 ++ replicate 5 finished) ∷ (map byte f4 ++ replicate 1 finished) ∷ []
 unfolding reflect polynomial bitStep bitSteps byteStep register finalXor fresh ended looked stepFrom badState nextStep calls
-stream-1 = refl
+streams = refl
 
 abbrev states : List EncoderState
 states = Init 9 ∷ LookingForEscape 5 ∷ HandlingEscape 5 ∷ End (negsuc 3) ∷ End (pos 9) ∷ []
