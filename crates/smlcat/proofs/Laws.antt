@@ -1,6 +1,6 @@
 -- The bytes fed so far, and one more.
-use mathlib.Core.Path.{_≡_, refl, ap}
-use mathlib.Core.List.{List, [], _∷_}
+use mathlib.Core.Path.{_≡_, ap}
+use mathlib.Core.List.{List}
 use Prim.Native.Nat.{ℕ, suc, _+_, _<_, _≤_}
 use native.Mathlib.Numerals.{add-one}
 use lib.ListN.{length, getD, drop, drop-of-length-le}
@@ -8,7 +8,7 @@ use lib.Seq.{drop-cons}
 use Rattle.decoder.specs.Record.{After, leaves, pushRecord}
 use Rattle.decoder.specs.declared.Decoder.{Decoder}
 use Rattle.decoder.specs.declared.Pushed.{Pushed}
-use Rattle.smlcat.specs.Fed.{Held, held, fed}
+use Rattle.smlcat.specs.Fed.{held, fed}
 
 pub fed-next : (d : Decoder) (m bs : List ℕ) (i : ℕ) (r : Pushed) (n : List ℕ) → i < length bs → leaves r n ≡ pushRecord d m (getD bs i 0)
     → fed (r .decoder) n (drop (i + 1) bs) ≡ fed d m (drop i bs)
