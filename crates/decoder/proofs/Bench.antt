@@ -1,6 +1,5 @@
 -- Rows B3 to B9 of the bench sheet and the vectors of transport.rs's comments, computed over the definitions that the contracts cite.
 use mathlib.Core.Path.{_≡_, refl}
-use mathlib.Core.Bool.{Bool, true, false}
 use mathlib.Core.List.{List, [], _∷_, _++_, map}
 use Prim.Native.Nat.{ℕ, suc}
 use lib.ListN.{replicate}

@@ -1,14 +1,14 @@
 -- What the public functions answer, by what the code's tests said, over any record.
-use Prim.Native.Nat.{ℕ, zero, suc, _+_, _-_, _<_, _≤_}
+use Prim.Native.Nat.{ℕ, _+_, _-_, _≤_}
 use mathlib.Core.List.{List, []}
-use mathlib.Core.Path.{_≡_, refl, ap, sym, _∙_}
+use mathlib.Core.Path.{_≡_, refl, sym, _∙_}
 use mathlib.Core.Bool.{Bool, true, false, cond}
 use native.Mathlib.Omega.{arith}
 use lib.ListN.{length, take}
 use lib.Dec.{ltb, eqb}
 use borrow.Author.Tests.{ltb-true, ltb-false, lt-ltb, le-ltb}
-use Rattle.decoder.specs.Push.{Event, silent, discarded, finalized, resetCount}
-use Rattle.decoder.specs.Record.{numbered, left, nothing, refused, count, setup, viewAs, view, newRecord, badState, wrongBuffer, leavesFinal, leavesReset, finalizeRecord, resetRecord, stands, hasPayload, payloadRecord, askRecord}
+use Rattle.decoder.specs.Push.{silent, discarded, finalized, resetCount}
+use Rattle.decoder.specs.Record.{nothing, refused, count, viewAs, newRecord, badState, wrongBuffer, leavesFinal, leavesReset, finalizeRecord, resetRecord, stands, hasPayload, payloadRecord, askRecord}
 use Rattle.decoder.specs.Cut.{isFresh, isDone, payloadIn}
 use Rattle.decoder.specs.declared.DecodeState.{DecodeState}
 use Rattle.decoder.specs.declared.DecodeState.the-variants.{LookingForMessageStart, ParsingNormal, ParsingEscChars, ParsingEscPayload, Done}

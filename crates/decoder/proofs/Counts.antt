@@ -1,16 +1,16 @@
 -- What the counts are: in a search the bytes since it began, inside a frame the bytes since its first start byte.
-use mathlib.Core.Path.{_≡_, refl, ap, sym, _∙_}
-use mathlib.Core.Bool.{Bool, true, false, cond}
-use mathlib.Core.List.{List, [], _∷_, _++_}
-use Prim.Native.Nat.{ℕ, zero, suc, _+_, _-_, _≤_, _<_, min}
+use mathlib.Core.Path.{_≡_, refl, sym, subst}
+use mathlib.Core.List.{List, [], _∷_}
+use Prim.Native.Nat.{ℕ, suc, _-_, _≤_}
 use native.Mathlib.Omega.{arith}
-use lib.ListN.{length, replicate}
-use lib.Dec.{eqb}
+use lib.ListN.{length}
 use Rattle.frame.proofs.Cases.{by-eq}
-use Rattle.decoder.specs.Push.{Setup, Mem, State, search, body, escape, done, Event, silent, discarded, got, memory, badEscape, badMessage, Out, says, begun, noticed, fresh, stopped, step}
-use Rattle.decoder.specs.Run.{Op, push, finalize, reset, actState, stateBehind}
+use Rattle.decoder.specs.Push.{Setup, Mem, State, search, body, escape, done, Event, silent, discarded, got, memory, badEscape, badMessage, Out, begun, noticed, fresh, stopped, step}
+use Rattle.decoder.specs.Record.{After, after, nothing, view, newRecord}
+use Rattle.decoder.specs.Run.{Op, push, finalize, reset, behind, actState, stateBehind}
 use Rattle.decoder.specs.Saw.{Judged, is-data, restarts, good, bad, shifts, refused, Saw, matched, began, missed, again, waits, opens, stores, full, reads, judges, full′}
 use Rattle.decoder.proofs.Saw.{saw}
+use Rattle.decoder.proofs.Runs.{leads, new-fit}
 
 -- the bytes since the search began, or since the first of the running frame's eight start bytes; none behind a payload
 abbrev pub since : Event → ℕ → ℕ
@@ -75,3 +75,10 @@ counted C (o ∷ os) s n c = counted C os (actState C s o) (sinceOp C s n o) (co
 -- every state that is reached from fresh
 pub counts : (C : Setup) (os : List Op) → Counted (stateBehind C fresh os) (sinceBehind C fresh 0 os)
 counts C os = counted C os fresh 0 (omega arith)
+
+-- and so every record that is reached from a new one, with a buffer of its capacity
+pub record-counts : (C : ℕ) (m : List ℕ) (os : List Op) → length m ≡ C → C ≤ 1048576
+    → let a : After = behind (after nothing (newRecord C) m) os in Counted (view (a .decoder) (a .memory)) (sinceBehind (record { capacity = C }) fresh 0 os)
+record-counts C m os l le =
+    let r = leads os (after nothing (newRecord C) m) (new-fit C m l le) in
+    subst (λ (s : State). Counted s (sinceBehind (record { capacity = C }) fresh 0 os)) (sym (r .view′)) (counts (record { capacity = C }) os)

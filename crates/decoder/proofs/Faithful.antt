@@ -1,20 +1,20 @@
 -- The record's pushes are the pushes of its state: for every record that is not refused, with the buffer that it wants.
 use mathlib.Core.Path.{_≡_, refl, ap, sym, _∙_, subst}
-use mathlib.Core.Bool.{Bool, true, false, cond}
+use mathlib.Core.Bool.{false}
 use mathlib.Core.List.{List, [], _∷_, _++_, append-assoc, append-nil}
-use Prim.Native.Nat.{ℕ, zero, suc, _+_, _-_, _≤_, _<_}
+use Prim.Native.Nat.{ℕ, zero, suc, _+_, _-_, _≤_}
 use native.Mathlib.Omega.{arith}
-use lib.ListN.{length, replicate, drop, take, length-append, length-take, length-drop}
+use lib.ListN.{length, replicate, take, length-append, length-take, length-drop}
 use lib.Seq.{take-append-le, take-length, length-take-le}
-use lib.Dec.{eqb, leb}
-use borrow.Author.Tests.{eq-eqb, ne-eqb, le-leb, lt-leb, le-ltb}
-use Rattle.frame.proofs.Cases.{either, by-le}
-use Rattle.decoder.specs.Push.{Setup, Mem, State, search, body, escape, done, Out, fresh, padOf, step}
-use Rattle.decoder.specs.Record.{After, after, numbered, setup, memOf, viewAs, view, waiting, pack, wrote, written, badState, wrongBuffer, pushed, pushRecord}
+use borrow.Author.Tests.{eq-eqb, ne-eqb, le-leb, lt-leb}
+use Rattle.frame.proofs.Cases.{either}
+use Rattle.decoder.specs.Push.{Setup, Mem, State, search, body, escape, done, Out, padOf, step}
+use Rattle.decoder.specs.Record.{After, after, numbered, setup, viewAs, view, pack, wrote, written, badState, wrongBuffer, pushed, pushRecord}
 use Rattle.decoder.specs.Saw.{Judged, is-data, restarts, good, bad, shifts, refused, Saw, matched, began, missed, again, waits, opens, stores, full, reads, judges, full′}
 use Rattle.decoder.specs.declared.DecodeState.{DecodeState}
 use Rattle.decoder.specs.declared.DecodeState.the-variants.{LookingForMessageStart, ParsingNormal, ParsingEscChars, ParsingEscPayload, Done}
 use Rattle.decoder.specs.declared.Decoder.{Decoder}
+use Rattle.decoder.proofs.Split.{split}
 use Rattle.decoder.proofs.Saw.{saw}
 use Rattle.decoder.proofs.Valid.{Valid, valid-step, valid-view, not-bad, sane, sane-search, right-buffer}
 
@@ -81,9 +81,6 @@ kept-first C s b m h =
     let q : take (length (contents t)) (contents s ++ w) ≡ contents t = part C s b (step C s b) (saw C s b) in
     let le : length (contents t) ≤ length (contents s ++ w) = omega (arith, sym (length-take (length (contents t)) (contents s ++ w)) ∙ ap length q) in
     rw (h, ← append-assoc (contents s) w) (take-append-le (length (contents t)) (contents s ++ w) _ le ∙ q)
-
-split : {G : Type 0} (a b : ℕ) → (a ≤ b → G) → (b < a → G) → G
-split {G} a b f g = by-le {A = ℕ} (λ u. G) a b 0 0 f g
 
 wrote-fits : (C : Setup) (s : State) (b : ℕ) → Valid C s → length (contents s) + length (wrote C s b) ≤ C .capacity
 unfolding wrote

@@ -1,3 +1,4 @@
+pub mod Split
 pub mod Saw
 pub mod Valid
 pub mod Faithful

@@ -1,10 +1,9 @@
 -- A payload: the step that answers with one is behind it, and its record has CRC index and raw length 0.
-use mathlib.Core.Path.{_≡_, refl, ap, sym, _∙_}
-use mathlib.Core.Bool.{Bool, true, false, cond, false≢true}
-use mathlib.Core.List.{List, [], _∷_, _++_}
+use mathlib.Core.Path.{_≡_, ap, sym}
+use mathlib.Core.Bool.{Bool, true, false, false≢true}
+use mathlib.Core.List.{List}
 use Prim.Native.Nat.{ℕ}
 use lib.ListN.{length}
-use lib.Dec.{eqb}
 use Rattle.frame.proofs.Cases.{by-eq, by-test}
 use Rattle.decoder.specs.Push.{Setup, Mem, State, done, Event, got, Out, noticed, fresh, step}
 use Rattle.decoder.specs.Record.{Answer, nothing, payload, count, refused, After, numbered, setup, view, pack, badState, wrongBuffer, pushed, pushRecord}

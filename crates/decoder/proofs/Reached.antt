@@ -1,16 +1,17 @@
 -- A record that is not refused with 4 stays so and keeps its capacity, whatever buffer is lent at each push; so no record reached from a new one is ever refused with 4.
-use mathlib.Core.Path.{_≡_, refl, ap, sym, _∙_}
-use mathlib.Core.Bool.{Bool, true, false, cond, false≢true}
-use mathlib.Core.List.{List, [], _∷_}
+use mathlib.Core.Path.{_≡_, refl, ap, _∙_}
+use mathlib.Core.Bool.{false}
+use mathlib.Core.List.{List}
 use Prim.Native.Nat.{ℕ}
 use native.Mathlib.Omega.{arith}
 use lib.ListN.{length}
 use Rattle.frame.proofs.Cases.{by-test}
-use Rattle.decoder.specs.Push.{Setup, State, fresh, step}
-use Rattle.decoder.specs.Record.{After, Left, setup, view, pack, badState, wrongBuffer, pushed, pushRecord, finalizeRecord, resetRecord, newRecord}
+use Rattle.decoder.specs.Push.{Setup, fresh}
+use Rattle.decoder.specs.Record.{Left, setup, pack, badState, wrongBuffer, pushRecord, finalizeRecord, resetRecord, newRecord}
 use Rattle.decoder.specs.declared.Decoder.{Decoder}
+use Rattle.decoder.proofs.Split.{cases}
 use Rattle.decoder.proofs.Valid.{not-bad}
-use Rattle.decoder.proofs.Faithful.{Fit, setup-pack, push-is-step}
+use Rattle.decoder.proofs.Faithful.{Fit, push-is-step}
 
 fresh-good : (C : Setup) → badState (pack C fresh) ≡ false
 fresh-good C = not-bad C fresh (omega arith)
@@ -21,10 +22,6 @@ unfolding pushRecord
 push-case P d m b old new =
     cases (badState d) (λ e. rw e old) (λ e.
     cases (wrongBuffer (d .capacity) (length m)) (λ w. rw (e, w) old) (λ w. new (record { state = e; buffer = w })))
-  where
-    cases : {G : Type 0} (t : Bool) → (t ≡ true → G) → (t ≡ false → G) → G
-    cases true f g = f refl
-    cases false f g = g refl
 
 pub push-good-stays : (d : Decoder) (m : List ℕ) (b : ℕ) → badState d ≡ false → badState (pushRecord d m b .decoder) ≡ false
 push-good-stays d m b e = push-case (λ (x : Decoder). badState x ≡ false) d m b e (λ f. push-is-step d m b f .fit .state)

@@ -1,20 +1,19 @@
 -- Any number of operations: a record that is not refused stays so and keeps its setup, and the run over record and memory says what the run over the state says.
-use mathlib.Core.Path.{_≡_, refl, ap, ap₂, sym, _∙_}
-use mathlib.Core.Bool.{Bool, true, false, cond}
-use mathlib.Core.List.{List, [], _∷_, _++_}
-use Prim.Native.Nat.{ℕ, zero, suc, _≤_}
+use mathlib.Core.Path.{_≡_, refl, ap, _∙_}
+use mathlib.Core.Bool.{false}
+use mathlib.Core.List.{List, [], _∷_}
+use Prim.Native.Nat.{ℕ, _≤_}
 use native.Mathlib.Omega.{arith}
 use lib.ListN.{length}
-use lib.Dec.{eqb, ltb}
 use borrow.Author.Tests.{eq-eqb, le-ltb}
-use Rattle.decoder.specs.Push.{Setup, Mem, State, search, body, escape, done, Event, fresh, step, finalized, resetCount}
-use Rattle.decoder.specs.Record.{Answer, nothing, payload, count, refused, After, after, Left, numbered, setup, viewAs, view, pack, badState, wrongBuffer, pushRecord, finalizeRecord, resetRecord, newRecord}
+use Rattle.decoder.specs.Push.{Setup, fresh, finalized, resetCount}
+use Rattle.decoder.specs.Record.{Answer, nothing, count, After, after, numbered, setup, viewAs, view, pack, badState, wrongBuffer, finalizeRecord, resetRecord, newRecord}
 use Rattle.decoder.specs.Run.{Op, push, finalize, reset, act, run, behind, actState, answerState, runState, stateBehind}
 use Rattle.decoder.specs.declared.DecodeState.{DecodeState}
 use Rattle.decoder.specs.declared.DecodeState.the-variants.{LookingForMessageStart, ParsingNormal, ParsingEscChars, ParsingEscPayload, Done}
 use Rattle.decoder.specs.declared.Decoder.{Decoder}
-use Rattle.decoder.proofs.Valid.{not-bad, right-buffer}
-use Rattle.decoder.proofs.Faithful.{Fit, Steps, push-is-step}
+use Rattle.decoder.proofs.Valid.{not-bad}
+use Rattle.decoder.proofs.Faithful.{Fit, push-is-step}
 
 -- an operation over the record is the operation over its state
 pub record Acts (d : Decoder) (m : List ℕ) (o : Op) (a : After) : Type 0 where

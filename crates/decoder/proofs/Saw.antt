@@ -1,15 +1,14 @@
 -- Every push is one of the cases of specs/Saw.antt, so a proof about every push goes by clauses over `Saw`.
 use mathlib.Core.Path.{_≡_, refl, sym, _∙_}
-use mathlib.Core.Bool.{Bool, true, false, cond, false≢true}
+use mathlib.Core.Bool.{Bool, true, false, false≢true}
 use mathlib.Core.List.{List, [], _∷_, _++_}
-use Prim.Native.Nat.{ℕ, zero, suc, _+_, _-_, _%_, _*_, _≤_, _<_}
+use Prim.Native.Nat.{ℕ, suc, _+_, _-_, _%_, _≤_}
 use native.Mathlib.Omega.{arith}
 use lib.ListN.{length, replicate, take, getD}
-use lib.Dec.{eqb, ltb, leb}
 use borrow.Author.Tests.{leb-true, eq-eqb, le-leb}
 use Rattle.frame.specs.Frame.{missing, escSeq, restartSeq}
 use Rattle.frame.proofs.Cases.{by-test, by-eq, by-le, by-lt}
-use Rattle.decoder.specs.Push.{Setup, Mem, State, search, body, escape, done, Out, searching, store, same, starts, early, sound?, computed, padOf, crcRead, judge, finish, step, fresh}
+use Rattle.decoder.specs.Push.{Setup, Mem, State, search, body, escape, done, searching, store, same, starts, early, sound?, computed, padOf, crcRead, judge, finish, step}
 use Rattle.decoder.specs.Saw.{Passed, Judged, is-data, restarts, good, bad, shifts, refused, Saw, matched, began, missed, again, waits, opens, stores, full, reads, judges, full′}
 
 -- two lists that `same` finds equal are equal, and the other way round

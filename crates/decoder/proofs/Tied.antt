@@ -1,43 +1,36 @@
 -- What the code is proved to answer (specs/Cut.antt) is what the push rules say: one law, for every record that is not refused and the buffer that it wants.
-use mathlib.Core.Path.{_≡_, refl, ap, ap₂, sym, _∙_, subst}
-use mathlib.Core.Bool.{Bool, true, false, cond, not}
-use mathlib.Core.List.{List, [], _∷_, _++_, append-assoc, append-nil}
-use Prim.Native.Nat.{ℕ, zero, suc, _+_, _-_, _*_, _%_, _≤_, _<_}
+use mathlib.Core.Path.{_≡_, refl, ap, ap₂, sym, _∙_}
+use mathlib.Core.Bool.{true, false, cond}
+use mathlib.Core.List.{List, [], _∷_, _++_, append-assoc}
+use Prim.Native.Nat.{ℕ, zero, suc, _+_, _-_, _≤_, _<_}
 use native.Mathlib.Omega.{arith}
 use native.Mathlib.Numerals.{add-one}
 use native.Mathlib.Nat.{sub-zero, zero-sub, suc-sub-suc, mul-comm, add-zero}
-use lib.ListN.{length, replicate, drop, take, getD, length-append, length-take, length-replicate, take-append-drop}
+use lib.ListN.{length, replicate, drop, take, getD, length-append, length-take, take-append-drop}
 use lib.Seq.{take-nil, take-at, take-take, length-take-le, sets, sets-eq, getD-take, getD-drop}
-use lib.Dec.{eqb, leb, ltb}
+use lib.Dec.{eqb}
 use borrow.Author.Tests.{eq-eqb, ne-eqb, le-leb, lt-leb, lt-ltb, le-ltb}
 use Rattle.crc_x25.specs.Crc.{register, finalXor}
 use Rattle.frame.specs.Frame.{missing, escSeq, restartSeq}
-use Rattle.frame.proofs.Cases.{either, by-le}
+use Rattle.frame.proofs.Cases.{either}
 use Rattle.decoder.specs.Push as P
-use Rattle.decoder.specs.Push.{Setup, Mem, State, search, body, escape, done, silent, discarded, badEscape, Out, says, put, searching, store, judge, finish, begun, fresh, early, same, sound?, computed, padOf, crcRead, step}
-use Rattle.decoder.specs.Record.{After, after, leaves, answerOf, numbered, setup, memOf, viewAs, view, waiting, packed, pack, wrote, written, badState, wrongBuffer, pushed, pushRecord, Answer, payload}
-use Rattle.decoder.specs.Cut.{codeEvent, code, Cut, cut, told, grown, moved, inState, quiet, freshWith, storeStep, normalStep, escapeAt, waitStep, four, judgedAt, sound, verdict, computedCrc, endStep, otherStep, judgeStep, escapeStep, stepOf}
+use Rattle.decoder.specs.Push.{Setup, Mem, State, body, escape, done, silent, discarded, badEscape, says, put, searching, store, judge, finish, begun, fresh, early, same, sound?, computed, padOf, crcRead, step}
+use Rattle.decoder.specs.Record.{after, answerOf, numbered, setup, memOf, viewAs, view, waiting, packed, pack, wrote, written, badState, wrongBuffer, pushed, pushRecord, Answer, payload}
+use Rattle.decoder.specs.Cut.{codeEvent, code, Cut, cut, told, grown, freshWith, storeStep, normalStep, escapeAt, waitStep, four, judgedAt, sound, verdict, computedCrc, endStep, otherStep, judgeStep, escapeStep, stepOf}
 use Rattle.decoder.specs.declared.DecodeState.{DecodeState}
 use Rattle.decoder.specs.declared.DecodeState.the-variants.{LookingForMessageStart, ParsingNormal, ParsingEscChars, ParsingEscPayload, Done}
 use Rattle.decoder.specs.declared.Decoder.{Decoder}
 use Rattle.decoder.specs.declared.Event.{Event}
-use Rattle.decoder.specs.declared.Event.the-variants.{Nothing, Payload, DiscardedBytes, InvalidEsc, OutOfMemory, InvalidMessage, BadState, WrongBuffer}
+use Rattle.decoder.specs.declared.Event.the-variants.{InvalidEsc, BadState, WrongBuffer}
 use Rattle.decoder.specs.declared.Pushed.{Pushed}
-use Rattle.decoder.proofs.Valid.{sane, sane-search, sane-normal, sane-wait, sane-escape}
+use Rattle.decoder.proofs.Valid.{sane, sane-wait, sane-escape}
+use Rattle.decoder.proofs.Split.{cases, split}
 use Rattle.decoder.proofs.Payload.{got-done}
 use Rattle.decoder.proofs.Faithful.{contents, Holds, kept-first, holds-view, fill-view, Fit, fit-length, push-good}
 
 -- the code's answer, made from the step
 abbrev pub coded : Setup → List ℕ → State → ℕ → Cut
 coded C m s b = cut (code C (step C s b)) (written m (length (contents s)) (wrote C s b))
-
--- a test is true or false
-cases : {G : Type 0} (t : Bool) → (t ≡ true → G) → (t ≡ false → G) → G
-cases true f g = f refl
-cases false f g = g refl
-
-split : {G : Type 0} (a b : ℕ) → (a ≤ b → G) → (b < a → G) → G
-split {G} a b f g = by-le {A = ℕ} (λ u. G) a b 0 0 f g
 
 -- ---- the memory
 

@@ -59,7 +59,7 @@ pub record After : Type 0 where
 abbrev pub after : Answer → Decoder → List ℕ → After
 after a d m = record { answer = a; decoder = d; memory = m }
 
--- what push, finalize and reset gave; a payload is the first bytes of the lent memory m
+-- what a push gave; a payload is the first bytes of the lent memory m
 abbrev pub leaves : Pushed → List ℕ → After
 leaves r m = after (answerOf (r .event) (take (r .decoder .fill) m)) (r .decoder) m
 

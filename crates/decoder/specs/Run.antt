@@ -1,8 +1,8 @@
 -- What a reader must believe: a decoder in use. Pushes, finalize and reset one after another, by the definitions that the functions' contracts cite, and what they answer.
 use mathlib.Core.List.{List, [], _∷_}
 use Prim.Native.Nat.{ℕ}
-use Rattle.decoder.specs.Push.{Setup, State, Event, fresh, step, finalized, resetCount}
-use Rattle.decoder.specs.Record.{Answer, count, numbered, After, after, Left, pushRecord, finalizeRecord, resetRecord}
+use Rattle.decoder.specs.Push.{Setup, State, fresh, step, finalized, resetCount}
+use Rattle.decoder.specs.Record.{Answer, count, numbered, After, after, pushRecord, finalizeRecord, resetRecord}
 use Rattle.decoder.specs.declared.Decoder.{Decoder}
 
 pub data Op : Type 0 where

@@ -1,11 +1,11 @@
 -- What a reader must believe: the cases of a push, one for each sentence of the push rules, with what is known in each. proofs/Saw.antt proves that every push is one of them.
 use mathlib.Core.Path.{_≡_}
-use mathlib.Core.Bool.{Bool, true, false}
+use mathlib.Core.Bool.{true, false}
 use mathlib.Core.List.{List, [], _∷_, _++_}
 use Prim.Native.Nat.{ℕ, suc, _+_, _-_, _%_, _≤_, _<_}
 use lib.ListN.{length, replicate, drop, take, getD}
 use Rattle.frame.specs.Frame.{missing, escSeq, restartSeq}
-use Rattle.decoder.specs.Push.{Setup, Mem, State, search, body, escape, done, silent, discarded, got, memory, badEscape, badMessage, Out, begun, says, put, tick, opened, starts, early, sound?, computed, misaligned, padOf, crcRead, noticed, fresh, stopped}
+use Rattle.decoder.specs.Push.{Setup, Mem, State, search, body, escape, done, silent, discarded, got, memory, badEscape, badMessage, Out, begun, says, put, tick, opened, starts, early, computed, misaligned, padOf, crcRead, noticed, fresh, stopped}
 
 -- what a good end sequence has: the right CRC, a fill that is a multiple of 4, p at most 3 and at most the fill less 4
 abbrev pub Passed : Mem → ℕ → ℕ → Type 0
