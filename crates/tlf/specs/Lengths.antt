@@ -46,6 +46,10 @@ isBoolean Integer = false
 isBoolean Unsigned = false
 isBoolean ListOf = false
 
+-- a list of n elements
+abbrev pub isListOf : ℕ → TypeLengthField → Bool
+isListOf n t = isList (t .ty) && eqb (t .len) n
+
 -- times 16 plus the next four bits, low 32 bits kept
 abbrev pub longer : ℕ → ℕ → ℕ
 longer len b = (len * 16 + lengthBits b) % 2 ^ 32

@@ -5,7 +5,7 @@ ghost use mathlib.Core.Path.{_≡_};
 ghost use lib.ListN.{length, drop};
 ghost use Rattle.tlf.specs.Read.{byteAt, spanAt};
 ghost use Rattle.tlf.specs.Refusals.{byteRead, spanRead, tyRead, lenRead, tlfRead};
-ghost use Rattle.tlf.specs.Lengths.{tyOf, longer, lengthFrom, lessOwn, tlfAt, isList, isBoolean, moreFollow};
+ghost use Rattle.tlf.specs.Lengths.{tyOf, longer, lengthFrom, lessOwn, tlfAt, isList, isBoolean, isListOf, moreFollow};
 
 pub enum TlfParseError {
     TlfLengthOverflow,
@@ -248,5 +248,12 @@ impl TypeLengthField {
             }
             LenRead::Refused(f) => TlfRead::Refused(f),
         }
+    }
+    // The test of every structure of SML: a list of so many elements.
+    pub fn is_list_of(self, n: u32) -> bool
+        ensures { λ r. ⌜ r ≡ isListOf n self ⌝ }
+    {
+        let ty = self.ty;
+        ty.is_list() && self.len == n
     }
 }
