@@ -5,7 +5,7 @@ use mathlib.Core.Bool.{Bool, false, cond, _&&_}
 use lib.Dec.{leb, eqb}
 use lib.IntN.{ℤ}
 use Rattle.tlf.specs.Read.{Read, got, then, guard, mismatch, unexpected}
-use Rattle.tlf.specs.Lengths.{tlfAt, isListOf}
+use Rattle.tlf.specs.Lengths.{tlfAt, isListOf, listOfAt}
 use Rattle.tlf.specs.declared.Ty.{Ty}
 use Rattle.tlf.specs.declared.Ty.the-variants.{OctetString, Boolean, Integer, Unsigned, ListOf}
 use Rattle.tlf.specs.declared.TypeLengthField.{TypeLengthField}
@@ -59,12 +59,11 @@ unsignedOf width s at = then (unsignedAt width s at) λ v next. got (unsigned wi
 -- wider than the rule, as common.rs is: a list of 2, u8 tag 1 (another is 13) and a time
 unfoldable pub listTypeAt : List ℕ → ℕ → Read (Value Span)
 listTypeAt s at =
-    then (tlfAt s at) λ t n₀.
-    guard (isListOf 2 t) (mismatch at)
-    (then (unsignedAt 1 s n₀) λ tag n₁.
+    then (listOfAt 2 s at) λ list n₀.
+    then (unsignedAt 1 s n₀) λ tag n₁.
     guard (eqb tag 1) (unexpected n₀)
     (then (timeAt s n₁) λ time n₂.
-    got (listTime time) n₂))
+    got (listTime time) n₂)
 
 -- the value at a place whose type and length are known
 unfoldable pub valueOf : Ty → ℕ → List ℕ → ℕ → Read (Value Span)

@@ -17,6 +17,7 @@ use num::U64Read;
 use num::U8Read;
 use tlf::Fault;
 use tlf::ParseError;
+use tlf::PlaceRead;
 use tlf::Span;
 use tlf::SpanRead;
 use tlf::TlfRead;
@@ -285,18 +286,9 @@ fn parse_list_type(input: &[u8], at: usize) -> ValueRead
     ensures { λ r. ⌜ valueRead r ≡ listTypeAt (now (input .entry)) at ⌝ }
 {
     let mut n = at;
-    match TypeLengthField::parse(input, at) {
-        TlfRead::Is { tlf, next } => {
-            if tlf.is_list_of(2) {
-                n = next;
-            } else {
-                return ValueRead::Refused(Fault {
-                    error: ParseError::TlfMismatch,
-                    place: at,
-                });
-            }
-        }
-        TlfRead::Refused(f) => return ValueRead::Refused(f),
+    match tlf::parse_list_of(input, at, 2) {
+        PlaceRead::Is { next } => n = next,
+        PlaceRead::Refused(f) => return ValueRead::Refused(f),
     }
     let mut after = n;
     match num::parse_u8(input, n) {
