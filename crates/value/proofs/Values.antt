@@ -14,7 +14,7 @@ use Rattle.tlf.proofs.Lengths.{tlf-ok, list-of-ok}
 use Rattle.tlf.proofs.Found.{Found, Any, any, from, on, found, found-on}
 use Rattle.num.proofs.Ahead.{unsigned-found, signed-found, bool-found}
 use Rattle.octet_string.proofs.Within.{Within, octets-found}
-use Rattle.value.specs.Values.{isBareTime, timeAt, narrowest, statusOf, statusAt, Value, truth, bytes, signed, unsigned, listTime, signedOf, unsignedOf, listTypeAt, valueOf, valueAt}
+use Rattle.value.specs.Values.{isBareTime, timeAt, narrowest, statusOf, statusAt, Value, truth, bytes, signed, unsigned, listTime, signedValue, unsignedValue, listTypeAt, valueOf, valueAt}
 
 pub time-found : (s : List ℕ) (at : ℕ) → Ok (Found Any s at) (timeAt s at)
 unfolding timeAt
@@ -48,7 +48,7 @@ list-type s at =
     on s at n₁ (time-found s n₁) (omega arith) (λ time n₂ h₂ p₂ q₂. found {P = ValueWithin s} s at (listTime time) n₂ tt p₂ q₂))))
 
 value-of : (ty : Ty) (len : ℕ) (s : List ℕ) (at : ℕ) → Ok (Found (ValueWithin s) s at) (valueOf ty len s at)
-unfolding valueOf signedOf unsignedOf
+unfolding valueOf signedValue unsignedValue
 value-of OctetString len s at = from s at (octets-found s at) (λ x n h p q. found {P = ValueWithin s} s at (bytes x) n h p q)
 value-of Boolean len s at = from s at (bool-found s at) (λ b n h p q. found {P = ValueWithin s} s at (truth b) n tt p q)
 value-of Integer len s at = from s at (signed-found (narrowest len) s at) (λ z n h p q. found {P = ValueWithin s} s at (signed _ z) n tt p q)

@@ -50,11 +50,11 @@ pub data Value (T : Type 0) : Type 0 where
   unsigned : ℕ → ℕ → Value T
   listTime : ℕ → Value T
 
-unfoldable pub signedOf : ℕ → List ℕ → ℕ → Read (Value Span)
-signedOf width s at = then (signedAt width s at) λ z next. got (signed width z) next
+unfoldable pub signedValue : ℕ → List ℕ → ℕ → Read (Value Span)
+signedValue width s at = then (signedAt width s at) λ z next. got (signed width z) next
 
-unfoldable pub unsignedOf : ℕ → List ℕ → ℕ → Read (Value Span)
-unsignedOf width s at = then (unsignedAt width s at) λ v next. got (unsigned width v) next
+unfoldable pub unsignedValue : ℕ → List ℕ → ℕ → Read (Value Span)
+unsignedValue width s at = then (unsignedAt width s at) λ v next. got (unsigned width v) next
 
 -- wider than the rule, as common.rs is: a list of 2, u8 tag 1 (another is 13) and a time
 unfoldable pub listTypeAt : List ℕ → ℕ → Read (Value Span)
@@ -69,8 +69,8 @@ listTypeAt s at =
 unfoldable pub valueOf : Ty → ℕ → List ℕ → ℕ → Read (Value Span)
 valueOf OctetString len s at = then (octetsAt s at) λ p next. got (bytes p) next
 valueOf Boolean len s at = then (boolAt s at) λ b next. got (truth b) next
-valueOf Integer len s at = signedOf (narrowest len) s at
-valueOf Unsigned len s at = unsignedOf (narrowest len) s at
+valueOf Integer len s at = signedValue (narrowest len) s at
+valueOf Unsigned len s at = unsignedValue (narrowest len) s at
 valueOf ListOf len s at = listTypeAt s at
 
 -- a value is a Boolean, an octet string, or a number, taken at the narrowest width that holds its length

@@ -4,7 +4,7 @@ ghost use Rattle.tlf.specs.declared.Ty.{Ty};
 ghost use Rattle.num.specs.Numbers.{unsignedAt, signedAt};
 ghost use Rattle.num.specs.Answers.{u32Read};
 ghost use Rattle.octet_string.specs.Optional.{optional};
-ghost use Rattle.value.specs.Values.{isBareTime, timeAt, narrowest, statusOf, statusAt, signedOf, unsignedOf, listTypeAt, valueOf, valueAt};
+ghost use Rattle.value.specs.Values.{isBareTime, timeAt, narrowest, statusOf, statusAt, signedValue, unsignedValue, listTypeAt, valueOf, valueAt};
 ghost use Rattle.value.specs.Answers.{timeRead, statusRead, valueRead, optU8Read, optI8Read, optTimeRead, optStatusRead};
 use num::BoolRead;
 use num::I16Read;
@@ -204,7 +204,7 @@ fn bytes_value(input: &[u8], at: usize) -> ValueRead
 
 // The integer of an element of so many bytes, at the narrowest width.
 fn signed_value(input: &[u8], at: usize, len: u32) -> ValueRead
-    ensures { λ r. ⌜ valueRead r ≡ signedOf (narrowest len) (now (input .entry)) at ⌝ }
+    ensures { λ r. ⌜ valueRead r ≡ signedValue (narrowest len) (now (input .entry)) at ⌝ }
 {
     if len <= 1 {
         return match num::parse_i8(input, at) {
@@ -244,7 +244,7 @@ fn signed_value(input: &[u8], at: usize, len: u32) -> ValueRead
 
 // The unsigned number of an element of so many bytes, at the narrowest width.
 fn unsigned_value(input: &[u8], at: usize, len: u32) -> ValueRead
-    ensures { λ r. ⌜ valueRead r ≡ unsignedOf (narrowest len) (now (input .entry)) at ⌝ }
+    ensures { λ r. ⌜ valueRead r ≡ unsignedValue (narrowest len) (now (input .entry)) at ⌝ }
 {
     if len <= 1 {
         return match num::parse_u8(input, at) {

@@ -1,6 +1,6 @@
 use borrow.Author.Tests.{le-leb, lt-leb}
 use Rattle.tlf.specs.Read.{then}
-use Rattle.value.specs.Values.{unsignedOf}
+use Rattle.value.specs.Values.{unsignedValue}
 use borrow.Author.Needs.{needs}
 use Rattle.value.proofs.unsigned_value.Statement.{statement}
 use Rattle.value.proofs.unsigned_value.Tie as tie
@@ -15,7 +15,7 @@ enum-known-f : tie.Need-enum-known-f
 enum-known-f c = search needs
 
 returns : tie.Need-returns
-unfolding unsignedOf then
+unfolding unsignedValue then
 returns c =
     let p3 = c .before in
     let p2 = p3 .before .before in
@@ -23,7 +23,7 @@ returns c =
     rw (le-leb _ _ (p1 .if1 .taken), ← p2 .parse-u8 .ensures, p3 .value .given .1)
 
 returns-2 : tie.Need-returns-2
-unfolding unsignedOf then
+unfolding unsignedValue then
 returns-2 c =
     let p3 = c .before in
     let p2 = p3 .before .before in
@@ -40,7 +40,7 @@ enum-known-f-2 : tie.Need-enum-known-f-2
 enum-known-f-2 c = search needs
 
 returns-3 : tie.Need-returns-3
-unfolding unsignedOf then
+unfolding unsignedValue then
 returns-3 c =
     let p4 = c .before in
     let p3 = p4 .before .before in
@@ -49,7 +49,7 @@ returns-3 c =
     rw (lt-leb _ _ (p1 .if1 .left), le-leb _ _ (p2 .if2 .taken), ← p3 .parse-u16 .ensures, p4 .value2 .given .1)
 
 returns-4 : tie.Need-returns-4
-unfolding unsignedOf then
+unfolding unsignedValue then
 returns-4 c =
     let p4 = c .before in
     let p3 = p4 .before .before in
@@ -67,7 +67,7 @@ enum-known-f-3 : tie.Need-enum-known-f-3
 enum-known-f-3 c = search needs
 
 returns-5 : tie.Need-returns-5
-unfolding unsignedOf then
+unfolding unsignedValue then
 returns-5 c =
     let p5 = c .before in
     let p4 = p5 .before .before in
@@ -77,7 +77,7 @@ returns-5 c =
     rw (lt-leb _ _ (p1 .if1 .left), lt-leb _ _ (p2 .if2 .left), le-leb _ _ (p3 .if3 .taken), ← p4 .parse-u32 .ensures, p5 .value3 .given .1)
 
 returns-6 : tie.Need-returns-6
-unfolding unsignedOf then
+unfolding unsignedValue then
 returns-6 c =
     let p5 = c .before in
     let p4 = p5 .before .before in
@@ -96,7 +96,7 @@ enum-known-f-4 : tie.Need-enum-known-f-4
 enum-known-f-4 c = search needs
 
 returns-7 : tie.Need-returns-7
-unfolding unsignedOf then
+unfolding unsignedValue then
 returns-7 c =
     let p5 = c .before in
     let p4 = p5 .before .before in
@@ -106,7 +106,7 @@ returns-7 c =
     rw (lt-leb _ _ (p1 .if1 .left), lt-leb _ _ (p2 .if2 .left), lt-leb _ _ (p3 .if3 .left), ← p4 .parse-u64 .ensures, p5 .value4 .given .1)
 
 returns-8 : tie.Need-returns-8
-unfolding unsignedOf then
+unfolding unsignedValue then
 returns-8 c =
     let p5 = c .before in
     let p4 = p5 .before .before in
