@@ -39,7 +39,14 @@ pub enum OpenRead {
     Refused(Fault),
 }
 
-fn open_rest(input: &[u8], at: usize, codepage: OptSpan, client_id: OptSpan, req_file_id: Span, server_id: Span) -> OpenRead
+fn open_rest(
+    input: &[u8],
+    at: usize,
+    codepage: OptSpan,
+    client_id: OptSpan,
+    req_file_id: Span,
+    server_id: Span,
+) -> OpenRead
     ensures { λ r. ⌜ openRead r ≡ openRest (optSpan codepage) (optSpan «client_id») «req_file_id» «server_id» (now (input .entry)) at ⌝ }
 {
     let mut n = at;
@@ -157,7 +164,14 @@ pub enum EntryRead {
     Refused(Fault),
 }
 
-fn entry_rest(input: &[u8], at: usize, obj_name: Span, status: OptStatus, val_time: OptTime, unit: OptU8) -> EntryRead
+fn entry_rest(
+    input: &[u8],
+    at: usize,
+    obj_name: Span,
+    status: OptStatus,
+    val_time: OptTime,
+    unit: OptU8,
+) -> EntryRead
     ensures { λ r. ⌜ entryRead r ≡ entryRest «obj_name» (optStatus status) (optTime «val_time») (optU8 unit) (now (input .entry)) at ⌝ }
 {
     let mut n = at;

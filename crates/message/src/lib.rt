@@ -9,8 +9,8 @@ use common::CloseRead;
 use common::CloseResponse;
 use common::OpenRead;
 use common::OpenResponse;
-use num::U32Read;
 use num::U8Read;
+use num::U32Read;
 use octet_string::OptSpan;
 use octet_string::OptSpanRead;
 use tlf::Fault;
@@ -39,7 +39,14 @@ pub enum ListStartRead {
     Refused(Fault),
 }
 
-fn list_start_rest(input: &[u8], at: usize, client_id: OptSpan, server_id: Span, list_name: OptSpan, act_sensor_time: OptTime) -> ListStartRead
+fn list_start_rest(
+    input: &[u8],
+    at: usize,
+    client_id: OptSpan,
+    server_id: Span,
+    list_name: OptSpan,
+    act_sensor_time: OptTime,
+) -> ListStartRead
     ensures { λ r. ⌜ listStartRead r ≡ listStartRest (optSpan «client_id») «server_id» (optSpan «list_name») (optTime «act_sensor_time») (now (input .entry)) at ⌝ }
 {
     match TypeLengthField::parse(input, at) {

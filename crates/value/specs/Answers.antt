@@ -6,10 +6,8 @@ use Rattle.tlf.specs.Read.{Read, got, refused}
 use Rattle.tlf.specs.Refusals.{faultOf}
 use Rattle.tlf.specs.declared.Span.{Span}
 use Rattle.value.specs.Values.{Status, Value, truth, bytes, signed, unsigned, listTime}
-use Rattle.value.specs.declared.Time as Times
-use Rattle.value.specs.declared.Time.the-variants as TimeC
-use Rattle.value.specs.declared.ListType as ListTypes
-use Rattle.value.specs.declared.ListType.the-variants as ListTypeC
+use Rattle.value.specs.declared.Time.{Time}
+use Rattle.value.specs.declared.ListType.{ListType}
 use Rattle.value.specs.declared.Status as Statuses
 use Rattle.value.specs.declared.Status.the-variants as StatusC
 use Rattle.value.specs.declared.Value as Values
@@ -38,8 +36,8 @@ use Rattle.value.specs.declared.OptStatusRead.{OptStatusRead}
 use Rattle.value.specs.declared.OptStatusRead.the-variants as OptStatusR
 
 -- a time is its number of seconds
-abbrev pub seconds : Times.Time → ℕ
-seconds (TimeC.SecIndex n) = n
+abbrev pub seconds : Time → ℕ
+seconds time = time .«sec_index»
 
 abbrev pub timeRead : TimeRead → Read ℕ
 timeRead (TimeR.Is time next) = got (seconds time) next
@@ -55,9 +53,6 @@ abbrev pub statusRead : StatusRead → Read Status
 statusRead (StatusR.Is x next) = got (status x) next
 statusRead (StatusR.Refused f) = refused (faultOf f)
 
-abbrev pub listSeconds : ListTypes.ListType → ℕ
-listSeconds (ListTypeC.Time time) = seconds time
-
 abbrev pub value : Values.Value → Value Span
 value (ValueC.Bool b) = truth b
 value (ValueC.Bytes p) = bytes p
@@ -69,7 +64,7 @@ value (ValueC.U8 n) = unsigned 1 n
 value (ValueC.U16 n) = unsigned 2 n
 value (ValueC.U32 n) = unsigned 4 n
 value (ValueC.U64 n) = unsigned 8 n
-value (ValueC.List x) = listTime (listSeconds x)
+value (ValueC.List x) = listTime (seconds (x .time))
 
 abbrev pub valueRead : ValueRead → Read (Value Span)
 valueRead (ValueR.Is x next) = got (value x) next

@@ -4,17 +4,17 @@ ghost use Rattle.tlf.specs.declared.Ty.{Ty};
 ghost use Rattle.num.specs.Numbers.{unsignedAt, signedAt};
 ghost use Rattle.num.specs.Answers.{u32Read};
 ghost use Rattle.octet_string.specs.Optional.{optional};
-ghost use Rattle.value.specs.Values.{isBareTime, timeAt, narrowest, statusOf, statusAt, signedValue, unsignedValue, listTypeAt, valueOf, valueAt};
-ghost use Rattle.value.specs.Answers.{timeRead, statusRead, valueRead, optU8Read, optI8Read, optTimeRead, optStatusRead};
+ghost use Rattle.value.specs.Values.{isBareTime, timeAt, narrowest, statusOf, statusAt, signedValue, unsignedValue, listTypeAt, valueOf, valueAt, listTime};
+ghost use Rattle.value.specs.Answers.{seconds, value, timeRead, statusRead, valueRead, optU8Read, optI8Read, optTimeRead, optStatusRead};
 use num::BoolRead;
+use num::I8Read;
 use num::I16Read;
 use num::I32Read;
 use num::I64Read;
-use num::I8Read;
+use num::U8Read;
 use num::U16Read;
 use num::U32Read;
 use num::U64Read;
-use num::U8Read;
 use tlf::Fault;
 use tlf::ParseError;
 use tlf::PlaceRead;
@@ -24,8 +24,9 @@ use tlf::TlfRead;
 use tlf::Ty;
 use tlf::TypeLengthField;
 
-pub enum Time {
-    SecIndex(u32),
+// Time::SecIndex of the Rust, its only variant.
+pub struct Time {
+    pub sec_index: u32,
 }
 
 pub enum TimeRead {
@@ -52,7 +53,7 @@ fn sec_index(read: U32Read) -> TimeRead
 {
     match read {
         U32Read::Is { value, next } => TimeRead::Is {
-            time: Time::SecIndex(value),
+            time: Time { sec_index: value },
             next,
         },
         U32Read::Refused(f) => TimeRead::Refused(f),
@@ -155,8 +156,9 @@ pub fn parse_status(input: &[u8], at: usize) -> StatusRead
     }
 }
 
-pub enum ListType {
-    Time(Time),
+// ListType::Time of the Rust, its only variant.
+pub struct ListType {
+    pub time: Time,
 }
 
 pub enum Value {
@@ -282,6 +284,12 @@ fn unsigned_value(input: &[u8], at: usize, len: u32) -> ValueRead
     }
 }
 
+fn list_value(time: Time) -> Value
+    ensures { λ r. ⌜ value r ≡ listTime (seconds time) ⌝ }
+{
+    Value::List(ListType { time })
+}
+
 fn parse_list_type(input: &[u8], at: usize) -> ValueRead
     ensures { λ r. ⌜ valueRead r ≡ listTypeAt (now (input .entry)) at ⌝ }
 {
@@ -306,7 +314,7 @@ fn parse_list_type(input: &[u8], at: usize) -> ValueRead
     }
     match parse_time(input, after) {
         TimeRead::Is { time, next } => ValueRead::Is {
-            value: Value::List(ListType::Time(time)),
+            value: list_value(time),
             next,
         },
         TimeRead::Refused(f) => ValueRead::Refused(f),

@@ -3,6 +3,7 @@ use borrow.Author.Tests.{eq-eqb, ne-eqb}
 use Rattle.tlf.specs.Read.{then, guard}
 use Rattle.tlf.proofs.Read.{ok-at}
 use Rattle.num.proofs.Ahead.{unsigned-found}
+use Rattle.common.proofs.Fields.{message-end-found}
 use Rattle.trailer.specs.Trailer.{trailerAt}
 use borrow.Author.Needs.{needs}
 use Rattle.trailer.proofs.parse_trailer.Statement.{statement}
@@ -47,7 +48,8 @@ checksum-requires c κs =
     let p = c .before .before .before .before in
     let h = ok-at (rw (p .before .value .given .1) at (p .before .before .before .parse-u16 .ensures)) (unsigned-found 2 _ _) in
     let w = h .1 in
-    omega (arith, w .ahead, w .within)
+    let e = ok-at (rw (c .before .next .given .1) at (c .before .before .before .parse-message-end .ensures)) (message-end-found _ _) .1 in
+    omega (arith, w .ahead, w .within, e .within)
 
 swap-bytes-requires : tie.Need-swap-bytes-requires
 swap-bytes-requires c κs = search needs

@@ -54,20 +54,23 @@ parse-time-requires c κs = search needs
 enum-known-time : tie.Need-enum-known-time
 enum-known-time c = search needs
 
+list-value-requires : tie.Need-list-value-requires
+list-value-requires c κs = search needs
+
 enum-known-f-3 : tie.Need-enum-known-f-3
 enum-known-f-3 c = search needs
 
 returns-4 : tie.Need-returns-4
 unfolding listTypeAt then guard
 returns-4 c =
-    let p7 = c .before in
+    let p7 = c .before .before in
     let p6 = p7 .before .before in
     let p5 = p6 .before in
     let p4 = p5 .before .before in
     let p3 = p4 .before .before in
     let p2 = p3 .before .before in
     let p1 = p2 .before .before in
-    rw (← p1 .parse-list-of .ensures, p2 .next .given .1, ← p3 .parse-u8 .ensures, p4 .tag .given .1, eq-eqb _ _ (p5 .if1 .taken), ← p6 .parse-time .ensures, p7 .time .given .1)
+    rw (← p1 .parse-list-of .ensures, p2 .next .given .1, ← p3 .parse-u8 .ensures, p4 .tag .given .1, eq-eqb _ _ (p5 .if1 .taken), ← p6 .parse-time .ensures, p7 .time .given .1, c .list-value .ensures)
 
 returns-5 : tie.Need-returns-5
 unfolding listTypeAt then guard
@@ -96,6 +99,7 @@ parse-list-type-spec =
     returns-3
     parse-time-requires
     enum-known-time
+    list-value-requires
     enum-known-f-3
     returns-4
     returns-5)

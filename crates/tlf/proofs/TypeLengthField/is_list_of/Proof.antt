@@ -1,4 +1,3 @@
-
 use borrow.Author.Needs.{needs}
 use Rattle.tlf.proofs.TypeLengthField.is_list_of.Statement.{statement}
 use Rattle.tlf.proofs.TypeLengthField.is_list_of.Tie as tie
