@@ -1,0 +1,4 @@
+pub mod Rules
+pub mod Inside
+pub mod RoundTrip
+pub mod Recovery

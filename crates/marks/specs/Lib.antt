@@ -1,0 +1,2 @@
+pub mod Decoders
+pub mod Mark3
