@@ -2,3 +2,4 @@ pub mod Rules
 pub mod Inside
 pub mod RoundTrip
 pub mod Recovery
+pub mod Soundness

@@ -1,2 +1,3 @@
 pub mod Decoders
+pub mod Mark2
 pub mod Mark3
