@@ -3,3 +3,4 @@ pub mod Inside
 pub mod RoundTrip
 pub mod Recovery
 pub mod Soundness
+pub mod Completeness

@@ -20,8 +20,8 @@ use Rattle.decoder.proofs.Faithful.{contents}
 use Rattle.decoder.proofs.Runs.{run-new}
 use Rattle.decoder.specs.declared.Decoder.{Decoder}
 use Rattle.encoder.specs.Encode.{limit, encodeTo}
-use Rattle.marks.specs.Decoders.{Machine, ours, answers, countFrom, countSince}
-use Rattle.marks.specs.Mark3.{Encode, Job, Suits, AllSuit, part, wroteFor, framesFor, frameSays, restSays, Mark3}
+use Rattle.marks.specs.Decoders.{Machine, ours, answers, countFrom, countSince, frameSays}
+use Rattle.marks.specs.Mark3.{Encode, Job, Suits, AllSuit, part, wroteFor, framesFor, restSays, Mark3}
 use Rattle.frame.proofs.Cases.{by-test, by-eq, by-le, by-lt}
 use Rattle.marks.proofs.RoundTrip.{Decodes, round-trip}
 

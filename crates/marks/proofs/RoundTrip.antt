@@ -6,7 +6,7 @@ use native.Mathlib.Omega.{arith}
 use native.Mathlib.Nat.{mod-add-div}
 use lib.ListN.{length, replicate, drop, take, length-append, length-replicate}
 use lib.Seq.{drop-at, take-at, drop-append-le, drop-append-seam, take-append-le}
-use borrow.Author.Tests.{eq-eqb, ne-eqb, le-leb, lt-ltb}
+use borrow.Author.Tests.{eq-eqb, ne-eqb, le-leb, lt-leb, lt-ltb}
 use Rattle.crc_x25.specs.Crc.{register, finalXor, crcOf}
 use Rattle.crc_x25.proofs.Laws.{register-append, register-none, crc-is}
 use Rattle.frame.specs.Frame.{Sound, missing, escSeq, startSeq, escaped, closed, framed, frameOf}
@@ -14,7 +14,7 @@ use Rattle.decoder.specs.Push.{Setup, Mem, State, search, body, escape, done, s
 use Rattle.decoder.specs.Record.{Answer, nothing, payload, numbered}
 use Rattle.decoder.specs.Run as R
 use Rattle.decoder.specs.Run.{Op, runState, stateBehind, actState, answerState}
-use Rattle.marks.specs.Mark3.{frameSays}
+use Rattle.marks.specs.Decoders.{frameSays}
 use Rattle.frame.proofs.Cases.{either}
 use Rattle.frame.proofs.Escapes.{run, swap-escSeq, run-le, escaped-append, escaped-zeros, escaped-other, run-other, escaped-wait, run-wait, escaped-fourth, run-fourth}
 use Rattle.marks.proofs.Rules.{Silent, stop, push, then, step-other, step-wait, step-open, step-read, step-judge, silent-behind, silent-run, quiet}
@@ -111,11 +111,12 @@ unfolding puts
 puts-is [] m = (sym (append-nil (m .stored)), refl, refl)
 puts-is (b ∷ l) m = let q = puts-is l (put m (b ∷ [])) in (q .0 ∙ append-assoc (m .stored) (b ∷ []) l, q .1, q .2)
 
--- the last byte gives the payload P
-pub record Ends (C : Setup) (s : State) (l : List ℕ) (z : ℕ) (P : List ℕ) : Type 0 where
+-- the last byte gives the payload P, if there is room for all that the frame needs
+pub record Ends (C : Setup) (s : State) (l : List ℕ) (z : ℕ) (P : List ℕ) (need : ℕ) : Type 0 where
   pub s′ : State
   pub quietly : Silent C s l s′
   pub last : step C s′ z ≡ says (done P) (got P)
+  pub full : (C₀ : Setup) → C₀ .capacity < need → step C₀ s′ z ≡ says fresh memory
 
 module _ (C : Setup) (m : Mem) (D h : List ℕ) (p y z : ℕ) (right : y + 256 * z ≡ finalXor (register 0xffff (h ++ escSeq ++ 0x1a ∷ p ∷ [])))
     (aligned : length D % 4 ≡ 0) (small : p ≤ 3) (within : p ≤ length D) (fit : length D + 4 ≤ C .capacity) where
@@ -145,6 +146,14 @@ module _ (C : Setup) (m : Mem) (D h : List ℕ) (p y z : ℕ) (right : y + 256 *
       checked : y + 256 * z ≡ computed (put m′ (z ∷ []))
       checked = right ∙ sym (computed-is (put m′ (z ∷ [])) (S ++ (w ++ 0x1a ∷ p ∷ [])) y z (rw has (simp append-assoc)) ∙ ap finalXor crcs)
 
+  last-full : (w : List ℕ) (m′ : Mem) → S ++ w ≡ D → m′ .stored ≡ S ++ (w ++ 0x1a ∷ p ∷ y ∷ []) → (C₀ : Setup) → C₀ .capacity < length D + 4
+      → step C₀ (escape 3 m′) z ≡ says fresh memory
+  unfolding step store
+  last-full w m′ whole has C₀ small′ =
+      let long : length S + length w ≡ length D = simp length-append at (ap length whole) in
+      let all : length (m′ .stored) ≡ length D + 3 = ap length has ∙ simp length-append (omega arith) in
+      rw (lt-leb (length (m′ .stored) + 1) (C₀ .capacity) (omega arith))
+
   -- the CRC counts the escape's 1b and the waiting restart, in either order
   swapped : (a : ℕ) → Inside a m D h → register (register (register (m .reg) (drop (m .idx) S)) escSeq) (replicate a 0x1b) ≡ register (register 0xffff h) escSeq
   swapped a c =
@@ -155,7 +164,7 @@ module _ (C : Setup) (m : Mem) (D h : List ℕ) (p y z : ℕ) (right : y + 256 *
   abbrev Open : Mem → Type 0
   Open m₀ = (m₀ .stored ≡ S) × (m₀ .reg ≡ register (register (m .reg) (drop (m .idx) S)) escSeq) × (m₀ .idx ≡ length S)
 
-  end-0 : Inside 0 m D h → Ends C (body 0 m) (escSeq ++ 0x1a ∷ p ∷ y ∷ []) z P
+  end-0 : Inside 0 m D h → Ends C (body 0 m) (escSeq ++ 0x1a ∷ p ∷ y ∷ []) z P (length D + 4)
   unfolding step puts
   end-0 c =
       let long : length S ≡ length D = ap length (sym (append-nil S) ∙ c .data′) in
@@ -164,12 +173,13 @@ module _ (C : Setup) (m : Mem) (D h : List ℕ) (p y z : ℕ) (right : y + 256 *
         s′ = escape 3 (puts m₀ (0x1a ∷ p ∷ y ∷ []));
         quietly = push refl (push refl (push refl (push refl (reads C (0x1a ∷ p ∷ y ∷ []) m₀ 0 3 refl (omega arith) (omega arith)))));
         last = last-judged [] (puts m₀ (0x1a ∷ p ∷ y ∷ [])) (c .data′) (swapped 0 c) (simp append-assoc) refl refl;
+        full = last-full [] (puts m₀ (0x1a ∷ p ∷ y ∷ [])) (c .data′) (simp append-assoc);
       }
 
   -- where a 1b waited, the escape opens early. The first four bytes behind it are w₁ to w₄, and `shift` is what the judge makes of them
   module _ (a w₁ w₂ w₃ w₄ : ℕ) (rest : List ℕ) (m₀ : Mem) (o : Open m₀) (tail : replicate a 0x1b ++ 0x1a ∷ p ∷ y ∷ [] ≡ w₁ ∷ w₂ ∷ w₃ ∷ w₄ ∷ rest) (few : suc (length rest) ≡ a) (le : a ≤ 3)
       (shift : (q : Mem) → missing (length (q .stored)) ≡ a → judge q (w₁ ∷ w₂ ∷ w₃ ∷ w₄ ∷ []) ≡ says (escape (4 - a) q) silent) where
-    end-early : (l : List ℕ) → Silent C (body a m) l (escape 0 m₀) → Inside a m D h → Ends C (body a m) (l ++ w₁ ∷ w₂ ∷ w₃ ∷ w₄ ∷ rest) z P
+    end-early : (l : List ℕ) → Silent C (body a m) l (escape 0 m₀) → Inside a m D h → Ends C (body a m) (l ++ w₁ ∷ w₂ ∷ w₃ ∷ w₄ ∷ rest) z P (length D + 4)
     unfolding puts
     end-early l opening c =
         let long : length S + a ≡ length D = simp (length-append, length-replicate) at (ap length (c .data′)) in
@@ -186,9 +196,10 @@ module _ (C : Setup) (m : Mem) (D h : List ℕ) (p y z : ℕ) (right : y + 256 *
           quietly = then opening (then (reads C (w₁ ∷ w₂ ∷ w₃ ∷ []) m₀ 0 3 refl (omega arith) (omega arith))
               (push (step-judge C m₃ S w₁ w₂ w₃ w₄ has₃ (omega arith) ∙ shift m₄ (omega arith)) (reads C rest m₄ (4 - a) 3 (omega arith) (omega arith) (omega arith))));
           last = last-judged (replicate a 0x1b) (puts m₄ rest) (c .data′) (swapped a c) (q .0 ∙ rw (has₄, append-assoc S, tail)) (q .1 ∙ o .1) (q .2 ∙ o .2);
+          full = last-full (replicate a 0x1b) (puts m₄ rest) (c .data′) (q .0 ∙ rw (has₄, append-assoc S, tail));
         }
 
-  ending : (r : ℕ) → r ≤ 3 → Inside r m D h → Ends C (body r m) (escSeq ++ 0x1a ∷ p ∷ y ∷ []) z P
+  ending : (r : ℕ) → r ≤ 3 → Inside r m D h → Ends C (body r m) (escSeq ++ 0x1a ∷ p ∷ y ∷ []) z P (length D + 4)
   unfolding step judge same
   ending zero le c = end-0 c
   ending (suc zero) le c = end-early 1 0x1b 0x1a p y [] (opened (tick (tick m))) (refl, refl, refl) refl refl le (λ q e. rw e) (0x1b ∷ 0x1b ∷ 0x1b ∷ []) (push refl (push refl (push refl stop))) c
@@ -216,7 +227,7 @@ module _ (C : Setup) (noise raw : ℕ) (l : List ℕ) (os : List Op) where
   unfolding runState actState answerState step searching
   begun-run = refl
 
-module _ (C : Setup) (noise raw : ℕ) (l : List ℕ) (z : ℕ) (P : List ℕ) (t : Ends C begun l z P) (os : List Op) where
+module _ (C : Setup) (noise raw : ℕ) (l : List ℕ) (z : ℕ) (P : List ℕ) (need : ℕ) (t : Ends C begun l z P need) (os : List Op) where
   ends-run : runState C begun (map R.push (l ++ z ∷ []) ++ os) ≡ quiet l ++ payload P ∷ runState C (done P) os
   unfolding runState actState answerState
   ends-run = ap (runState C begun) (map-append l (z ∷ []) os) ∙ silent-run (t .quietly) (R.push z ∷ os)
@@ -240,7 +251,7 @@ pub record Runs (C : Setup) (D : List ℕ) (p : ℕ) (P : List ℕ) : Type 0 whe
   pub l : List ℕ
   pub z : ℕ
   pub shape : framed D p ≡ startSeq ++ (l ++ z ∷ [])
-  pub ends : Ends C begun l z P
+  pub ends : Ends C begun l z P (length D + 4)
 
 pub framed-runs : (C : Setup) (D : List ℕ) (p : ℕ) → length D % 4 ≡ 0 → p ≤ 3 → p ≤ length D → length D + 4 ≤ C .capacity → Runs C D p (take (length D - p) D)
 unfolding framed closed
@@ -264,16 +275,16 @@ framed-runs C D p aligned small within fit = record { l = l; z = z; shape = shap
     fed : Fed C 0 (record { stored = []; reg = register 0xffff startSeq; idx = 0; raw = 8 }) [] startSeq D (escaped 0 D) (run 0 D)
     fed = feed C D 0 _ [] startSeq (omega arith) begins (omega arith)
 
-    e : Ends C (body (run 0 D) (fed .m′)) (escSeq ++ 0x1a ∷ p ∷ x % 256 ∷ []) z P
+    e : Ends C (body (run 0 D) (fed .m′)) (escSeq ++ 0x1a ∷ p ∷ x % 256 ∷ []) z P (length D + 4)
     e = ending C (fed .m′) D (startSeq ++ escaped 0 D) p (x % 256) z (mod-add-div x 256 ∙ crc-is _) aligned small within fit (run 0 D) (run-le 0 D (omega arith)) (fed .inside)
 
-    t : Ends C begun l z P
-    t = record { s′ = e .s′; quietly = then (fed .quietly) (e .quietly); last = e .last }
+    t : Ends C begun l z P (length D + 4)
+    t = record { s′ = e .s′; quietly = then (fed .quietly) (e .quietly); last = e .last; full = e .full }
 
 pub sound-decodes : (C : Setup) (noise raw : ℕ) (f P : List ℕ) (s : Sound f P) → length (s .D) + 4 ≤ C .capacity → Decodes C noise raw f P
 sound-decodes C noise raw f P s fit =
     let r = framed-runs C (s .D) (s .p) (s .aligned) (s .small) (s .within) fit in
-    rw (s .whole ∙ r .shape, s .cut) (record { answers′ = says-all C noise raw (r .l) (r .z) (take (length (s .D) - s .p) (s .D)) (r .ends) })
+    rw (s .whole ∙ r .shape, s .cut) (record { answers′ = says-all C noise raw (r .l) (r .z) (take (length (s .D) - s .p) (s .D)) _ (r .ends) })
 
 -- what encode writes, as a frame of the padded payload
 frame-framed : (P : List ℕ) → frameOf P ≡ framed (P ++ replicate (missing (length P)) 0) (missing (length P))

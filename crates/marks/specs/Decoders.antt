@@ -1,7 +1,7 @@
 -- What a reader must believe: a decoder in use, whichever decoder it is. Operations one after another with one buffer lent each time, what they answer, and which bytes were pushed since the last answer of note.
 use mathlib.Core.List.{List, [], _∷_, _++_}
-use Prim.Native.Nat.{ℕ, suc}
-use lib.ListN.{length}
+use Prim.Native.Nat.{ℕ, suc, _-_}
+use lib.ListN.{length, replicate}
 use Rattle.decoder.specs.Push.{Setup}
 use Rattle.decoder.specs.Record.{Answer, nothing, payload, count, refused, After, newRecord, payloadRecord}
 use Rattle.decoder.specs.Run as R
@@ -73,3 +73,9 @@ bytesFrom h (reset ∷ os) (a ∷ more) = bytesFrom [] os more
 
 abbrev pub bytesSince : List Op → List Answer → List ℕ
 bytesSince os more = bytesFrom [] os more
+
+-- ---- a frame
+
+-- what the pushes of a frame answer: `eighth` at its eighth byte, the payload at its last, and nothing else
+abbrev pub frameSays : Answer → List ℕ → List ℕ → List Answer
+frameSays eighth frame P = replicate 7 nothing ++ eighth ∷ (replicate (length frame - 9) nothing ++ payload P ∷ [])

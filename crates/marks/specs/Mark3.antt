@@ -1,15 +1,15 @@
 -- What a reader must believe: mark 3. Whatever was done with a new decoder before, behind capacity + 5 zero bytes every encoded payload that fits is handed out.
 use mathlib.Core.Path.{_≡_}
 use mathlib.Core.List.{List, [], _∷_, _++_, map}
-use Prim.Native.Nat.{ℕ, _+_, _-_, _≤_}
+use Prim.Native.Nat.{ℕ, _+_, _≤_}
 use lib.ListN.{length, take, replicate}
 use Rattle.frame.specs.Frame.{frameOf, missing}
 use Rattle.encoder.specs.Encode.{Leaves, length-is}
 use Rattle.encoder.specs.Encode as E
 use Rattle.decoder.specs.Push.{Setup, stopped}
-use Rattle.decoder.specs.Record.{Answer, nothing, payload, refused}
+use Rattle.decoder.specs.Record.{Answer, nothing, refused}
 use Rattle.decoder.specs.Run.{Op, push}
-use Rattle.marks.specs.Decoders.{Machine, answers, countSince}
+use Rattle.marks.specs.Decoders.{Machine, answers, countSince, frameSays}
 
 -- an encode: of a payload and the output that is lent, its answer and what it leaves in the output. Ours is encodeTo, which encode's contract cites
 abbrev pub Encode : Type 0
@@ -45,10 +45,7 @@ unfoldable pub framesFor : Encode → List Job → List ℕ
 framesFor encode [] = []
 framesFor encode (j ∷ js) = wroteFor encode j ++ framesFor encode js
 
--- what the pushes of a frame answer: `eighth` at its eighth byte, the payload at its last, and nothing else
-abbrev pub frameSays : Answer → List ℕ → List ℕ → List Answer
-frameSays eighth frame P = replicate 7 nothing ++ eighth ∷ (replicate (length frame - 9) nothing ++ payload P ∷ [])
-
+-- what they answer behind a payload
 unfoldable pub restSays : Encode → List Job → List Answer
 restSays encode [] = []
 restSays encode (j ∷ js) = frameSays nothing (wroteFor encode j) (j .payload) ++ restSays encode js
