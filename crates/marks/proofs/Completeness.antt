@@ -91,21 +91,24 @@ module _ (C : Setup) (noise raw : ℕ) (frame P : List ℕ) (s : Sound frame P) 
       ∙ append-nil (frameSays (numbered (noticed noise)) frame P)
       ∙ ap (λ (a : Answer). frameSays a frame P) (eighth-is noise)
 
+  lacks-at : (l : List ℕ) (z : ℕ) → frame ≡ startSeq ++ (l ++ z ∷ []) → Stops C begun (l ++ z ∷ []) → NoRoom noise (runState C (search 0 noise raw) (map R.push frame))
+  lacks-at l z shape t =
+      record {
+        quiet = t .quiet;
+        rest = t .rest;
+        is = ap (λ (f : List ℕ). runState C (search 0 noise raw) (map R.push f)) shape
+            ∙ ap (runState C (search 0 noise raw)) (sym (append-nil (map R.push (startSeq ++ (l ++ z ∷ [])))))
+            ∙ begun-run C noise raw (l ++ z ∷ []) []
+            ∙ ap (λ (k : List Op). replicate 7 nothing ++ numbered (noticed noise) ∷ runState C begun k) (append-nil (map R.push (l ++ z ∷ [])))
+            ∙ ap (λ (k : List Answer). replicate 7 nothing ++ numbered (noticed noise) ∷ k) (t .is)
+            ∙ ap (λ (a : Answer). replicate 7 nothing ++ a ∷ (replicate (t .quiet) nothing ++ refused 3 [] ∷ t .rest)) (eighth-is noise);
+      }
+
   lacks : C .capacity < length (s .D) + 4 → NoRoom noise (runState C (search 0 noise raw) (map R.push frame))
   lacks small =
       let B : Setup = record { capacity = length (s .D) + 4 } in
       let r = framed-runs B (s .D) (s .p) (s .aligned) (s .small) (s .within) (omega arith) in
-      let t : Stops C begun (r .l ++ r .z ∷ []) = stops C B (r .z) (omega arith) (r .ends .quietly) (r .ends .full C small) in
-      record {
-        quiet = t .quiet;
-        rest = t .rest;
-        is = ap (λ (f : List ℕ). runState C (search 0 noise raw) (map R.push f)) (s .whole ∙ r .shape)
-            ∙ ap (runState C (search 0 noise raw)) (sym (append-nil _))
-            ∙ begun-run C noise raw (r .l ++ r .z ∷ []) []
-            ∙ ap (λ (l : List Op). replicate 7 nothing ++ numbered (noticed noise) ∷ runState C begun l) (append-nil _)
-            ∙ ap (λ (l : List Answer). replicate 7 nothing ++ numbered (noticed noise) ∷ l) (t .is)
-            ∙ ap (λ (a : Answer). replicate 7 nothing ++ a ∷ (replicate (t .quiet) nothing ++ refused 3 [] ∷ t .rest)) (eighth-is noise);
-      }
+      lacks-at (r .l) (r .z) (s .whole ∙ r .shape) (stops C B (r .z) (omega arith) (r .ends .quietly) (r .ends .full C small))
 
 pub completeness : Completeness ours OurSearch
 completeness C d m noise h frame P s =

@@ -4,3 +4,5 @@ pub mod RoundTrip
 pub mod Recovery
 pub mod Soundness
 pub mod Completeness
+pub mod Bench
+pub mod Encoders

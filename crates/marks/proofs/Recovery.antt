@@ -222,11 +222,14 @@ map-push [] b = refl
 map-push (x ∷ a) b = ap (λ (l : List Op). push x ∷ l) (map-push a b)
 
 -- encode writes the frame
-wrote-is : (C : Setup) (j : Job) → C .capacity ≤ 1048576 → Suits C j → wroteFor encodeTo j ≡ frameOf (j .payload)
+pub wrote-frame : (j : Job) → length (j .payload) ≤ limit → length (frameOf (j .payload)) ≤ length (j .output) → wroteFor encodeTo j ≡ frameOf (j .payload)
 unfolding encodeTo
-wrote-is C j small s =
+wrote-frame j short room =
     let f : List ℕ = frameOf (j .payload) in
-    rw (le-leb (length (j .payload)) limit (omega arith), le-leb (length f) (length (j .output)) (s .1)) (take-at f (drop (length f) (j .output)) (length f) refl)
+    rw (le-leb (length (j .payload)) limit short, le-leb (length f) (length (j .output)) room) (take-at f (drop (length f) (j .output)) (length f) refl)
+
+wrote-is : (C : Setup) (j : Job) → C .capacity ≤ 1048576 → Suits C j → wroteFor encodeTo j ≡ frameOf (j .payload)
+wrote-is C j small s = wrote-frame j (omega arith) (s .1)
 
 -- behind a payload it is as if fresh
 after-done : (C : Setup) (P Q : List ℕ) (l : List Op) → runState C (done P) (map push (frameOf Q) ++ l) ≡ runState C fresh (map push (frameOf Q) ++ l)

@@ -1,3 +1,5 @@
 pub mod Decoders
 pub mod Mark2
 pub mod Mark3
+pub mod Encoders
+pub mod Bench
