@@ -6,3 +6,4 @@ pub mod Soundness
 pub mod Completeness
 pub mod Bench
 pub mod Encoders
+pub mod Decided

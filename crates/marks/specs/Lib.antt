@@ -3,3 +3,4 @@ pub mod Mark2
 pub mod Mark3
 pub mod Encoders
 pub mod Bench
+pub mod Decided
