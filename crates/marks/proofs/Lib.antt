@@ -7,3 +7,4 @@ pub mod Completeness
 pub mod Bench
 pub mod Encoders
 pub mod Decided
+pub mod Fakes

@@ -4,3 +4,4 @@ pub mod Mark3
 pub mod Encoders
 pub mod Bench
 pub mod Decided
+pub mod Fakes
