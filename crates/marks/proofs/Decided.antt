@@ -55,9 +55,10 @@ use Rattle.encoder.specs.declared.Encoded.the-variants as EncodedR
 use Rattle.encoder.specs.declared.Item.{Item}
 use Rattle.encoder.specs.declared.Item.the-variants as ItemR
 use Rattle.encoder.specs.declared.Given.{Given}
-use Rattle.decoder.specs.Record.{leavesFinal, leavesReset, answerAsked}
+use Rattle.decoder.specs.Record.{leaves, leavesFinal, leavesReset, answerAsked}
+use Rattle.decoder.specs.declared.Pushed.{Pushed}
 use Rattle.decoder.proofs.Answers.{push-one, finalize-one, reset-one, ask-one}
-use Rattle.marks.specs.Decided.{One, With, Decided}
+use Rattle.marks.specs.Decided.{One, With, Injective, Views, Decided}
 
 -- ---- the argument, once
 
@@ -66,11 +67,11 @@ plain : {R : Type 0} (s : R) → One (λ (r : R). r ≡ s)
 plain s r r′ e e′ = e ∙ sym e′
 
 -- a view that loses nothing
-injective : {R A : Type 0} (view : R → A) → ((r r′ : R) → view r ≡ view r′ → r ≡ r′) → (s : A) → One (λ (r : R). view r ≡ s)
+injective : {R A : Type 0} (view : R → A) → Injective view → (s : A) → One (λ (r : R). view r ≡ s)
 injective view h s r r′ e e′ = h r r′ (e ∙ sym e′)
 
 -- a view that can be undone loses nothing
-undone : {R A : Type 0} (view : R → A) (back : A → R) → ((r : R) → back (view r) ≡ r) → (r r′ : R) → view r ≡ view r′ → r ≡ r′
+undone : {R A : Type 0} (view : R → A) (back : A → R) → ((r : R) → back (view r) ≡ r) → Injective view
 undone view back h r r′ e = sym (h r) ∙ ap back e ∙ h r′
 
 -- ---- refusals
@@ -275,7 +276,37 @@ next-one r r′ h =
     let e : r .encoder ≡ r′ .encoder = ap (λ (s : Step). s .encoder) h in
     λ i. record { answer = a i; encoder = e i }
 
--- ---- every public function
+push-both : (r r′ : With Pushed) → leaves (r .answer) (r .memory) ≡ leaves (r′ .answer) (r′ .memory) → r ≡ r′
+push-both r r′ h =
+    let p = push-one (r .answer) (r′ .answer) (r .memory) (r′ .memory) h in
+    λ i. record { answer = p .0 i; memory = p .1 i }
+
+-- ---- every view, every public function
+
+pub views : Views
+views =
+    record {
+      byte = undone byteRead byteFrom byte-back;
+      span = undone spanRead spanFrom span-back;
+      tlf = undone tlfRead tlfFrom tlf-back;
+      u8 = undone u8Read u8From u8-back;
+      u16 = undone u16Read u16From u16-back;
+      u32 = undone u32Read u32From u32-back;
+      u64 = undone u64Read u64From u64-back;
+      i8 = undone i8Read i8From i8-back;
+      i16 = undone i16Read i16From i16-back;
+      i32 = undone i32Read i32From i32-back;
+      i64 = undone i64Read i64From i64-back;
+      bool = undone boolRead boolFrom bool-back;
+      check = undone spanCheck checkFrom check-back;
+      optional-span = undone optSpanRead optFrom opt-back;
+      next = next-one;
+      encoded = encode-one;
+      pushed = push-both;
+      finalized = finalize-one;
+      resetted = reset-one;
+      asked = ask-one;
+    }
 
 pub decided : Decided
 decided =
@@ -285,32 +316,32 @@ decided =
       update = λ reg s. plain _;
       finalize = λ reg. plain _;
       checksum = λ s. plain _;
-      take-byte = λ input at. injective byteRead (undone byteRead byteFrom byte-back) _;
-      take-n = λ input at n. injective spanRead (undone spanRead spanFrom span-back) _;
+      take-byte = λ input at. injective byteRead (views .byte) _;
+      take-n = λ input at n. injective spanRead (views .span) _;
       is-list = λ self. plain _;
       is-boolean = λ self. plain _;
-      tlf-parse = λ input at. injective tlfRead (undone tlfRead tlfFrom tlf-back) _;
-      parse-u8 = λ input at. injective u8Read (undone u8Read u8From u8-back) _;
-      parse-u16 = λ input at. injective u16Read (undone u16Read u16From u16-back) _;
-      parse-u32 = λ input at. injective u32Read (undone u32Read u32From u32-back) _;
-      parse-u64 = λ input at. injective u64Read (undone u64Read u64From u64-back) _;
-      parse-i8 = λ input at. injective i8Read (undone i8Read i8From i8-back) _;
-      parse-i16 = λ input at. injective i16Read (undone i16Read i16From i16-back) _;
-      parse-i32 = λ input at. injective i32Read (undone i32Read i32From i32-back) _;
-      parse-i64 = λ input at. injective i64Read (undone i64Read i64From i64-back) _;
-      parse-bool = λ input at. injective boolRead (undone boolRead boolFrom bool-back) _;
-      parse-octet-str = λ input at. injective spanRead (undone spanRead spanFrom span-back) _;
+      tlf-parse = λ input at. injective tlfRead (views .tlf) _;
+      parse-u8 = λ input at. injective u8Read (views .u8) _;
+      parse-u16 = λ input at. injective u16Read (views .u16) _;
+      parse-u32 = λ input at. injective u32Read (views .u32) _;
+      parse-u64 = λ input at. injective u64Read (views .u64) _;
+      parse-i8 = λ input at. injective i8Read (views .i8) _;
+      parse-i16 = λ input at. injective i16Read (views .i16) _;
+      parse-i32 = λ input at. injective i32Read (views .i32) _;
+      parse-i64 = λ input at. injective i64Read (views .i64) _;
+      parse-bool = λ input at. injective boolRead (views .bool) _;
+      parse-octet-str = λ input at. injective spanRead (views .span) _;
       octet-str = λ input span. plain _;
-      check-span = λ input span. injective spanCheck (undone spanCheck checkFrom check-back) _;
+      check-span = λ input span. injective spanCheck (views .check) _;
       is-absent = λ input at. plain _;
-      parse-opt-octet-str = λ input at. injective optSpanRead (undone optSpanRead optFrom opt-back) _;
+      parse-opt-octet-str = λ input at. injective optSpanRead (views .optional-span) _;
       encoder-new = plain _;
-      encoder-next = λ self payload. injective stepOf next-one _;
-      encode = λ payload out r r′ e e′. encode-one r r′ (e ∙ sym e′);
+      encoder-next = λ self payload. injective stepOf (views .next) _;
+      encode = λ payload out. injective (λ (r : With Encoded). E.leaves (E.answerOf (r .answer)) (r .memory)) (views .encoded) _;
       decoder-new = λ capacity. plain _;
-      push-byte = λ self buf b r r′ e e′. let p = push-one (r .answer) (r′ .answer) (r .memory) (r′ .memory) (e ∙ sym e′) in λ i. record { answer = p .0 i; memory = p .1 i };
-      decoder-finalize = λ self. injective leavesFinal finalize-one _;
-      reset = λ self. injective leavesReset reset-one _;
-      ask-payload = λ self buf. injective answerAsked ask-one _;
+      push-byte = λ self buf b. injective (λ (r : With Pushed). leaves (r .answer) (r .memory)) (views .pushed) _;
+      decoder-finalize = λ self. injective leavesFinal (views .finalized) _;
+      reset = λ self. injective leavesReset (views .resetted) _;
+      ask-payload = λ self buf. injective answerAsked (views .asked) _;
       payload = λ self buf. plain _;
     }

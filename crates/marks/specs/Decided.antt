@@ -51,6 +51,33 @@ pub record With (R : Type 0) : Type 0 where
   pub answer : R
   pub memory : List ℕ
 
+-- a view gives document 01's number and values for each case of an answer; it loses nothing where two answers that look the same in it are the same
+abbrev pub Injective : {R A : Type 0} → (R → A) → Type 0
+Injective {R} view = (r r′ : R) → view r ≡ view r′ → r ≡ r′
+
+-- every view that a contract cites
+pub record Views : Type 0 where
+  pub byte : Injective byteRead
+  pub span : Injective spanRead
+  pub tlf : Injective tlfRead
+  pub u8 : Injective u8Read
+  pub u16 : Injective u16Read
+  pub u32 : Injective u32Read
+  pub u64 : Injective u64Read
+  pub i8 : Injective i8Read
+  pub i16 : Injective i16Read
+  pub i32 : Injective i32Read
+  pub i64 : Injective i64Read
+  pub bool : Injective boolRead
+  pub check : Injective spanCheck
+  pub optional-span : Injective optSpanRead
+  pub next : Injective stepOf
+  pub encoded : Injective (λ (r : With Encoded). E.leaves (E.answerOf (r .answer)) (r .memory))
+  pub pushed : Injective (λ (r : With Pushed). leaves (r .answer) (r .memory))
+  pub finalized : Injective leavesFinal
+  pub resetted : Injective leavesReset
+  pub asked : Injective answerAsked
+
 -- every public function, in the order of the crates; a part that is handed back is told by its content
 pub record Decided : Type 0 where
   -- crc_x25
