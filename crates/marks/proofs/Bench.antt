@@ -1,5 +1,5 @@
 -- The bench sheet, by computation over the definitions that the contracts cite.
-use mathlib.Core.Path.{_≡_, refl}
+use mathlib.Core.Path.{refl}
 use Rattle.crc_x25.specs.Crc.{reflect, polynomial, bitStep, bitSteps, byteStep, register, finalXor, crcOf}
 use Rattle.frame.specs.Frame.{escaped, closed, frameOf}
 use Rattle.encoder.specs.Encode.{encodeTo}

@@ -1,26 +1,25 @@
 -- Every sound frame that fits is handed out; where one doesn't fit, the first event behind its start is 3.
-use mathlib.Core.Path.{_≡_, refl, ap, sym, _∙_, subst}
+use mathlib.Core.Path.{_≡_, refl, ap, sym, _∙_}
 use mathlib.Core.Bool.{Bool, true, false, cond}
 use mathlib.Core.List.{List, [], _∷_, _++_, append-nil, map}
-use Prim.Native.Nat.{ℕ, zero, suc, _+_, _≤_, _<_}
+use Prim.Native.Nat.{ℕ, suc, _+_, _≤_, _<_}
 use native.Mathlib.Omega.{arith}
 use lib.ListN.{length, replicate}
 use lib.Dec.{eqb, leb}
 use borrow.Author.Tests.{le-leb}
 use Rattle.frame.specs.Frame.{Sound, startSeq}
-use Rattle.frame.proofs.Cases.{by-le, by-test}
-use Rattle.decoder.specs.Push.{Setup, Mem, State, search, body, escape, done, Event, silent, discarded, memory, Out, says, put, store, step, begun, noticed, fresh}
-use Rattle.decoder.specs.Record.{Answer, nothing, refused, numbered, setup, viewAs, view, newRecord}
+use Rattle.frame.proofs.Cases.{by-le}
+use Rattle.decoder.specs.Push.{Setup, Mem, State, search, body, escape, done, silent, discarded, memory, Out, says, put, store, step, begun, noticed, fresh}
+use Rattle.decoder.specs.Record.{Answer, nothing, refused, numbered, viewAs, view, newRecord}
 use Rattle.decoder.specs.Run as R
 use Rattle.decoder.specs.Run.{Op, runState, actState, answerState}
 use Rattle.decoder.specs.declared.DecodeState.{DecodeState}
-use Rattle.decoder.specs.declared.Decoder.{Decoder}
 use Rattle.decoder.proofs.Faithful.{Fit}
 use Rattle.decoder.proofs.Runs.{run-is, new-fit}
 use Rattle.marks.specs.Decoders.{ours, answers, frameSays}
 use Rattle.marks.specs.Mark2.{eighth, NoRoom, Completeness, OurSearch}
 use Rattle.marks.proofs.Rules.{Silent, stop, push}
-use Rattle.marks.proofs.RoundTrip.{Ends, Runs, framed-runs, Decodes, sound-decodes, begun-run}
+use Rattle.marks.proofs.RoundTrip.{framed-runs, sound-decodes, begun-run}
 use Rattle.marks.proofs.Recovery.{answers-run}
 
 -- ---- less room: the same step, or 3

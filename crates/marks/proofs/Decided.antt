@@ -1,10 +1,8 @@
 -- Each view can be undone, so a contract allows one outcome for each input.
 use mathlib.Core.Path.{_≡_, refl, sym, ap, _∙_}
-use mathlib.Core.Bool.{Bool, cond}
-use mathlib.Core.List.{List}
+use mathlib.Core.Bool.{cond}
 use mathlib.Core.Option.{Option, some, none}
 use Prim.Native.Nat.{ℕ}
-use lib.IntN.{ℤ}
 use lib.Dec.{eqb}
 use Rattle.tlf.specs.Read.{Read, got, refused, Refusal}
 use Rattle.tlf.specs.Refusals.{refusalOf, faultOf, byteRead, spanRead, tlfRead}
@@ -14,7 +12,6 @@ use Rattle.tlf.specs.declared.ParseError.{ParseError}
 use Rattle.tlf.specs.declared.ParseError.the-variants.{UnexpectedEOF, InvalidTlf, TlfMismatch, CrcMismatch, MsgEndMismatch, UnexpectedVariant}
 use Rattle.tlf.specs.declared.Fault.{Fault}
 use Rattle.tlf.specs.declared.Span.{Span}
-use Rattle.tlf.specs.declared.TypeLengthField.{TypeLengthField}
 use Rattle.tlf.specs.declared.ByteRead.{ByteRead}
 use Rattle.tlf.specs.declared.ByteRead.the-variants as ByteR
 use Rattle.tlf.specs.declared.SpanRead.{SpanRead}
@@ -105,111 +102,68 @@ fault-back f = error-back (f .error) (f .place)
 
 -- ---- readings
 
-byteFrom : Read ℕ → ByteRead
-byteFrom (got a next) = ByteR.Is a next
-byteFrom (refused f) = ByteR.Refused (faultFrom f)
+-- what a reading was told as: its value and place, or its fault
+readFrom : {R A : Type 0} → (A → ℕ → R) → (Fault → R) → Read A → R
+readFrom told lost (got a next) = told a next
+readFrom told lost (refused f) = lost (faultFrom f)
 
-byte-back : (r : ByteRead) → byteFrom (byteRead r) ≡ r
-unfolding byteFrom
+byte-back : (r : ByteRead) → readFrom ByteR.Is ByteR.Refused (byteRead r) ≡ r
+unfolding readFrom
 byte-back (ByteR.Is a next) = refl
 byte-back (ByteR.Refused f) = ap ByteR.Refused (fault-back f)
 
-spanFrom : Read Span → SpanRead
-spanFrom (got a next) = SpanR.Is a next
-spanFrom (refused f) = SpanR.Refused (faultFrom f)
-
-span-back : (r : SpanRead) → spanFrom (spanRead r) ≡ r
-unfolding spanFrom
+span-back : (r : SpanRead) → readFrom SpanR.Is SpanR.Refused (spanRead r) ≡ r
+unfolding readFrom
 span-back (SpanR.Is a next) = refl
 span-back (SpanR.Refused f) = ap SpanR.Refused (fault-back f)
 
-tlfFrom : Read TypeLengthField → TlfRead
-tlfFrom (got a next) = TlfR.Is a next
-tlfFrom (refused f) = TlfR.Refused (faultFrom f)
-
-tlf-back : (r : TlfRead) → tlfFrom (tlfRead r) ≡ r
-unfolding tlfFrom
+tlf-back : (r : TlfRead) → readFrom TlfR.Is TlfR.Refused (tlfRead r) ≡ r
+unfolding readFrom
 tlf-back (TlfR.Is a next) = refl
 tlf-back (TlfR.Refused f) = ap TlfR.Refused (fault-back f)
 
-u8From : Read ℕ → U8Read
-u8From (got a next) = U8R.Is a next
-u8From (refused f) = U8R.Refused (faultFrom f)
-
-u8-back : (r : U8Read) → u8From (u8Read r) ≡ r
-unfolding u8From
+u8-back : (r : U8Read) → readFrom U8R.Is U8R.Refused (u8Read r) ≡ r
+unfolding readFrom
 u8-back (U8R.Is a next) = refl
 u8-back (U8R.Refused f) = ap U8R.Refused (fault-back f)
 
-u16From : Read ℕ → U16Read
-u16From (got a next) = U16R.Is a next
-u16From (refused f) = U16R.Refused (faultFrom f)
-
-u16-back : (r : U16Read) → u16From (u16Read r) ≡ r
-unfolding u16From
+u16-back : (r : U16Read) → readFrom U16R.Is U16R.Refused (u16Read r) ≡ r
+unfolding readFrom
 u16-back (U16R.Is a next) = refl
 u16-back (U16R.Refused f) = ap U16R.Refused (fault-back f)
 
-u32From : Read ℕ → U32Read
-u32From (got a next) = U32R.Is a next
-u32From (refused f) = U32R.Refused (faultFrom f)
-
-u32-back : (r : U32Read) → u32From (u32Read r) ≡ r
-unfolding u32From
+u32-back : (r : U32Read) → readFrom U32R.Is U32R.Refused (u32Read r) ≡ r
+unfolding readFrom
 u32-back (U32R.Is a next) = refl
 u32-back (U32R.Refused f) = ap U32R.Refused (fault-back f)
 
-u64From : Read ℕ → U64Read
-u64From (got a next) = U64R.Is a next
-u64From (refused f) = U64R.Refused (faultFrom f)
-
-u64-back : (r : U64Read) → u64From (u64Read r) ≡ r
-unfolding u64From
+u64-back : (r : U64Read) → readFrom U64R.Is U64R.Refused (u64Read r) ≡ r
+unfolding readFrom
 u64-back (U64R.Is a next) = refl
 u64-back (U64R.Refused f) = ap U64R.Refused (fault-back f)
 
-i8From : Read ℤ → I8Read
-i8From (got a next) = I8R.Is a next
-i8From (refused f) = I8R.Refused (faultFrom f)
-
-i8-back : (r : I8Read) → i8From (i8Read r) ≡ r
-unfolding i8From
+i8-back : (r : I8Read) → readFrom I8R.Is I8R.Refused (i8Read r) ≡ r
+unfolding readFrom
 i8-back (I8R.Is a next) = refl
 i8-back (I8R.Refused f) = ap I8R.Refused (fault-back f)
 
-i16From : Read ℤ → I16Read
-i16From (got a next) = I16R.Is a next
-i16From (refused f) = I16R.Refused (faultFrom f)
-
-i16-back : (r : I16Read) → i16From (i16Read r) ≡ r
-unfolding i16From
+i16-back : (r : I16Read) → readFrom I16R.Is I16R.Refused (i16Read r) ≡ r
+unfolding readFrom
 i16-back (I16R.Is a next) = refl
 i16-back (I16R.Refused f) = ap I16R.Refused (fault-back f)
 
-i32From : Read ℤ → I32Read
-i32From (got a next) = I32R.Is a next
-i32From (refused f) = I32R.Refused (faultFrom f)
-
-i32-back : (r : I32Read) → i32From (i32Read r) ≡ r
-unfolding i32From
+i32-back : (r : I32Read) → readFrom I32R.Is I32R.Refused (i32Read r) ≡ r
+unfolding readFrom
 i32-back (I32R.Is a next) = refl
 i32-back (I32R.Refused f) = ap I32R.Refused (fault-back f)
 
-i64From : Read ℤ → I64Read
-i64From (got a next) = I64R.Is a next
-i64From (refused f) = I64R.Refused (faultFrom f)
-
-i64-back : (r : I64Read) → i64From (i64Read r) ≡ r
-unfolding i64From
+i64-back : (r : I64Read) → readFrom I64R.Is I64R.Refused (i64Read r) ≡ r
+unfolding readFrom
 i64-back (I64R.Is a next) = refl
 i64-back (I64R.Refused f) = ap I64R.Refused (fault-back f)
 
-boolFrom : Read Bool → BoolRead
-boolFrom (got a next) = BoolR.Is a next
-boolFrom (refused f) = BoolR.Refused (faultFrom f)
-
-bool-back : (r : BoolRead) → boolFrom (boolRead r) ≡ r
-unfolding boolFrom
+bool-back : (r : BoolRead) → readFrom BoolR.Is BoolR.Refused (boolRead r) ≡ r
+unfolding readFrom
 bool-back (BoolR.Is a next) = refl
 bool-back (BoolR.Refused f) = ap BoolR.Refused (fault-back f)
 
@@ -222,12 +176,8 @@ unfolding fieldFrom
 field-back (Present span) = refl
 field-back Absent = refl
 
-optFrom : Read (Option Span) → OptSpanRead
-optFrom (got a next) = OptSpanR.Is (fieldFrom a) next
-optFrom (refused f) = OptSpanR.Refused (faultFrom f)
-
-opt-back : (r : OptSpanRead) → optFrom (optSpanRead r) ≡ r
-unfolding optFrom
+opt-back : (r : OptSpanRead) → readFrom (λ a next. OptSpanR.Is (fieldFrom a) next) OptSpanR.Refused (optSpanRead r) ≡ r
+unfolding readFrom
 opt-back (OptSpanR.Is a next) = ap (λ (f : OptSpan). OptSpanR.Is f next) (field-back a)
 opt-back (OptSpanR.Refused f) = ap OptSpanR.Refused (fault-back f)
 
@@ -286,20 +236,20 @@ push-both r r′ h =
 pub views : Views
 views =
     record {
-      byte = undone byteRead byteFrom byte-back;
-      span = undone spanRead spanFrom span-back;
-      tlf = undone tlfRead tlfFrom tlf-back;
-      u8 = undone u8Read u8From u8-back;
-      u16 = undone u16Read u16From u16-back;
-      u32 = undone u32Read u32From u32-back;
-      u64 = undone u64Read u64From u64-back;
-      i8 = undone i8Read i8From i8-back;
-      i16 = undone i16Read i16From i16-back;
-      i32 = undone i32Read i32From i32-back;
-      i64 = undone i64Read i64From i64-back;
-      bool = undone boolRead boolFrom bool-back;
+      byte = undone byteRead (readFrom ByteR.Is ByteR.Refused) byte-back;
+      span = undone spanRead (readFrom SpanR.Is SpanR.Refused) span-back;
+      tlf = undone tlfRead (readFrom TlfR.Is TlfR.Refused) tlf-back;
+      u8 = undone u8Read (readFrom U8R.Is U8R.Refused) u8-back;
+      u16 = undone u16Read (readFrom U16R.Is U16R.Refused) u16-back;
+      u32 = undone u32Read (readFrom U32R.Is U32R.Refused) u32-back;
+      u64 = undone u64Read (readFrom U64R.Is U64R.Refused) u64-back;
+      i8 = undone i8Read (readFrom I8R.Is I8R.Refused) i8-back;
+      i16 = undone i16Read (readFrom I16R.Is I16R.Refused) i16-back;
+      i32 = undone i32Read (readFrom I32R.Is I32R.Refused) i32-back;
+      i64 = undone i64Read (readFrom I64R.Is I64R.Refused) i64-back;
+      bool = undone boolRead (readFrom BoolR.Is BoolR.Refused) bool-back;
       check = undone spanCheck checkFrom check-back;
-      optional-span = undone optSpanRead optFrom opt-back;
+      optional-span = undone optSpanRead (readFrom (λ a next. OptSpanR.Is (fieldFrom a) next) OptSpanR.Refused) opt-back;
       next = next-one;
       encoded = encode-one;
       pushed = push-both;

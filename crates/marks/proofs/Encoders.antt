@@ -1,15 +1,14 @@
 -- The Encoder's calls give encode's bytes.
-use mathlib.Core.Path.{_≡_, refl, ap, sym, _∙_}
-use mathlib.Core.List.{List, [], _∷_, _++_, map}
+use mathlib.Core.Path.{_≡_, refl, ap, _∙_}
+use mathlib.Core.List.{List, _∷_}
 use Prim.Native.Nat.{ℕ, zero, suc, _+_}
-use lib.ListN.{length, replicate}
+use lib.ListN.{length}
 use Rattle.frame.specs.Frame.{frameOf}
 use Rattle.encoder.specs.declared.Encoder.{Encoder}
 use Rattle.encoder.specs.Encode.{encodeTo}
-use Rattle.encoder.specs.Encoder.{Next, byte, finished, fresh, nextStep}
+use Rattle.encoder.specs.Encoder.{Next, fresh, nextStep}
 use Rattle.encoder.specs.Calls as E
 use Rattle.encoder.proofs.Calls.{gives-the-frame}
-use Rattle.marks.specs.Mark3.{wroteFor}
 use Rattle.marks.specs.Encoders.{ourEncoder, calls, SameBytes}
 use Rattle.marks.proofs.Recovery.{wrote-frame}
 

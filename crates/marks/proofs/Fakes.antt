@@ -1,24 +1,25 @@
 -- Each fake falls: one small run, computed, is not what the claim says.
 use mathlib.Core.Path.{_≡_, refl, ap}
-use mathlib.Core.Bool.{Bool, true, false}
+use mathlib.Core.Bool.{Bool, true, false, cond, false≢true}
 use mathlib.Core.List.{List, [], _∷_, _++_, map}
-use Prim.Native.Nat.{ℕ, zero, suc, _+_, _≤_}
+use Prim.Native.Nat.{ℕ, zero, suc, _+_, _≤_, _<_}
 use native.Mathlib.Omega.{arith}
-use lib.ListN.{length, getD, replicate}
+use lib.ListN.{length, getD, take, replicate}
+use lib.Dec.{ltb}
+use Rattle.frame.proofs.Cases.{by-lt}
 use Rattle.crc_x25.specs.Crc.{reflect, polynomial, bitStep, bitSteps, byteStep, register, finalXor, crcOf}
 use Rattle.frame.specs.Frame.{Sound, escaped, closed, frameOf, framed}
-use Rattle.encoder.specs.Encode.{encodeTo, Leaves, length-is}
-use Rattle.encoder.specs.Encode as E
+use Rattle.encoder.specs.Encode.{encodeTo}
 use Rattle.encoder.specs.Encoder.{Next, byte, finished}
 use Rattle.encoder.specs.Encoder as N
 use Rattle.decoder.specs.Push.{Setup, searching, store, same, finish, judge, step, finalized}
-use Rattle.decoder.specs.Record.{Answer, nothing, payload, count, refused, wrote, badState, wrongBuffer, pushed, pushRecord, finalizeRecord, newRecord}
-use Rattle.decoder.specs.Run.{Op, push, act}
-use Rattle.marks.specs.Decoders.{Machine, answers, countFrom, ours}
-use Rattle.marks.specs.Mark2.{Completeness, OurSearch}
-use Rattle.marks.specs.Mark3.{Job, framesFor, restSays, Mark3, Suits, AllSuit}
+use Rattle.decoder.specs.Record.{Answer, nothing, payload, count, refused, wrote, badState, wrongBuffer, pushed, pushRecord, finalizeRecord, newRecord, hasPayload, payloadRecord}
+use Rattle.decoder.specs.Run.{push, act}
+use Rattle.marks.specs.Decoders.{answers, behind, countFrom, ours}
+use Rattle.marks.specs.Mark2.{PushesBytes, Soundness, Completeness, OurSearch}
+use Rattle.marks.specs.Mark3.{Job, framesFor, restSays, Mark3, Suits}
 use Rattle.marks.specs.Encoders.{calls, SameBytes}
-use Rattle.marks.specs.Bench.{Said, Outcome, encoded, events, field, string, signed, unsigned, saidFrom, Holds, payload1, frame1, b1, b3, b6}
+use Rattle.marks.specs.Bench.{Outcome, encoded, events, field, string, signed, unsigned, saidFrom, Holds, payload1, frame1, b1, b3, b6}
 use Rattle.marks.specs.Fakes.{refuses, constant, idle, invents, once, writesNothing, refusesToEncode, finishedAtOnce, Fall}
 use Rattle.marks.proofs.Completeness.{new-searches}
 
@@ -96,6 +97,23 @@ idle-mark2 h =
     let z : _≡_ {A = ℕ} 0 1018 = ap (codeAt 19) e in
     omega arith
 
+below : List ℕ → Bool
+below [] = true
+below (b ∷ l) = cond (ltb b 256) (below l) false
+
+below-is : (l : List ℕ) → below l ≡ true → PushesBytes (map push l)
+unfolding below
+below-is [] = λ e. tt
+below-is (b ∷ l) = by-lt (λ (t : Bool). t ≡ true → (b < 256) × PushesBytes (map push l)) b 256 (below l) false (λ h e. (h, below-is l e)) (λ h e. absurd (false≢true e))
+
+-- B1's frame, byte by byte: what is handed back is not what was answered
+constant-mark2 : Soundness constant → ⊥
+unfolding below behind payloadRecord hasPayload reflect polynomial bitStep bitSteps byteStep register finalXor crcOf searching store same finish judge step finalized wrote badState wrongBuffer pushed pushRecord finalizeRecord act
+constant-mark2 h =
+    let e = h C zeros refl (omega arith) (map push (take 19 frame1)) (push 0x7b) (0x2a ∷ []) (below-is frame1 refl) refl .1 in
+    let z : _≡_ {A = ℕ} 0x12 0x2a = ap (λ (l : List ℕ). getD l 0 0) e in
+    omega arith
+
 -- ---- mark 3
 
 refuses-mark3 : Mark3 refuses encodeTo → ⊥
@@ -163,6 +181,7 @@ fall =
       refuses-b3 = refuses-b3;
       refuses-mark3 = refuses-mark3;
       refuses-b1 = refuses-b1;
+      constant-mark2 = constant-mark2;
       constant-mark3 = constant-mark3;
       idle-mark2 = idle-mark2;
       idle-mark3 = idle-mark3;

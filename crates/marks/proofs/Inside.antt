@@ -1,14 +1,14 @@
 -- What a decoder in a frame has kept of the bytes since the frame began.
 use mathlib.Core.Path.{_≡_, refl, ap, sym, _∙_}
 use mathlib.Core.List.{List, [], _∷_, _++_, append-assoc, append-nil}
-use Prim.Native.Nat.{ℕ, zero, suc, _+_, _-_, _≤_, _<_}
+use Prim.Native.Nat.{ℕ, suc, _+_, _-_, _≤_}
 use native.Mathlib.Omega.{arith}
-use lib.ListN.{length, replicate, drop, take, length-append, length-replicate}
-use lib.Seq.{take-append-le, drop-at, take-at, drop-append-le, drop-length, drop-append-seam}
+use lib.ListN.{length, replicate, drop, take, length-append}
+use lib.Seq.{take-append-le, take-at, drop-append-le}
 use Rattle.crc_x25.specs.Crc.{register, finalXor}
 use Rattle.crc_x25.proofs.Laws.{register-append, register-none}
-use Rattle.frame.specs.Frame.{escSeq, startSeq}
-use Rattle.decoder.specs.Push.{Mem, put, tick, opened, computed}
+use Rattle.frame.specs.Frame.{startSeq}
+use Rattle.decoder.specs.Push.{Mem, put, tick, computed}
 use Rattle.frame.proofs.Escapes.{replicate-snoc}
 
 -- r 1b wait; D is the data read, with those; h is all that was pushed since the frame began, its start included

@@ -8,3 +8,4 @@ pub mod Bench
 pub mod Encoders
 pub mod Decided
 pub mod Fakes
+pub mod Marks

@@ -1,17 +1,16 @@
 -- From any state that a decoder comes to, C + 5 zero bytes bring it back to a search, and then every frame is heard.
 use mathlib.Core.Path.{_≡_, refl, ap, sym, _∙_, subst}
-use mathlib.Core.Bool.{Bool, true, false, cond, false≢true}
-use mathlib.Core.List.{List, [], _∷_, _++_, append-assoc, append-nil, map}
-use Prim.Native.Nat.{ℕ, zero, suc, _+_, _-_, _*_, _%_, _≤_, _<_, min}
+use mathlib.Core.Bool.{Bool, false}
+use mathlib.Core.List.{List, [], _∷_, _++_, map}
+use Prim.Native.Nat.{ℕ, zero, suc, _+_, _-_, _≤_, _<_}
 use native.Mathlib.Omega.{arith}
-use lib.ListN.{length, replicate, drop, take, getD, length-append, length-replicate}
+use lib.ListN.{length, replicate, drop, length-append}
 use lib.Seq.{drop-append-le, take-at}
 use borrow.Author.Tests.{ne-eqb, le-leb}
 use lib.Dec.{ltb}
-use Rattle.frame.specs.Frame.{missing, escSeq, restartSeq, frameOf, closed}
-use Rattle.decoder.specs.Push.{Setup, Mem, State, search, body, escape, done, Event, silent, discarded, got, memory, badEscape, badMessage, Out, begun, searching, says, put, starts, step, noticed, fresh, stopped}
+use Rattle.frame.specs.Frame.{restartSeq, frameOf, closed}
+use Rattle.decoder.specs.Push.{Setup, Mem, State, search, body, escape, done, silent, memory, Out, searching, says, put, starts, step, noticed, fresh, stopped}
 use Rattle.decoder.specs.Record.{Answer, nothing, payload, count, refused, numbered, newRecord}
-use Rattle.decoder.specs.Run as R
 use Rattle.decoder.specs.Run.{Op, push, finalize, reset, act, run, runState, stateBehind, actState, answerState}
 use Rattle.decoder.specs.Saw as W
 use Rattle.decoder.specs.Saw.{Judged, is-data, restarts, good, bad, shifts, Saw, matched, began, missed, again, waits, opens, stores, full, reads, judges, full′}
@@ -20,10 +19,10 @@ use Rattle.decoder.proofs.Faithful.{contents}
 use Rattle.decoder.proofs.Runs.{run-new}
 use Rattle.decoder.specs.declared.Decoder.{Decoder}
 use Rattle.encoder.specs.Encode.{limit, encodeTo}
-use Rattle.marks.specs.Decoders.{Machine, ours, answers, countFrom, countSince, frameSays}
-use Rattle.marks.specs.Mark3.{Encode, Job, Suits, AllSuit, part, wroteFor, framesFor, restSays, Mark3}
-use Rattle.frame.proofs.Cases.{by-test, by-eq, by-le, by-lt}
-use Rattle.marks.proofs.RoundTrip.{Decodes, round-trip}
+use Rattle.marks.specs.Decoders.{ours, answers, countFrom, countSince, frameSays}
+use Rattle.marks.specs.Mark3.{Job, Suits, AllSuit, wroteFor, framesFor, restSays, Mark3}
+use Rattle.frame.proofs.Cases.{by-test}
+use Rattle.marks.proofs.RoundTrip.{round-trip}
 
 -- ---- what holds of each state: n bytes were pushed since the last event
 

@@ -5,19 +5,19 @@ use Prim.Native.Nat.{ℕ, zero, suc, _+_, _-_, _*_, _%_, _/_, _≤_, _<_}
 use native.Mathlib.Omega.{arith}
 use native.Mathlib.Nat.{mod-add-div}
 use lib.ListN.{length, replicate, drop, take, length-append, length-replicate}
-use lib.Seq.{drop-at, take-at, drop-append-le, drop-append-seam, take-append-le}
-use borrow.Author.Tests.{eq-eqb, ne-eqb, le-leb, lt-leb, lt-ltb}
+use lib.Seq.{take-at, drop-append-seam}
+use borrow.Author.Tests.{eq-eqb, le-leb, lt-leb}
 use Rattle.crc_x25.specs.Crc.{register, finalXor, crcOf}
 use Rattle.crc_x25.proofs.Laws.{register-append, register-none, crc-is}
 use Rattle.frame.specs.Frame.{Sound, missing, escSeq, startSeq, escaped, closed, framed, frameOf}
 use Rattle.decoder.specs.Push.{Setup, Mem, State, search, body, escape, done, silent, got, Out, begun, searching, says, put, tick, opened, store, same, judge, finish, computed, step, noticed, fresh, memory}
 use Rattle.decoder.specs.Record.{Answer, nothing, payload, numbered}
 use Rattle.decoder.specs.Run as R
-use Rattle.decoder.specs.Run.{Op, runState, stateBehind, actState, answerState}
+use Rattle.decoder.specs.Run.{Op, runState, actState, answerState}
 use Rattle.marks.specs.Decoders.{frameSays}
 use Rattle.frame.proofs.Cases.{either}
-use Rattle.frame.proofs.Escapes.{run, swap-escSeq, run-le, escaped-append, escaped-zeros, escaped-other, run-other, escaped-wait, run-wait, escaped-fourth, run-fourth}
-use Rattle.marks.proofs.Rules.{Silent, stop, push, then, step-other, step-wait, step-open, step-read, step-judge, silent-behind, silent-run, quiet}
+use Rattle.frame.proofs.Escapes.{run, swap-escSeq, run-le, escaped-append, escaped-zeros, escaped-other, run-other, escaped-wait, run-wait}
+use Rattle.marks.proofs.Rules.{Silent, stop, push, then, step-other, step-wait, step-open, step-read, step-judge, silent-run, quiet}
 use Rattle.marks.proofs.Inside.{Inside, begins, inside-other, inside-wait, computed-is, trimmed}
 
 -- ---- the data

@@ -1,19 +1,15 @@
 -- What a push does, rule by rule, and runs of pushes that say nothing.
-use mathlib.Core.Path.{_≡_, refl, ap, sym, _∙_}
-use mathlib.Core.Bool.{Bool, true, false, cond, false≢true}
-use mathlib.Core.List.{List, [], _∷_, _++_, append-assoc, append-nil, map}
-use Prim.Native.Nat.{ℕ, zero, suc, _+_, _-_, _%_, _≤_, _<_}
+use mathlib.Core.Path.{_≡_, refl, ap, _∙_}
+use mathlib.Core.List.{List, [], _∷_, _++_, append-assoc, map}
+use Prim.Native.Nat.{ℕ, suc, _+_, _-_, _≤_, _<_}
 use native.Mathlib.Omega.{arith}
 use lib.ListN.{length, replicate, drop, length-append, length-replicate}
 use lib.Seq.{drop-at}
-use lib.Dec.{eqb, ltb, leb}
-use borrow.Author.Tests.{leb-true, eq-eqb, ne-eqb, le-leb, lt-ltb}
-use Rattle.frame.proofs.Cases.{by-eq, by-le}
-use Rattle.frame.specs.Frame.{escSeq}
-use Rattle.decoder.specs.Push.{Setup, Mem, State, search, body, escape, done, Event, silent, Out, says, same, sound?, computed, put, tick, opened, store, judge, step}
+use borrow.Author.Tests.{ne-eqb, le-leb, lt-ltb}
+use Rattle.decoder.specs.Push.{Setup, Mem, State, body, escape, silent, Out, says, put, tick, opened, store, judge, step}
 use Rattle.decoder.specs.Record.{Answer, nothing, numbered}
 use Rattle.decoder.specs.Run as R
-use Rattle.decoder.specs.Run.{Op, runState, stateBehind, actState, answerState}
+use Rattle.decoder.specs.Run.{Op, runState, actState, answerState}
 
 pub store-fits : (C : Setup) (m : Mem) (l : List ℕ) (k : Mem → Out) → length (m .stored) + length l ≤ C .capacity → store C m l k ≡ k (put m l)
 unfolding store
@@ -57,11 +53,6 @@ then (push e q) r = push e (then q r)
 -- one `nothing` for each byte
 abbrev pub quiet : List ℕ → List Answer
 quiet l = map (λ b. nothing) l
-
-pub silent-behind : {C : Setup} {s t : State} {a : List ℕ} → Silent C s a t → (os : List Op) → stateBehind C s (map R.push a ++ os) ≡ stateBehind C t os
-unfolding stateBehind actState
-silent-behind stop os = refl
-silent-behind {C} (push {l = l} e q) os = ap (λ (o : Out). stateBehind C (o .state) (map R.push l ++ os)) e ∙ silent-behind q os
 
 pub silent-run : {C : Setup} {s t : State} {a : List ℕ} → Silent C s a t → (os : List Op) → runState C s (map R.push a ++ os) ≡ quiet a ++ runState C t os
 unfolding runState actState answerState

@@ -1,19 +1,17 @@
 -- A payload is given only at the last byte of a sound frame for it.
 use mathlib.Core.Path.{_≡_, refl, ap, sym, _∙_, subst}
-use mathlib.Core.Bool.{Bool, true, false, cond, false≢true}
+use mathlib.Core.Bool.{true, false, false≢true}
 use mathlib.Core.List.{List, [], _∷_, _++_, append-assoc, append-nil}
 use Prim.Native.Nat.{ℕ, zero, suc, _+_, _-_, _*_, _%_, _/_, _≤_, _<_}
 use native.Mathlib.Omega.{arith}
-use native.Mathlib.Nat.{add-comm}
-use lib.ListN.{length, replicate, drop, take, getD, length-append, length-replicate, replicate-append-replicate}
-use lib.Seq.{drop-at, take-at, drop-append-le, drop-append-seam, take-append-le, drop-length}
-use lib.Dec.{eqb, leb, ltb}
-use borrow.Author.Tests.{eq-eqb, ne-eqb, eqb-true, leb-true}
+use lib.ListN.{length, replicate, drop, take, getD, length-append}
+use lib.Seq.{drop-append-le, drop-length}
+use borrow.Author.Tests.{eqb-true}
 use Rattle.crc_x25.specs.Crc.{register, finalXor, crcOf}
 use Rattle.crc_x25.proofs.Laws.{register-append, register-none, crc-is}
 use Rattle.frame.specs.Frame.{Sound, missing, escSeq, restartSeq, startSeq, escaped, closed, framed}
 use Rattle.decoder.specs.Push.{Setup, Mem, State, search, body, escape, done, Event, silent, discarded, got, memory, badEscape, badMessage, Out, begun, searching, says, put, tick, opened, store, same, starts, early, sound?, judge, finish, computed, step, noticed, fresh, finalized}
-use Rattle.decoder.specs.Record.{Answer, nothing, payload, count, refused, numbered, After, after, setup, viewAs, view, newRecord, badState, wrongBuffer, stands, hasPayload, payloadRecord}
+use Rattle.decoder.specs.Record.{Answer, nothing, payload, count, refused, numbered, After, after, viewAs, view, newRecord, stands, hasPayload, payloadRecord}
 use Rattle.decoder.specs.Run as R
 use Rattle.decoder.specs.Run.{Op, push, finalize, reset, act, runState, stateBehind, actState, answerState}
 use Rattle.decoder.specs.Saw.{Passed}
@@ -23,12 +21,12 @@ use Rattle.decoder.specs.declared.Decoder.{Decoder}
 use Rattle.decoder.proofs.Saw.{same-true, passed}
 use Rattle.decoder.proofs.Payload.{got-done}
 use Rattle.decoder.proofs.Faithful.{Fit}
-use Rattle.decoder.proofs.Runs.{Acts, acts, Leads, leads, new-fit}
-use Rattle.marks.specs.Decoders.{Gave, gave, ours, answers, behind, bytesFrom}
+use Rattle.decoder.proofs.Runs.{acts, Leads, leads, new-fit}
+use Rattle.marks.specs.Decoders.{gave, ours, behind, bytesFrom}
 use Rattle.marks.specs.Mark2.{PushesBytes, EndsFrame, Soundness}
-use Rattle.frame.proofs.Cases.{by-test, by-eq, by-le, by-lt, either}
+use Rattle.frame.proofs.Cases.{by-test, by-eq, by-le, by-lt}
 use Rattle.marks.proofs.Rules.{last-four}
-use Rattle.frame.proofs.Escapes.{run, swap-escSeq, escaped-append, run-append, escaped-few, run-few, escaped-other, run-other, escaped-nil, run-nil, replicate-snoc}
+use Rattle.frame.proofs.Escapes.{run, swap-escSeq, escaped-append, run-append, escaped-few, escaped-other, run-other, escaped-nil, run-nil, replicate-snoc}
 use Rattle.marks.proofs.Inside.{computed-is, trimmed}
 use Rattle.marks.proofs.Recovery.{answers-new}
 
@@ -527,6 +525,5 @@ module _ (C : Setup) (m : List ℕ) (l : length m ≡ C .capacity) (le : C .capa
 
 pub soundness : Soundness ours
 soundness C m l le os o P bytes e =
-    let a : Gave Decoder = behind ours (newRecord (C .capacity)) m os o in
     let i = behind-is os (after nothing (newRecord (C .capacity)) m) o in
     rw (answers-new C m os l le, i) (only-push C m l le os P o bytes (rw i at e))

@@ -1,10 +1,10 @@
 -- What a reader must believe: the bench sheet of document 01, B1 to B14, as one table of inputs and outcomes.
 use mathlib.Core.Path.{_≡_}
 use mathlib.Core.List.{List, [], _∷_, _++_, map}
-use mathlib.Core.Option.{Option, some, none}
+use mathlib.Core.Option.{Option, some}
 use Prim.Native.Nat.{ℕ, suc}
 use lib.ListN.{replicate}
-use lib.IntN.{ℤ, pos, negsuc}
+use lib.IntN.{ℤ, negsuc}
 use Rattle.tlf.specs.Read.{Read, got, Refusal}
 use Rattle.tlf.specs.Read as L
 use Rattle.tlf.specs.Lengths.{tlfAt}
@@ -15,9 +15,8 @@ use Rattle.num.specs.Numbers.{unsignedAt, signedAt}
 use Rattle.octet_string.specs.Strings.{octetsAt}
 use Rattle.octet_string.specs.Optional.{optional}
 use Rattle.encoder.specs.Encode.{Leaves, leaves, length-is}
-use Rattle.decoder.specs.Push.{Setup}
 use Rattle.decoder.specs.Record.{Answer, nothing, payload, count, refused}
-use Rattle.decoder.specs.Run.{Op, push, finalize}
+use Rattle.decoder.specs.Run.{push, finalize}
 use Rattle.marks.specs.Decoders.{Machine, answers}
 use Rattle.marks.specs.Mark3.{Encode}
 

@@ -100,6 +100,7 @@ pub record Fall : Type 0 where
   pub refuses-b3 : Holds refuses encodeTo b3 → ⊥
   pub refuses-mark3 : Mark3 refuses encodeTo → ⊥
   pub refuses-b1 : Holds ours refusesToEncode b1 → ⊥
+  pub constant-mark2 : Soundness constant → ⊥
   pub constant-mark3 : Mark3 constant encodeTo → ⊥
   pub idle-mark2 : Completeness idle OurSearch → ⊥
   pub idle-mark3 : Mark3 idle encodeTo → ⊥

@@ -5,3 +5,4 @@ pub mod Encoders
 pub mod Bench
 pub mod Decided
 pub mod Fakes
+pub mod Marks
