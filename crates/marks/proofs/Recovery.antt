@@ -273,14 +273,14 @@ unfolding answers run
 answers-run [] d m = refl
 answers-run (o ∷ os) d m = ap (λ (l : List Answer). act d m o .answer ∷ l) (answers-run os (act d m o .decoder) (act d m o .memory))
 
-pub answers-new : (C : Setup) (m : List ℕ) (os : List Op) → length m ≡ C .capacity → C .capacity ≤ 1048576 → answers ours (newRecord (C .capacity)) m os ≡ runState C fresh os
+pub answers-new : (C : Setup) (m : List ℕ) (os : List Op) → length m ≡ C .capacity → C .capacity ≤ 1048576 → answers ours (ours .new C) m os ≡ runState C fresh os
 answers-new C m os l le = answers-run os (newRecord (C .capacity)) m ∙ run-new (C .capacity) m os l le
 
 pub mark3 : Mark3 ours encodeTo
 mark3 C m l le before j js fit =
     let os : List Op = before ++ replicate (C .capacity + 5) (push 0) in
     let fs : List Op = map push (framesFor encodeTo (j ∷ js)) in
-    let heard : List Answer = answers ours (newRecord (C .capacity)) m os in
+    let heard : List Answer = answers ours (ours .new C) m os in
     let same : heard ≡ runState C fresh os = answers-new C m os l le in
     let t : Searching C fresh 0 os = recovers C before fresh 0 (ok-fresh C) in
     answers-new C m (os ++ fs) l le ∙ run-append C os fs fresh
