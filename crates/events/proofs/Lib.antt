@@ -4,3 +4,4 @@ pub mod Places
 pub mod Lists
 pub mod Whole
 pub mod Vectors
+pub mod Cuts

@@ -14,39 +14,7 @@ use Rattle.trailer.specs.Trailer.{trailerAt}
 use Rattle.streaming.specs.Next.{Event, starts, entry, ends, Said, event, noEvent, failed}
 use Rattle.events.specs.Message.{Content, Message, entriesAt, contentOf, messageAt}
 use Rattle.events.specs.Events.{Answers, says, atStart, inside, entriesFrom, contentFrom, messagesFrom}
-
--- several events, and then the rest
-unfoldable pub saysAll : List (Event Span) → Answers → Answers
-saysAll [] a = a
-saysAll (e ∷ es) a = says e (saysAll es a)
-
--- the events of entries, and behind them those of `es`
-unfoldable pub entryEvents : List (ListEntry Span) → List (Event Span) → List (Event Span)
-entryEvents [] es = es
-entryEvents (x ∷ xs) es = entry x ∷ entryEvents xs es
-
-abbrev pub endEvents : Option (ListEnd Span) → List (Event Span)
-endEvents (some e) = ends e ∷ []
-endEvents none = []
-
--- the events of a message: its start, its entries, its end
-unfoldable pub messageEvents : Message Span → List (Event Span)
-messageEvents m = starts (m .start) ∷ entryEvents (m .content .entries) (endEvents (m .content .end))
-
--- the first answer that is a refusal
-unfoldable pub firstRefusal : List Said → Option Refusal
-firstRefusal [] = none
-firstRefusal (event e ∷ xs) = firstRefusal xs
-firstRefusal (noEvent ∷ xs) = firstRefusal xs
-firstRefusal (failed f ∷ xs) = some f
-
--- the answers tell what a reading says: its events and what follows, or its refusal
-abbrev Telling : {A : Type 0} → (A → List (Event Span)) → Read A → Answers → (ℕ → Answers) → Type 0
-Telling events (got x n) a k = a ≡ saysAll (events x) (k n)
-Telling events (refused f) a k = firstRefusal (a .first) ≡ some f
-
-pub record Tells {A : Type 0} (events : A → List (Event Span)) (r : Read A) (a : Answers) (k : ℕ → Answers) : Type 0 where
-  pub tells : Telling events r a k
+use Rattle.events.specs.Telling.{saysAll, entryEvents, endEvents, messageEvents, firstRefusal, Tells}
 
 entry-more : (e : ListEntry Span) (r : Read (List (ListEntry Span))) (a : Answers) (k : ℕ → Answers) → Tells (λ xs. entryEvents xs []) r a k
     → Tells (λ xs. entryEvents xs []) (then r λ es m. got (e ∷ es) m) (says (entry e) a) k
