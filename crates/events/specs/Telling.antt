@@ -1,0 +1,45 @@
+-- What a reader must believe: how the answers of the calls tell what a whole message says.
+use Prim.Native.Nat.{ℕ}
+use mathlib.Core.Path.{_≡_}
+use mathlib.Core.List.{List, [], _∷_}
+use mathlib.Core.Option.{Option, some, none}
+use Rattle.tlf.specs.Read.{Read, got, refused, Refusal}
+use Rattle.tlf.specs.declared.Span.{Span}
+use Rattle.common.specs.Fields.{ListEntry}
+use Rattle.message.specs.Messages.{ListEnd}
+use Rattle.streaming.specs.Next.{Event, starts, entry, ends, Said, event, noEvent, failed}
+use Rattle.events.specs.Message.{Message}
+use Rattle.events.specs.Events.{Answers, says}
+
+-- several events, and then the rest
+unfoldable pub saysAll : List (Event Span) → Answers → Answers
+saysAll [] a = a
+saysAll (e ∷ es) a = says e (saysAll es a)
+
+-- the events of entries, and behind them those of `es`
+unfoldable pub entryEvents : List (ListEntry Span) → List (Event Span) → List (Event Span)
+entryEvents [] es = es
+entryEvents (x ∷ xs) es = entry x ∷ entryEvents xs es
+
+abbrev pub endEvents : Option (ListEnd Span) → List (Event Span)
+endEvents (some e) = ends e ∷ []
+endEvents none = []
+
+-- the events of a message: its start, its entries, its end
+unfoldable pub messageEvents : Message Span → List (Event Span)
+messageEvents m = starts (m .start) ∷ entryEvents (m .content .entries) (endEvents (m .content .end))
+
+-- the first answer that is a refusal
+unfoldable pub firstRefusal : List Said → Option Refusal
+firstRefusal [] = none
+firstRefusal (event e ∷ xs) = firstRefusal xs
+firstRefusal (noEvent ∷ xs) = firstRefusal xs
+firstRefusal (failed f ∷ xs) = some f
+
+-- the answers tell what a reading says: its events and what follows, or its refusal
+abbrev pub Telling : {A : Type 0} → (A → List (Event Span)) → Read A → Answers → (ℕ → Answers) → Type 0
+Telling events (got x n) a k = a ≡ saysAll (events x) (k n)
+Telling events (refused f) a k = firstRefusal (a .first) ≡ some f
+
+pub record Tells {A : Type 0} (events : A → List (Event Span)) (r : Read A) (a : Answers) (k : ℕ → Answers) : Type 0 where
+  pub tells : Telling events r a k
