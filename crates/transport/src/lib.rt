@@ -1,0 +1,23 @@
+// push, finalize and reset of transport.rs with the decoder lent to be changed in place, as the collector keeps one. Each is thin: the record is read whole, the decoder's
+// function by value does the work, and the record that it gives is stored whole.
+use decoder::{Decoder, Event};
+ghost use mathlib.Core.Path.{_≡_};
+ghost use Rattle.decoder.specs.Record.{leavesFinal, leavesReset, finalizeRecord, resetRecord};
+
+// Says how many bytes are lost, if any; the decoder begins again.
+pub fn finalize(d: &mut Decoder) -> Event
+    ensures { λ r. ⌜ leavesFinal (record { decoder = now (d .exit); event = r }) ≡ finalizeRecord (now (d .entry)) ⌝ }
+{
+    let r = (*d).finalize();
+    *d = r.decoder;
+    r.event
+}
+
+// Gives the number of bytes that are lost; the decoder begins again.
+pub fn reset(d: &mut Decoder) -> u32
+    ensures { λ r. ⌜ leavesReset (record { decoder = now (d .exit); count = r }) ≡ resetRecord (now (d .entry)) ⌝ }
+{
+    let r = (*d).reset();
+    *d = r.decoder;
+    r.count
+}
