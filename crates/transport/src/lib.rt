@@ -2,7 +2,16 @@
 // function by value does the work, and the record that it gives is stored whole.
 use decoder::{Decoder, Event};
 ghost use mathlib.Core.Path.{_≡_};
-ghost use Rattle.decoder.specs.Record.{leavesFinal, leavesReset, finalizeRecord, resetRecord};
+ghost use Rattle.decoder.specs.Record.{leaves, leavesFinal, leavesReset, pushRecord, finalizeRecord, resetRecord};
+
+// Pushes a byte.
+pub fn push(d: &mut Decoder, buf: &mut [u8], b: u8) -> Event
+    ensures { λ r. ⌜ leaves (record { decoder = now (d .exit); event = r }) (now (buf .exit)) ≡ pushRecord (now (d .entry)) (now (buf .entry)) b ⌝ }
+{
+    let r = (*d).push_byte(buf, b);
+    *d = r.decoder;
+    r.event
+}
 
 // Says how many bytes are lost, if any; the decoder begins again.
 pub fn finalize(d: &mut Decoder) -> Event
