@@ -5,8 +5,11 @@ use decoder::Event;
 use decoder::Finalized;
 use decoder::Pushed;
 use decoder::Resetted;
+use encoder::Encoder;
+use encoder::Item;
 ghost use mathlib.Core.Path.{_≡_};
 ghost use Rattle.decoder.specs.Record.{leaves, leavesFinal, leavesReset, pushRecord, finalizeRecord, resetRecord};
+ghost use Rattle.encoder.specs.Encoder.{stepOf, nextStep};
 
 // Pushes a byte.
 pub fn push(d: &mut Decoder, buf: &mut [u8], b: u8) -> Event
@@ -58,4 +61,13 @@ pub fn reset_lent(d: Decoder) -> Resetted
     let mut decoder = d;
     let count = reset(&mut decoder);
     Resetted { decoder, count }
+}
+
+// Gives the next byte of the payload's frame, the Encoder lent to be changed in place. The payload is the same at every call.
+pub fn next(e: &mut Encoder, payload: &[u8]) -> Item
+    ensures { λ r. ⌜ stepOf (record { answer = r; encoder = now (e .exit) }) ≡ nextStep (now (e .entry)) (now (payload .entry)) ⌝ }
+{
+    let r = (*e).next(payload);
+    *e = r.encoder;
+    r.answer
 }
