@@ -1,11 +1,12 @@
-// push, finalize and reset of transport.rs with the decoder lent to be changed in place, as the collector keeps one. Each is thin: the record is read whole, the decoder's
-// function by value does the work, and the record that it gives is stored whole.
+// push, finalize and reset of transport.rs with the decoder lent to be changed in place, as the collector keeps one, and next with the Encoder lent. Each is thin: the record
+// is read whole, the function by value does the work, and the record that it gives is stored whole.
 use decoder::Decoder;
 use decoder::Event;
 use decoder::Finalized;
 use decoder::Pushed;
 use decoder::Resetted;
 use encoder::Encoder;
+use encoder::Given;
 use encoder::Item;
 ghost use mathlib.Core.Path.{_≡_};
 ghost use Rattle.decoder.specs.Record.{leaves, leavesFinal, leavesReset, pushRecord, finalizeRecord, resetRecord};
@@ -38,7 +39,7 @@ pub fn reset(d: &mut Decoder) -> u32
     r.count
 }
 
-// The three with plain parameters, for a program: the decoder goes into a local, which is lent to be changed in place, and is given back beside the answer.
+// push with plain parameters, for a program: the decoder goes into a local, which is lent to be changed in place, and is given back beside the event.
 pub fn push_lent(d: Decoder, buf: &mut [u8], b: u8) -> Pushed
     ensures { λ r. ⌜ leaves r (now (buf .exit)) ≡ pushRecord d (now (buf .entry)) b ⌝ }
 {
@@ -47,6 +48,7 @@ pub fn push_lent(d: Decoder, buf: &mut [u8], b: u8) -> Pushed
     Pushed { decoder, event }
 }
 
+// finalize with plain parameters.
 pub fn finalize_lent(d: Decoder) -> Finalized
     ensures { λ r. ⌜ leavesFinal r ≡ finalizeRecord d ⌝ }
 {
@@ -55,6 +57,7 @@ pub fn finalize_lent(d: Decoder) -> Finalized
     Finalized { decoder, event }
 }
 
+// reset with plain parameters.
 pub fn reset_lent(d: Decoder) -> Resetted
     ensures { λ r. ⌜ leavesReset r ≡ resetRecord d ⌝ }
 {
@@ -70,4 +73,13 @@ pub fn next(e: &mut Encoder, payload: &[u8]) -> Item
     let r = (*e).next(payload);
     *e = r.encoder;
     r.answer
+}
+
+// next with plain parameters.
+pub fn next_lent(e: Encoder, payload: &[u8]) -> Given
+    ensures { λ r. ⌜ stepOf r ≡ nextStep e (now (payload .entry)) ⌝ }
+{
+    let mut encoder = e;
+    let answer = next(&mut encoder, payload);
+    Given { answer, encoder }
 }
