@@ -29,6 +29,14 @@ fn unhex(text: &str) -> Option<Vec<u8>> {
     (0..text.len()).step_by(2).map(|i| u8::from_str_radix(&text[i..i + 2], 16).ok()).collect()
 }
 
+// A plain decimal number of at most `most`.
+fn number(text: &str, most: usize) -> Option<usize> {
+    if text.is_empty() || !text.bytes().all(|c| c.is_ascii_digit()) {
+        return None;
+    }
+    text.parse().ok().filter(|n| *n <= most)
+}
+
 // ---- events of messages, in words
 
 fn string(s: &[u8]) -> String {
@@ -186,6 +194,9 @@ fn leaf(kind: &str, i: &[u8]) -> Option<String> {
 
 // ---- the decoder
 
+// The most bytes that one zN:HH pushes.
+const MOST: usize = 1048576;
+
 enum Op {
     Bytes(Vec<u8>),
     Finalize,
@@ -200,8 +211,8 @@ fn ops(text: &str) -> Option<Vec<Op>> {
             _ if t.starts_with('b') => unhex(&t[1..]).map(Op::Bytes),
             _ if t.starts_with('z') => {
                 let (n, h) = t[1..].split_once(':')?;
-                let b = unhex(h)?;
-                Some(Op::Bytes(vec![*b.first()?; n.parse().ok()?]))
+                let b = unhex(h).filter(|b| b.len() == 1)?;
+                Some(Op::Bytes(vec![b[0]; number(n, MOST)?]))
             }
             _ => None,
         })
@@ -284,13 +295,18 @@ macro_rules! at_capacity {
     };
 }
 
-fn answer(line: &str) -> Option<String> {
+// The longest line, and the largest capacity, that is a command.
+const LINE: usize = 70000;
+const CAPACITY: usize = 4096;
+
+fn answer(line: &[u8]) -> Option<String> {
+    let line = std::str::from_utf8(line).ok().filter(|l| l.len() <= LINE)?;
     let words: Vec<&str> = line.split(' ').collect();
     Some(match words.as_slice() {
         ["encode", h] => hex(&transport::encode::<Vec<u8>>(unhex(h)?).ok()?),
         ["encode_cap", n, h] => {
             let bytes = unhex(h)?;
-            at_capacity!(n.parse::<usize>().ok()?, encode_in, &bytes)
+            at_capacity!(number(n, CAPACITY)?, encode_in, &bytes)
         }
         ["stream", h] => {
             let mut encoder = transport::encode_streaming(unhex(h)?);
@@ -305,7 +321,7 @@ fn answer(line: &str) -> Option<String> {
         ["crc", h] => format!("{:04x}", util::CRC_X25.checksum(&unhex(h)?)),
         ["push", n, o] => {
             let list = ops(o)?;
-            at_capacity!(n.parse::<usize>().ok()?, push_in, &list)
+            at_capacity!(number(n, CAPACITY)?, push_in, &list)
         }
         ["leaf", kind, h] => leaf(kind, &unhex(h)?)?,
         ["events", h] => events(&unhex(h)?),
@@ -317,8 +333,8 @@ fn main() {
     std::panic::set_hook(Box::new(|_| {}));
     let out = std::io::stdout();
     let mut out = std::io::BufWriter::new(out.lock());
-    for line in std::io::stdin().lock().lines() {
-        let line = line.unwrap_or_default();
+    for line in std::io::stdin().lock().split(b'\n') {
+        let line = line.unwrap();
         let said = std::panic::catch_unwind(|| answer(&line)).unwrap_or_else(|_| Some("panic".to_string()));
         writeln!(out, "{}", said.unwrap_or_else(|| "bad command".to_string())).unwrap();
     }

@@ -5,7 +5,8 @@ use mathlib.Core.List.{List, []}
 use Prim.Native.Nat.{ℕ}
 use lib.ListN.{getD}
 use lib.Dec.{eqb}
-use Rattle.decoder.specs.Record.{Answer, nothing, payload, count, refused, answerOf, answerAsked, After, leaves, Left, leavesFinal, leavesReset}
+use Rattle.decoder.specs.Push as P
+use Rattle.decoder.specs.Record.{Answer, numbered, nothing, payload, count, refused, answerOf, answerAsked, After, leaves, Left, leavesFinal, leavesReset}
 use Rattle.decoder.specs.declared.Event.{Event}
 use Rattle.decoder.specs.declared.Event.the-variants.{Nothing, Payload, DiscardedBytes, InvalidEsc, OutOfMemory, InvalidMessage, BadState, WrongBuffer}
 use Rattle.decoder.specs.declared.Pushed.{Pushed}
@@ -79,3 +80,28 @@ asked-back BadSpan = refl
 
 pub ask-one : (a b : Asked) → answerAsked a ≡ answerAsked b → a ≡ b
 ask-one a b h = sym (asked-back a) ∙ ap askedOf h ∙ asked-back b
+
+-- ---- and an answer says the step's event
+
+stepEvent : Answer → P.Event
+stepEvent nothing = P.silent
+stepEvent (payload bytes) = P.got bytes
+stepEvent (count n) = P.silent
+stepEvent (refused n v) =
+    cond (eqb n 3) P.memory
+    (cond (eqb n 6) (P.discarded (getD v 0 0))
+    (cond (eqb n 7) (P.badEscape (getD v 0 0) (getD v 1 0) (getD v 2 0) (getD v 3 0))
+    (P.badMessage (getD v 0 0) (getD v 1 0) (eqb (getD v 2 0) 1) (getD v 3 0))))
+
+step-back : (e : P.Event) → stepEvent (numbered e) ≡ e
+unfolding stepEvent
+step-back P.silent = refl
+step-back (P.discarded n) = refl
+step-back (P.got bytes) = refl
+step-back P.memory = refl
+step-back (P.badEscape a b c d) = refl
+step-back (P.badMessage read computed true p) = refl
+step-back (P.badMessage read computed false p) = refl
+
+pub numbered-one : (e f : P.Event) → numbered e ≡ numbered f → e ≡ f
+numbered-one e f h = sym (step-back e) ∙ ap stepEvent h ∙ step-back f

@@ -364,13 +364,13 @@ fn put_escaped(payload: &[u8], out: &mut [u8], at: usize) -> usize
 }
 
 // How many bytes one byte of the payload takes.
-fn bytes_of(n: u8, b: u8) -> usize
-    ensures { λ r. ⌜ r ≡ length (b ∷ fourMore n b) ⌝ }
+fn bytes_of(run: u8, b: u8) -> usize
+    ensures { λ r. ⌜ r ≡ length (b ∷ fourMore run b) ⌝ }
 {
     if b != 0x1b {
         return 1;
     }
-    if n == 3 { 5 } else { 1 }
+    if run == 3 { 5 } else { 1 }
 }
 
 // The escaped payload's length.

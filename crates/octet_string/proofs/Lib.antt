@@ -1,3 +1,4 @@
 pub mod Strings
 pub mod Optional
+pub mod Within
 pub mod Bench

@@ -89,7 +89,7 @@ fn drive(d: Decoder, buf: &mut [u8], chunk: &[u8]) -> Decoder
     ensures { λ r. ⌜ held r (now (buf .exit)) ≡ fed d (now (buf .entry)) (now (chunk .entry)) ⌝ }
 {
     let mut at = d;
-    let mut i = 0;
+    let mut i: usize = 0;
     while i < chunk.len() {
         let p = at.push_byte(buf, chunk[i]);
         let e = p.event;

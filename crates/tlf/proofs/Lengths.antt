@@ -2,7 +2,7 @@
 use mathlib.Core.Path.{_≡_, refl}
 use mathlib.Core.List.{List, [], _∷_}
 use mathlib.Core.Bool.{Bool, true, false}
-use Prim.Native.Nat.{ℕ, _+_, _-_, _≤_, _<_}
+use Prim.Native.Nat.{ℕ, _+_, _-_, _^_, _≤_, _<_}
 use native.Mathlib.Numerals.{add-one}
 use native.Mathlib.Omega.{arith}
 use lib.ListN.{length, getD, drop, drop-of-length-le, length-drop}
@@ -10,7 +10,7 @@ use lib.Seq.{drop-cons}
 use lib.Dec.{eqb}
 use Rattle.tlf.specs.Read.{Read, got, refused, guard, eof}
 use Rattle.tlf.specs.Refusals.{nextType}
-use Rattle.tlf.specs.Lengths.{moreFollow, typeBits, longer, lengthFrom, lessOwn, isList, tlfAt}
+use Rattle.tlf.specs.Lengths.{moreFollow, typeBits, longer, lengthFrom, lessOwn, isList, tlfAt, listOfAt}
 use Rattle.tlf.specs.declared.Ty.{Ty}
 use Rattle.tlf.proofs.Read.{Ok, ok-got, ok-guard, ok-cond, ok-weak, ok-then, ok-need, Ahead, byte-ok}
 
@@ -58,3 +58,24 @@ tlf-ok s at =
     ok-then _ _ (length-ok (length s) at (drop next s) next _ _) (λ len end (k : (next ≤ end) × (end ≤ next + length (drop next s))).
     let a = h .2 in
     ok-weak (λ t n (q : n ≡ end). record { ahead = omega arith; within = omega (arith, length-drop next s) }) (less-own-ok ty (end - at) len at end)))))
+
+pub list-of-ok : (k : ℕ) (s : List ℕ) (at : ℕ) → Ok (λ u n. Ahead s at n) (listOfAt k s at)
+unfolding listOfAt
+list-of-ok k s at = ok-then _ _ (tlf-ok s at) (λ t n a. ok-guard _ _ _ (λ e. ok-got _ _ a))
+
+len-small : (end start : ℕ) (bs : List ℕ) (i : ℕ) (more : Bool) (len : ℕ) → len < 2 ^ 32 → Ok (λ v n. v < 2 ^ 32) (lengthFrom end start bs i more len)
+unfolding lengthFrom
+len-small end start [] i more len h = ok-cond more _ _ (λ e. record { holds = tt }) (λ e. ok-got _ _ h)
+len-small end start (b ∷ bs) i more len h =
+    ok-cond more _ _ (λ e. ok-guard _ _ _ (λ e′. len-small end start bs (i + 1) (moreFollow b) (longer len b) (omega arith))) (λ e. ok-got _ _ h)
+
+own-small : (ty : Ty) (own len start next : ℕ) → len < 2 ^ 32 → Ok (λ t n. t .len < 2 ^ 32) (lessOwn ty own len start next)
+unfolding lessOwn
+own-small ty own len start next h = ok-cond (isList ty) _ _ (λ e. ok-got _ _ h) (λ e. ok-guard _ _ _ (λ e′. ok-got _ _ (omega arith)))
+
+-- a length keeps to its low 32 bits
+pub tlf-small : (s : List ℕ) (at : ℕ) → Ok (λ t n. t .len < 2 ^ 32) (tlfAt s at)
+unfolding tlfAt
+tlf-small s at =
+    ok-then _ _ (byte-ok s at) (λ b next h. ok-need _ _ _ (λ ty. ok-guard _ _ _ (λ e.
+    ok-then _ _ (len-small (length s) at (drop next s) next _ _ (omega arith)) (λ len end k. own-small ty (end - at) len at end k))))

@@ -1,4 +1,5 @@
 pub mod Read
 pub mod Rest
 pub mod Lengths
+pub mod Found
 pub mod Bench

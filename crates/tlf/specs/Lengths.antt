@@ -5,7 +5,7 @@ use mathlib.Core.Bool.{Bool, true, false, cond, not, _&&_}
 use mathlib.Core.Option.{Option, some, none}
 use lib.ListN.{length, drop}
 use lib.Dec.{leb, eqb}
-use Rattle.tlf.specs.Read.{Read, got, refused, then, guard, need, eof, invalidTlf, byteAt}
+use Rattle.tlf.specs.Read.{Read, got, refused, then, guard, need, eof, invalidTlf, mismatch, byteAt}
 use Rattle.tlf.specs.Refusals.{reserved, underflow, nextType, invalidTy}
 use Rattle.tlf.specs.declared.Ty.{Ty}
 use Rattle.tlf.specs.declared.Ty.the-variants.{OctetString, Boolean, Integer, Unsigned, ListOf}
@@ -46,6 +46,10 @@ isBoolean Integer = false
 isBoolean Unsigned = false
 isBoolean ListOf = false
 
+-- a list of n elements
+abbrev pub isListOf : ℕ → TypeLengthField → Bool
+isListOf n t = isList (t .ty) && eqb (t .len) n
+
 -- times 16 plus the next four bits, low 32 bits kept
 abbrev pub longer : ℕ → ℕ → ℕ
 longer len b = (len * 16 + lengthBits b) % 2 ^ 32
@@ -74,3 +78,10 @@ tlfAt s at =
     guard (not (isBoolean ty && moreFollow b)) (reserved at)
     (then (lengthFrom (length s) at (drop next s) next (moreFollow b) (lengthBits b)) λ len end.
     lessOwn ty (end - at) len at end)
+
+-- the head of a list of n elements
+unfoldable pub listOfAt : ℕ → List ℕ → ℕ → Read (Unit {0})
+listOfAt n s at =
+    then (tlfAt s at) λ t next.
+    guard (isListOf n t) (mismatch at)
+    (got tt next)

@@ -20,6 +20,8 @@ use Rattle.tlf.specs.declared.LenRead.{LenRead}
 use Rattle.tlf.specs.declared.LenRead.the-variants as LenR
 use Rattle.tlf.specs.declared.TlfRead.{TlfRead}
 use Rattle.tlf.specs.declared.TlfRead.the-variants as TlfR
+use Rattle.tlf.specs.declared.PlaceRead.{PlaceRead}
+use Rattle.tlf.specs.declared.PlaceRead.the-variants as PlaceR
 
 -- the five kinds of 11
 abbrev pub kindOf : TlfParseError → ℕ
@@ -71,3 +73,7 @@ lenRead (LenR.Refused f) = refused (faultOf f)
 abbrev pub tlfRead : TlfRead → Read TypeLengthField
 tlfRead (TlfR.Is tlf next) = got tlf next
 tlfRead (TlfR.Refused f) = refused (faultOf f)
+
+abbrev pub placeRead : PlaceRead → Read (Unit {0})
+placeRead (PlaceR.Is next) = got tt next
+placeRead (PlaceR.Refused f) = refused (faultOf f)

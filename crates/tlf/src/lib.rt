@@ -4,8 +4,8 @@ ghost use mathlib.Core.Bool.{_&&_};
 ghost use mathlib.Core.Path.{_≡_};
 ghost use lib.ListN.{length, drop};
 ghost use Rattle.tlf.specs.Read.{byteAt, spanAt};
-ghost use Rattle.tlf.specs.Refusals.{byteRead, spanRead, tyRead, lenRead, tlfRead};
-ghost use Rattle.tlf.specs.Lengths.{tyOf, longer, lengthFrom, lessOwn, tlfAt, isList, isBoolean, moreFollow};
+ghost use Rattle.tlf.specs.Refusals.{byteRead, spanRead, tyRead, lenRead, tlfRead, placeRead};
+ghost use Rattle.tlf.specs.Lengths.{tyOf, longer, lengthFrom, lessOwn, tlfAt, isList, isBoolean, isListOf, listOfAt, moreFollow};
 
 pub enum TlfParseError {
     TlfLengthOverflow,
@@ -248,5 +248,36 @@ impl TypeLengthField {
             }
             LenRead::Refused(f) => TlfRead::Refused(f),
         }
+    }
+    // The test of every structure of SML: a list of so many elements.
+    pub fn is_list_of(self, n: u32) -> bool
+        ensures { λ r. ⌜ r ≡ isListOf n self ⌝ }
+    {
+        let ty = self.ty;
+        ty.is_list() && self.len == n
+    }
+}
+
+pub enum PlaceRead {
+    Is { next: usize },
+    Refused(Fault),
+}
+
+// The head of a list of `n` elements: check_tlf of the Rust's structures.
+pub fn parse_list_of(input: &[u8], at: usize, n: u32) -> PlaceRead
+    ensures { λ r. ⌜ placeRead r ≡ listOfAt n (now (input .entry)) at ⌝ }
+{
+    match TypeLengthField::parse(input, at) {
+        TlfRead::Is { tlf, next } => {
+            if tlf.is_list_of(n) {
+                PlaceRead::Is { next }
+            } else {
+                PlaceRead::Refused(Fault {
+                    error: ParseError::TlfMismatch,
+                    place: at,
+                })
+            }
+        }
+        TlfRead::Refused(f) => PlaceRead::Refused(f),
     }
 }

@@ -1,0 +1,54 @@
+-- What a reader must believe: what each answer says, field for field.
+use Rattle.tlf.specs.Read.{Read, got, refused}
+use Rattle.tlf.specs.Refusals.{faultOf}
+use Rattle.tlf.specs.declared.Span.{Span}
+use Rattle.octet_string.specs.Answers.{optSpan}
+use Rattle.value.specs.Answers.{value, optU8, optI8, optTime, optStatus}
+use Rattle.common.specs.Fields.{OpenResponse, CloseResponse, ListEntry}
+use Rattle.common.specs.declared.OpenResponse as Opens
+use Rattle.common.specs.declared.CloseResponse as Closes
+use Rattle.common.specs.declared.ListEntry as Entries
+use Rattle.common.specs.declared.OpenRead.{OpenRead}
+use Rattle.common.specs.declared.OpenRead.the-variants as OpenR
+use Rattle.common.specs.declared.CloseRead.{CloseRead}
+use Rattle.common.specs.declared.CloseRead.the-variants as CloseR
+use Rattle.common.specs.declared.EntryRead.{EntryRead}
+use Rattle.common.specs.declared.EntryRead.the-variants as EntryR
+
+abbrev pub openResponse : Opens.OpenResponse → OpenResponse Span
+openResponse x =
+    record {
+      codepage = optSpan (x .codepage);
+      clientId = optSpan (x .«client_id»);
+      fileId = x .«req_file_id»;
+      serverId = x .«server_id»;
+      time = optTime (x .«ref_time»);
+      version = optU8 (x .«sml_version»);
+    }
+
+abbrev pub openRead : OpenRead → Read (OpenResponse Span)
+openRead (OpenR.Is x next) = got (openResponse x) next
+openRead (OpenR.Refused f) = refused (faultOf f)
+
+abbrev pub closeResponse : Closes.CloseResponse → CloseResponse Span
+closeResponse x = record { signature = optSpan (x .«global_signature») }
+
+abbrev pub closeRead : CloseRead → Read (CloseResponse Span)
+closeRead (CloseR.Is x next) = got (closeResponse x) next
+closeRead (CloseR.Refused f) = refused (faultOf f)
+
+abbrev pub listEntry : Entries.ListEntry → ListEntry Span
+listEntry x =
+    record {
+      name = x .«obj_name»;
+      status = optStatus (x .status);
+      time = optTime (x .«val_time»);
+      unit = optU8 (x .unit);
+      scaler = optI8 (x .scaler);
+      value = value (x .value);
+      signature = optSpan (x .«value_signature»);
+    }
+
+abbrev pub entryRead : EntryRead → Read (ListEntry Span)
+entryRead (EntryR.Is x next) = got (listEntry x) next
+entryRead (EntryR.Refused f) = refused (faultOf f)

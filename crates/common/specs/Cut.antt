@@ -1,0 +1,24 @@
+-- How the code is cut: the last fields of a record, where the first are read already.
+use Prim.Native.Nat.{ℕ}
+use mathlib.Core.List.{List}
+use mathlib.Core.Option.{Option}
+use Rattle.tlf.specs.Read.{Read, got, then}
+use Rattle.tlf.specs.declared.Span.{Span}
+use Rattle.num.specs.Numbers.{unsignedAt, signedAt}
+use Rattle.octet_string.specs.Strings.{octetsAt}
+use Rattle.octet_string.specs.Optional.{optional}
+use Rattle.value.specs.Values.{Status, timeAt, valueAt}
+use Rattle.common.specs.Fields.{OpenResponse, ListEntry}
+
+unfoldable pub openRest : Option Span → Option Span → Span → Span → List ℕ → ℕ → Read (OpenResponse Span)
+openRest codepage clientId fileId serverId s n₄ =
+    then (optional timeAt s n₄) λ time n₅.
+    then (optional (unsignedAt 1) s n₅) λ version n₆.
+    got (record { codepage = codepage; clientId = clientId; fileId = fileId; serverId = serverId; time = time; version = version }) n₆
+
+unfoldable pub entryRest : Span → Option Status → Option ℕ → Option ℕ → List ℕ → ℕ → Read (ListEntry Span)
+entryRest name status time unit s n₄ =
+    then (optional (signedAt 1) s n₄) λ scaler n₅.
+    then (valueAt s n₅) λ value n₆.
+    then (optional octetsAt s n₆) λ signature n₇.
+    got (record { name = name; status = status; time = time; unit = unit; scaler = scaler; value = value; signature = signature }) n₇

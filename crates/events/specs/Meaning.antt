@@ -1,0 +1,84 @@
+-- What a reader must believe: what an event means, whatever the width of its numbers and wherever its strings stand.
+use Prim.Native.Nat.{ℕ}
+use mathlib.Core.List.{List}
+use mathlib.Core.Option.{Option, some, none}
+use Rattle.tlf.specs.declared.Span.{Span}
+use Rattle.octet_string.specs.Strings.{partOf}
+use Rattle.value.specs.Values.{Status, Value, truth, bytes, signed, unsigned, listTime}
+use Rattle.common.specs.Fields.{OpenResponse, CloseResponse, ListEntry}
+use Rattle.message.specs.Messages.{ListStart, ListEnd, Body, opened, closed, listed, MessageStart}
+use Rattle.streaming.specs.Next.{Event, starts, entry, ends}
+
+abbrev pub each : {A B : Type 0} → (A → B) → Option A → Option B
+each f (some a) = some (f a)
+each f none = none
+
+-- a number's width is forgotten by taking every number at the widest
+abbrev pub statusMeans : Status → Status
+statusMeans x = record { width = 8; number = x .number }
+
+abbrev pub valueMeans : List ℕ → Value Span → Value (List ℕ)
+valueMeans s (truth b) = truth b
+valueMeans s (bytes p) = bytes (partOf s p)
+valueMeans s (signed width z) = signed 8 z
+valueMeans s (unsigned width v) = unsigned 8 v
+valueMeans s (listTime t) = listTime t
+
+abbrev pub entryMeans : List ℕ → ListEntry Span → ListEntry (List ℕ)
+entryMeans s x =
+    record {
+      name = partOf s (x .name);
+      status = each statusMeans (x .status);
+      time = x .time;
+      unit = x .unit;
+      scaler = x .scaler;
+      value = valueMeans s (x .value);
+      signature = each (partOf s) (x .signature);
+    }
+
+abbrev pub openMeans : List ℕ → OpenResponse Span → OpenResponse (List ℕ)
+openMeans s x =
+    record {
+      codepage = each (partOf s) (x .codepage);
+      clientId = each (partOf s) (x .clientId);
+      fileId = partOf s (x .fileId);
+      serverId = partOf s (x .serverId);
+      time = x .time;
+      version = x .version;
+    }
+
+abbrev pub closeMeans : List ℕ → CloseResponse Span → CloseResponse (List ℕ)
+closeMeans s x = record { signature = each (partOf s) (x .signature) }
+
+abbrev pub listStartMeans : List ℕ → ListStart Span → ListStart (List ℕ)
+listStartMeans s x =
+    record {
+      clientId = each (partOf s) (x .clientId);
+      serverId = partOf s (x .serverId);
+      name = each (partOf s) (x .name);
+      time = x .time;
+      count = x .count;
+    }
+
+abbrev pub listEndMeans : List ℕ → ListEnd Span → ListEnd (List ℕ)
+listEndMeans s x = record { signature = each (partOf s) (x .signature); time = x .time }
+
+abbrev pub bodyMeans : List ℕ → Body Span → Body (List ℕ)
+bodyMeans s (opened b) = opened (openMeans s b)
+bodyMeans s (closed b) = closed (closeMeans s b)
+bodyMeans s (listed b) = listed (listStartMeans s b)
+
+abbrev pub startMeans : List ℕ → MessageStart Span → MessageStart (List ℕ)
+startMeans s x =
+    record {
+      transactionId = partOf s (x .transactionId);
+      groupNo = x .groupNo;
+      abortOnError = x .abortOnError;
+      body = bodyMeans s (x .body);
+    }
+
+-- an event's strings as bytes, value and status as kind and number; `s` is the input
+unfoldable pub meaning : List ℕ → Event Span → Event (List ℕ)
+meaning s (starts m) = starts (startMeans s m)
+meaning s (entry e) = entry (entryMeans s e)
+meaning s (ends e) = ends (listEndMeans s e)

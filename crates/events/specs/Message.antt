@@ -1,0 +1,42 @@
+-- What a reader must believe: a whole message, from its first byte to its end byte.
+use Prim.Native.Nat.{ℕ, zero, suc}
+use mathlib.Core.List.{List, [], _∷_}
+use mathlib.Core.Option.{Option, some, none}
+use Rattle.tlf.specs.Read.{Read, got, then}
+use Rattle.tlf.specs.declared.Span.{Span}
+use Rattle.common.specs.Fields.{ListEntry, entryAt}
+use Rattle.message.specs.Messages.{MessageStart, ListEnd, Body, opened, closed, listed, startAt, listEndAt}
+use Rattle.trailer.specs.Trailer.{trailerAt}
+
+-- what stands between a message's start and its trailer: of a list response the entries and the end
+pub record Content (T : Type 0) : Type 0 where
+  pub entries : List (ListEntry T)
+  pub end : Option (ListEnd T)
+
+pub record Message (T : Type 0) : Type 0 where
+  pub start : MessageStart T
+  pub content : Content T
+
+-- as many entries as the list's head says, one behind the other
+unfoldable pub entriesAt : ℕ → List ℕ → ℕ → Read (List (ListEntry Span))
+entriesAt zero s at = got [] at
+entriesAt (suc k) s at =
+    then (entryAt s at) λ e n.
+    then (entriesAt k s n) λ es m.
+    got (e ∷ es) m
+
+unfoldable pub contentOf : Body Span → List ℕ → ℕ → Read (Content Span)
+contentOf (opened b) s at = got (record { entries = []; end = none }) at
+contentOf (closed b) s at = got (record { entries = []; end = none }) at
+contentOf (listed b) s at =
+    then (entriesAt (b .count) s at) λ entries n.
+    then (listEndAt s n) λ end m.
+    got (record { entries = entries; end = some end }) m
+
+-- the message at a place, and the place behind its end byte
+unfoldable pub messageAt : List ℕ → ℕ → Read (Message Span)
+messageAt s at =
+    then (startAt s at) λ start n₁.
+    then (contentOf (start .body) s n₁) λ content n₂.
+    then (trailerAt s at n₂) λ trailer n₃.
+    got (record { start = start; content = content }) n₃

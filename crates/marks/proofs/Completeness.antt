@@ -1,0 +1,126 @@
+-- Every sound frame that fits is handed out; where one doesn't fit, the first event behind its start is 3.
+use mathlib.Core.Path.{_≡_, refl, ap, sym, _∙_}
+use mathlib.Core.Bool.{Bool, true, false, cond}
+use mathlib.Core.List.{List, [], _∷_, _++_, append-nil, map}
+use Prim.Native.Nat.{ℕ, suc, _+_, _≤_, _<_}
+use native.Mathlib.Omega.{arith}
+use lib.ListN.{length, replicate}
+use lib.Dec.{eqb, leb}
+use borrow.Author.Tests.{le-leb}
+use Rattle.frame.specs.Frame.{Sound, startSeq}
+use Rattle.frame.proofs.Cases.{by-le}
+use Rattle.decoder.specs.Push.{Setup, Mem, State, search, body, escape, done, silent, discarded, memory, Out, says, put, store, step, begun, noticed, fresh}
+use Rattle.decoder.specs.Record.{Answer, nothing, refused, numbered, viewAs, view, newRecord}
+use Rattle.decoder.specs.Run as R
+use Rattle.decoder.specs.Run.{Op, runState, actState, answerState}
+use Rattle.decoder.specs.declared.DecodeState.{DecodeState}
+use Rattle.decoder.proofs.Faithful.{Fit}
+use Rattle.decoder.proofs.Runs.{run-is, new-fit}
+use Rattle.marks.specs.Decoders.{ours, answers, frameSays}
+use Rattle.marks.specs.Mark2.{eighth, NoRoom, Completeness, OurSearch}
+use Rattle.marks.proofs.Rules.{Silent, stop, push}
+use Rattle.marks.proofs.RoundTrip.{framed-runs, sound-decodes, begun-run}
+use Rattle.marks.proofs.Recovery.{answers-run}
+
+-- ---- less room: the same step, or 3
+
+-- what is wanted of a step with less room, o, beside one with more, o′
+abbrev Less : Type 0 → Out → Out → Type 0
+Less G o o′ = (o ≡ says fresh memory → G) → (o ≡ o′ → G) → G
+
+store-less : {G : Type 0} (C D : Setup) (m : Mem) (l : List ℕ) (k : Mem → Out) → C .capacity ≤ D .capacity → Less G (store C m l k) (store D m l k)
+unfolding store
+store-less {G} C D m l k le =
+    by-le (λ (o : Out). Less G o (cond (leb (length (m .stored) + length l) (D .capacity)) (k (put m l)) (says fresh memory))) (length (m .stored) + length l) (C .capacity) _ _
+    (λ fit f g. g (rw (le-leb (length (m .stored) + length l) (D .capacity) (omega arith))))
+    (λ full f g. f refl)
+
+else-less : {G : Type 0} (t : Bool) (x y z : Out) → Less G y z → Less G (cond t x y) (cond t x z)
+else-less true x y z h = λ f g. g refl
+else-less false x y z h = h
+
+step-less : {G : Type 0} (C D : Setup) (s : State) (b : ℕ) → C .capacity ≤ D .capacity → Less G (step C s b) (step D s b)
+unfolding step
+step-less C D (search n noise raw) b le = λ f g. g refl
+step-less C D (done P) b le = λ f g. g refl
+step-less C D (escape k m) b le = store-less C D m (b ∷ []) _ le
+step-less C D (body n m) b le = else-less (eqb b 0x1b) _ _ _ (store-less C D m (replicate n 0x1b ++ b ∷ []) _ le)
+
+-- ---- pushes that say nothing with more room, and a last one that finds none
+
+record Stops (C : Setup) (s : State) (bytes : List ℕ) : Type 0 where
+  quiet : ℕ
+  rest : List Answer
+  is : runState C s (map R.push bytes) ≡ replicate quiet nothing ++ refused 3 [] ∷ rest
+
+stops-here : (C : Setup) (s : State) (b : ℕ) (l : List ℕ) → step C s b ≡ says fresh memory → Stops C s (b ∷ l)
+unfolding runState actState answerState
+stops-here C s b l e =
+    record { quiet = 0; rest = runState C fresh (map R.push l); is = ap (λ (o : Out). numbered (o .event) ∷ runState C (o .state) (map R.push l)) e }
+
+stops-later : (C : Setup) (s t : State) (b : ℕ) (l : List ℕ) → step C s b ≡ says t silent → Stops C t l → Stops C s (b ∷ l)
+unfolding runState actState answerState
+stops-later C s t b l e r =
+    record {
+      quiet = suc (r .quiet);
+      rest = r .rest;
+      is = ap (λ (o : Out). numbered (o .event) ∷ runState C (o .state) (map R.push l)) e ∙ ap (λ (k : List Answer). nothing ∷ k) (r .is);
+    }
+
+stops : (C D : Setup) {s t : State} {l : List ℕ} (z : ℕ) → C .capacity ≤ D .capacity → Silent D s l t → step C t z ≡ says fresh memory → Stops C s (l ++ z ∷ [])
+stops C D {s = s} z le stop e = stops-here C s z [] e
+stops C D {s = s} z le (push {t = t} {b = b} {l = l} e′ q) e =
+    step-less C D s b le (λ full. stops-here C s b (l ++ z ∷ []) full) (λ same. stops-later C s t b (l ++ z ∷ []) (same ∙ e′) (stops C D z le q e))
+
+-- ---- the claim
+
+eighth-is : (noise : ℕ) → numbered (noticed noise) ≡ eighth noise
+eighth-is noise = told (eqb noise 0)
+  where
+    told : (t : Bool) → numbered (cond t silent (discarded noise)) ≡ cond t nothing (refused 6 (noise ∷ []))
+    told true = refl
+    told false = refl
+
+module _ (C : Setup) (noise raw : ℕ) (frame P : List ℕ) (s : Sound frame P) where
+  fits : length (s .D) + 4 ≤ C .capacity → runState C (search 0 noise raw) (map R.push frame) ≡ frameSays (eighth noise) frame P
+  unfolding runState
+  fits room =
+      ap (runState C (search 0 noise raw)) (sym (append-nil (map R.push frame)))
+      ∙ sound-decodes C noise raw frame P s room .answers′ []
+      ∙ append-nil (frameSays (numbered (noticed noise)) frame P)
+      ∙ ap (λ (a : Answer). frameSays a frame P) (eighth-is noise)
+
+  lacks-at : (l : List ℕ) (z : ℕ) → frame ≡ startSeq ++ (l ++ z ∷ []) → Stops C begun (l ++ z ∷ []) → NoRoom noise (runState C (search 0 noise raw) (map R.push frame))
+  lacks-at l z shape t =
+      record {
+        quiet = t .quiet;
+        rest = t .rest;
+        is = ap (λ (f : List ℕ). runState C (search 0 noise raw) (map R.push f)) shape
+            ∙ ap (runState C (search 0 noise raw)) (sym (append-nil (map R.push (startSeq ++ (l ++ z ∷ [])))))
+            ∙ begun-run C noise raw (l ++ z ∷ []) []
+            ∙ ap (λ (k : List Op). replicate 7 nothing ++ numbered (noticed noise) ∷ runState C begun k) (append-nil (map R.push (l ++ z ∷ [])))
+            ∙ ap (λ (k : List Answer). replicate 7 nothing ++ numbered (noticed noise) ∷ k) (t .is)
+            ∙ ap (λ (a : Answer). replicate 7 nothing ++ a ∷ (replicate (t .quiet) nothing ++ refused 3 [] ∷ t .rest)) (eighth-is noise);
+      }
+
+  lacks : C .capacity < length (s .D) + 4 → NoRoom noise (runState C (search 0 noise raw) (map R.push frame))
+  lacks small =
+      let B : Setup = record { capacity = length (s .D) + 4 } in
+      let r = framed-runs B (s .D) (s .p) (s .aligned) (s .small) (s .within) (omega arith) in
+      lacks-at (r .l) (r .z) (s .whole ∙ r .shape) (stops C B (r .z) (omega arith) (r .ends .quietly) (r .ends .full C small))
+
+pub completeness : Completeness ours OurSearch
+completeness C d m noise h frame P s =
+    let v : view d m ≡ search 0 noise (d .«raw_msg_len») = ap (λ (x : DecodeState). viewAs x d m) (h .searches) in
+    let f : Fit d m = record { state = h .good; buffer = h .lent } in
+    let e : answers ours d m (map R.push frame) ≡ runState C (search 0 noise (d .«raw_msg_len»)) (map R.push frame) =
+    answers-run (map R.push frame) d m ∙ run-is (map R.push frame) d m f ∙ rw (h .setup′, v) in (
+      λ room. e ∙ fits C noise (d .«raw_msg_len») frame P s room,
+      λ small. rw e (lacks C noise (d .«raw_msg_len») frame P s small),
+    )
+
+-- a new decoder is such a search
+pub new-searches : (C : Setup) (m : List ℕ) → length m ≡ C .capacity → C .capacity ≤ 1048576 → OurSearch C (newRecord (C .capacity)) m 0
+new-searches C m l le =
+    let f = new-fit (C .capacity) m l le in
+    record { searches = refl; good = f .state; lent = f .buffer; setup′ = refl }

@@ -1,0 +1,194 @@
+-- Each fake falls: one small run, computed, is not what the claim says.
+use mathlib.Core.Path.{_≡_, refl, ap}
+use mathlib.Core.Bool.{Bool, true, false, cond, false≢true}
+use mathlib.Core.List.{List, [], _∷_, _++_, map}
+use Prim.Native.Nat.{ℕ, zero, suc, _+_, _≤_, _<_}
+use native.Mathlib.Omega.{arith}
+use lib.ListN.{length, getD, take, replicate}
+use lib.Dec.{ltb}
+use Rattle.frame.proofs.Cases.{by-lt}
+use Rattle.crc_x25.specs.Crc.{reflect, polynomial, bitStep, bitSteps, byteStep, register, finalXor, crcOf}
+use Rattle.frame.specs.Frame.{Sound, escaped, closed, frameOf, framed}
+use Rattle.encoder.specs.Encode.{encodeTo}
+use Rattle.encoder.specs.Encoder.{Next, byte, finished}
+use Rattle.encoder.specs.Encoder as N
+use Rattle.decoder.specs.Push.{Setup, searching, store, same, finish, judge, step, finalized}
+use Rattle.decoder.specs.Record.{Answer, nothing, payload, count, refused, wrote, badState, wrongBuffer, pushed, pushRecord, finalizeRecord, newRecord, hasPayload, payloadRecord}
+use Rattle.decoder.specs.Run.{push, act}
+use Rattle.marks.specs.Decoders.{answers, behind, countFrom, ours}
+use Rattle.marks.specs.Mark2.{PushesBytes, Soundness, Completeness, OurSearch}
+use Rattle.marks.specs.Mark3.{Job, framesFor, restSays, Mark3, Suits}
+use Rattle.marks.specs.Encoders.{calls, SameBytes}
+use Rattle.marks.specs.Bench.{Outcome, encoded, events, field, string, signed, unsigned, saidFrom, Holds, payload1, frame1, b1, b3, b6}
+use Rattle.marks.specs.Fakes.{refuses, constant, idle, invents, once, writesNothing, refusesToEncode, finishedAtOnce, Fall}
+use Rattle.marks.proofs.Completeness.{new-searches}
+
+-- a number for an answer, in which the fakes differ from what is claimed
+code : Answer → ℕ
+code nothing = 0
+code (payload bytes) = 1000 + getD bytes 0 0
+code (count k) = 2000
+code (refused k values) = 3000 + getD values 0 0
+
+-- the number of the answer at a place
+codeAt : ℕ → List Answer → ℕ
+codeAt n [] = 0
+codeAt zero (a ∷ l) = code a
+codeAt (suc n) (a ∷ l) = codeAt n l
+
+-- the same of a bench row's outcome: its first event, or the first byte of the output
+codeOf : Outcome → ℕ
+codeOf (encoded l) = getD (l .output) 0 0
+codeOf (events []) = 0
+codeOf (events (s ∷ more)) = code (s .answer)
+codeOf (field r) = 0
+codeOf (string r) = 0
+codeOf (signed r) = 0
+codeOf (unsigned r) = 0
+
+-- capacity 8, its thirteen zero bytes, and B1's payload: the eighth byte's answer is at place 20, the last one's at 32
+abbrev C : Setup
+C = record { capacity = 8 }
+
+abbrev zeros : List ℕ
+zeros = replicate 8 0
+
+abbrev job : Job
+job = record { payload = payload1; output = replicate 20 0xff }
+
+frame-is : frameOf payload1 ≡ frame1
+unfolding reflect polynomial bitStep bitSteps byteStep register finalXor crcOf escaped closed frameOf
+frame-is = refl
+
+room : length (frameOf payload1) ≤ length (job .output)
+room = let e : length (frameOf payload1) ≡ 20 = ap length frame-is in omega arith
+
+suits : Suits C job
+suits = (omega arith, room)
+
+-- ---- rows of the bench sheet
+
+refuses-b3 : Holds refuses encodeTo b3 → ⊥
+unfolding codeOf code answers saidFrom
+refuses-b3 h = let z : _≡_ {A = ℕ} 3000 1018 = ap codeOf h in omega arith
+
+refuses-b1 : Holds ours refusesToEncode b1 → ⊥
+unfolding codeOf
+refuses-b1 h = let z : _≡_ {A = ℕ} 0xff 0x1b = ap codeOf h in omega arith
+
+writes-nothing-b1 : Holds ours writesNothing b1 → ⊥
+unfolding codeOf
+writes-nothing-b1 h = let z : _≡_ {A = ℕ} 0xff 0x1b = ap codeOf h in omega arith
+
+invents-b6 : Holds invents encodeTo b6 → ⊥
+unfolding codeOf code answers saidFrom reflect polynomial bitStep bitSteps byteStep register finalXor crcOf searching store same finish judge step finalized wrote badState wrongBuffer pushed pushRecord finalizeRecord act
+invents-b6 h = let z : _≡_ {A = ℕ} 3002 3001 = ap codeOf h in omega arith
+
+-- ---- mark 2
+
+sound1 : Sound frame1 payload1
+unfolding reflect polynomial bitStep bitSteps byteStep register finalXor crcOf escaped closed framed
+sound1 = record { D = payload1; p = 0; whole = refl; aligned = refl; small = omega arith; within = omega arith; cut = refl }
+
+idle-mark2 : Completeness idle OurSearch → ⊥
+unfolding codeAt code answers sound1
+idle-mark2 h =
+    let e = h C (newRecord 8) zeros 0 (new-searches C zeros refl (omega arith)) frame1 payload1 sound1 .0 (omega arith) in
+    let z : _≡_ {A = ℕ} 0 1018 = ap (codeAt 19) e in
+    omega arith
+
+below : List ℕ → Bool
+below [] = true
+below (b ∷ l) = cond (ltb b 256) (below l) false
+
+below-is : (l : List ℕ) → below l ≡ true → PushesBytes (map push l)
+unfolding below
+below-is [] = λ e. tt
+below-is (b ∷ l) = by-lt (λ (t : Bool). t ≡ true → (b < 256) × PushesBytes (map push l)) b 256 (below l) false (λ h e. (h, below-is l e)) (λ h e. absurd (false≢true e))
+
+-- B1's frame, byte by byte: what is handed back is not what was answered
+constant-mark2 : Soundness constant → ⊥
+unfolding below behind payloadRecord hasPayload reflect polynomial bitStep bitSteps byteStep register finalXor crcOf searching store same finish judge step finalized wrote badState wrongBuffer pushed pushRecord finalizeRecord act
+constant-mark2 h =
+    let e = h C zeros refl (omega arith) (map push (take 19 frame1)) (push 0x7b) (0x2a ∷ []) (below-is frame1 refl) refl .1 in
+    let z : _≡_ {A = ℕ} 0x12 0x2a = ap (λ (l : List ℕ). getD l 0 0) e in
+    omega arith
+
+-- ---- mark 3
+
+refuses-mark3 : Mark3 refuses encodeTo → ⊥
+unfolding codeAt code answers framesFor restSays countFrom reflect polynomial bitStep bitSteps byteStep register finalXor crcOf escaped closed frameOf encodeTo
+refuses-mark3 h =
+    let e = h C zeros refl (omega arith) [] job [] (suits, tt) in
+    let z : _≡_ {A = ℕ} 3000 1018 = ap (codeAt 32) e in
+    omega arith
+
+constant-mark3 : Mark3 constant encodeTo → ⊥
+unfolding codeAt code answers framesFor restSays countFrom reflect polynomial bitStep bitSteps byteStep register finalXor crcOf escaped closed frameOf encodeTo searching store same finish judge step finalized wrote badState wrongBuffer pushed pushRecord finalizeRecord act
+constant-mark3 h =
+    let e = h C zeros refl (omega arith) [] job [] (suits, tt) in
+    let z : _≡_ {A = ℕ} 1042 1018 = ap (codeAt 32) e in
+    omega arith
+
+idle-mark3 : Mark3 idle encodeTo → ⊥
+unfolding codeAt code answers framesFor restSays countFrom reflect polynomial bitStep bitSteps byteStep register finalXor crcOf escaped closed frameOf encodeTo
+idle-mark3 h =
+    let e = h C zeros refl (omega arith) [] job [] (suits, tt) in
+    let z : _≡_ {A = ℕ} 0 1018 = ap (codeAt 32) e in
+    omega arith
+
+invents-mark3 : Mark3 invents encodeTo → ⊥
+unfolding codeAt code answers framesFor restSays countFrom reflect polynomial bitStep bitSteps byteStep register finalXor crcOf escaped closed frameOf encodeTo searching store same finish judge step finalized wrote badState wrongBuffer pushed pushRecord finalizeRecord act
+invents-mark3 h =
+    let e = h C zeros refl (omega arith) [] job [] (suits, tt) in
+    let z : _≡_ {A = ℕ} 3014 3013 = ap (codeAt 20) e in
+    omega arith
+
+-- the second frame's last byte is at place 52
+once-mark3 : Mark3 once encodeTo → ⊥
+unfolding codeAt code answers framesFor restSays countFrom reflect polynomial bitStep bitSteps byteStep register finalXor crcOf escaped closed frameOf encodeTo searching store same finish judge step finalized wrote badState wrongBuffer pushed pushRecord finalizeRecord act
+once-mark3 h =
+    let e = h C zeros refl (omega arith) [] job (job ∷ []) (suits, (suits, tt)) in
+    let z : _≡_ {A = ℕ} 1000 1018 = ap (codeAt 52) e in
+    omega arith
+
+-- no frame is pushed, so no event comes
+writes-nothing-mark3 : Mark3 ours writesNothing → ⊥
+unfolding codeAt code answers framesFor restSays countFrom reflect polynomial bitStep bitSteps byteStep register finalXor crcOf searching store same finish judge step finalized wrote badState wrongBuffer pushed pushRecord finalizeRecord act
+writes-nothing-mark3 h =
+    let e = h C zeros refl (omega arith) [] job [] (suits, tt) in
+    let z : _≡_ {A = ℕ} 0 3013 = ap (codeAt 20) e in
+    omega arith
+
+-- ---- the Encoder
+
+isByte : List Next → ℕ
+isByte [] = 0
+isByte (byte b ∷ l) = 1
+isByte (finished ∷ l) = 0
+isByte (N.refused k ∷ l) = 0
+
+finished-at-once : SameBytes finishedAtOnce encodeTo → ⊥
+unfolding isByte calls reflect polynomial bitStep bitSteps byteStep register finalXor crcOf escaped closed frameOf encodeTo
+finished-at-once h =
+    let e = h job (omega arith) room .1 0 in
+    let z : _≡_ {A = ℕ} 0 1 = ap isByte e in
+    omega arith
+
+pub fall : Fall
+fall =
+    record {
+      refuses-b3 = refuses-b3;
+      refuses-mark3 = refuses-mark3;
+      refuses-b1 = refuses-b1;
+      constant-mark2 = constant-mark2;
+      constant-mark3 = constant-mark3;
+      idle-mark2 = idle-mark2;
+      idle-mark3 = idle-mark3;
+      writes-nothing-b1 = writes-nothing-b1;
+      writes-nothing-mark3 = writes-nothing-mark3;
+      finished-at-once = finished-at-once;
+      once-mark3 = once-mark3;
+      invents-b6 = invents-b6;
+      invents-mark3 = invents-mark3;
+    }

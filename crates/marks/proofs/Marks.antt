@@ -1,0 +1,23 @@
+-- All that is claimed, together.
+use Rattle.marks.specs.Marks.{Marks}
+use Rattle.marks.proofs.Decided.{views, decided}
+use Rattle.marks.proofs.Soundness.{soundness}
+use Rattle.marks.proofs.Completeness.{completeness, new-searches}
+use Rattle.marks.proofs.Encoders.{same-bytes}
+use Rattle.marks.proofs.Recovery.{mark3}
+use Rattle.marks.proofs.Bench.{bench}
+use Rattle.marks.proofs.Fakes.{fall}
+
+pub marks : Marks
+marks =
+    record {
+      views = views;
+      decided = decided;
+      soundness = soundness;
+      completeness = completeness;
+      new-searches = new-searches;
+      same-bytes = same-bytes;
+      mark3 = mark3;
+      bench = bench;
+      fall = fall;
+    }

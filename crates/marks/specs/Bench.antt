@@ -1,0 +1,143 @@
+-- What a reader must believe: the bench sheet of document 01, B1 to B14, as one table of inputs and outcomes.
+use mathlib.Core.Path.{_≡_}
+use mathlib.Core.List.{List, [], _∷_, _++_, map}
+use mathlib.Core.Option.{Option, some}
+use Prim.Native.Nat.{ℕ, suc}
+use lib.ListN.{replicate}
+use lib.IntN.{ℤ, negsuc}
+use Rattle.tlf.specs.Read.{Read, got, Refusal}
+use Rattle.tlf.specs.Read as L
+use Rattle.tlf.specs.Lengths.{tlfAt}
+use Rattle.tlf.specs.declared.Ty.the-variants.{OctetString}
+use Rattle.tlf.specs.declared.TypeLengthField.{TypeLengthField}
+use Rattle.tlf.specs.declared.Span.{Span}
+use Rattle.num.specs.Numbers.{unsignedAt, signedAt}
+use Rattle.octet_string.specs.Strings.{octetsAt}
+use Rattle.octet_string.specs.Optional.{optional}
+use Rattle.encoder.specs.Encode.{Leaves, leaves, length-is}
+use Rattle.decoder.specs.Record.{Answer, nothing, payload, count, refused}
+use Rattle.decoder.specs.Run.{push, finalize}
+use Rattle.marks.specs.Decoders.{Machine, answers}
+use Rattle.marks.specs.Mark3.{Encode}
+
+-- ---- what is tried, and what comes out
+
+pub data Input : Type 0 where
+  encode : List ℕ → ℕ → Input  -- a payload, and the length of an output of bytes ff
+  decode : ℕ → List ℕ → Input  -- the capacity of a new decoder with a buffer of bytes 00; bytes to push, and then finalize
+  lengthField : List ℕ → Input  -- what stands at the first of these bytes: type and length
+  optionalString : List ℕ → Input  -- an octet string that may be absent
+  asI32 : List ℕ → Input
+  asU8 : List ℕ → Input
+
+-- the number of an operation, the first being 1, and its answer
+pub record Said : Type 0 where
+  pub at : ℕ
+  pub answer : Answer
+
+pub data Outcome : Type 0 where
+  encoded : Leaves → Outcome  -- encode's answer, and the output
+  events : List Said → Outcome  -- all answers but `nothing`
+  field : Read TypeLengthField → Outcome
+  string : Read (Option Span) → Outcome
+  signed : Read ℤ → Outcome
+  unsigned : Read ℕ → Outcome
+
+abbrev pub said : ℕ → Answer → Said
+said n a = record { at = n; answer = a }
+
+unfoldable pub saidFrom : ℕ → List Answer → List Said
+saidFrom n [] = []
+saidFrom n (nothing ∷ more) = saidFrom (suc n) more
+saidFrom n (payload bytes ∷ more) = said n (payload bytes) ∷ saidFrom (suc n) more
+saidFrom n (count k ∷ more) = said n (count k) ∷ saidFrom (suc n) more
+saidFrom n (refused k values ∷ more) = said n (refused k values) ∷ saidFrom (suc n) more
+
+abbrev pub outcome : {S : Type 0} → Machine S → Encode → Input → Outcome
+outcome M enc (encode P n) = encoded (enc P (replicate n 0xff))
+outcome M enc (decode C bytes) = events (saidFrom 1 (answers M (M .new (record { capacity = C })) (replicate C 0x00) (map push bytes ++ finalize ∷ [])))
+outcome M enc (lengthField bytes) = field (tlfAt bytes 0)
+outcome M enc (optionalString bytes) = string (optional octetsAt bytes 0)
+outcome M enc (asI32 bytes) = signed (signedAt 4 bytes 0)
+outcome M enc (asU8 bytes) = unsigned (unsignedAt 1 bytes 0)
+
+-- ---- the sheet
+
+pub record Row : Type 0 where
+  pub number : ℕ  -- of document 01's B1 to B14
+  pub input : Input
+  pub expected : Outcome
+
+abbrev pub row : ℕ → Input → Outcome → Row
+row n i e = record { number = n; input = i; expected = e }
+
+abbrev pub payload1 : List ℕ
+payload1 = 0x12 ∷ 0x34 ∷ 0x56 ∷ 0x78 ∷ []
+
+-- B1's frame
+abbrev pub frame1 : List ℕ
+frame1 = 0x1b ∷ 0x1b ∷ 0x1b ∷ 0x1b ∷ 0x01 ∷ 0x01 ∷ 0x01 ∷ 0x01 ∷ 0x12 ∷ 0x34 ∷ 0x56 ∷ 0x78 ∷ 0x1b ∷ 0x1b ∷ 0x1b ∷ 0x1b ∷ 0x1a ∷ 0x00 ∷ 0xb8 ∷ 0x7b ∷ []
+
+-- B1's frame ending 7a
+abbrev pub spoilt1 : List ℕ
+spoilt1 = 0x1b ∷ 0x1b ∷ 0x1b ∷ 0x1b ∷ 0x01 ∷ 0x01 ∷ 0x01 ∷ 0x01 ∷ 0x12 ∷ 0x34 ∷ 0x56 ∷ 0x78 ∷ 0x1b ∷ 0x1b ∷ 0x1b ∷ 0x1b ∷ 0x1a ∷ 0x00 ∷ 0xb8 ∷ 0x7a ∷ []
+
+abbrev pub frame2 : List ℕ
+frame2 = 0x1b ∷ 0x1b ∷ 0x1b ∷ 0x1b ∷ 0x01 ∷ 0x01 ∷ 0x01 ∷ 0x01 ∷ 0x13 ∷ 0x24 ∷ 0x35 ∷ 0x46 ∷ 0x1b ∷ 0x1b ∷ 0x1b ∷ 0x1b ∷ 0x1a ∷ 0x00 ∷ 0xb1 ∷ 0xa1 ∷ []
+
+-- start, aa bb, B1's frame
+abbrev pub twoStarts : List ℕ
+twoStarts = 0x1b ∷ 0x1b ∷ 0x1b ∷ 0x1b ∷ 0x01 ∷ 0x01 ∷ 0x01 ∷ 0x01 ∷ 0xaa ∷ 0xbb ∷ frame1
+
+-- start, 1b1b1b1b 02000000
+abbrev pub wrongEscape : List ℕ
+wrongEscape = 0x1b ∷ 0x1b ∷ 0x1b ∷ 0x1b ∷ 0x01 ∷ 0x01 ∷ 0x01 ∷ 0x01 ∷ 0x1b ∷ 0x1b ∷ 0x1b ∷ 0x1b ∷ 0x02 ∷ 0x00 ∷ 0x00 ∷ 0x00 ∷ []
+
+-- a string of so many bytes behind its length bytes
+abbrev pub stringOf : ℕ → ℕ → Outcome
+stringOf n next = field (got (record { ty = OctetString; len = n }) next)
+
+-- refused by document 01's number, of an 11 the kind (2 reserved, 3 underflow, 4 next byte's type, 5 type), at a place
+abbrev pub refusedAs : ℕ → ℕ → ℕ → Refusal
+refusedAs number kind place = record { number = number; kind = kind; place = place }
+
+abbrev pub b3 : Row
+b3 = row 3 (decode 8 frame1) (events (said 20 (payload payload1) ∷ []))
+
+abbrev pub b6 : Row
+b6 = row 6 (decode 8 (0x00 ∷ frame1)) (events (said 9 (refused 6 (1 ∷ [])) ∷ said 21 (payload payload1) ∷ []))
+
+abbrev pub b1 : Row
+b1 = row 1 (encode payload1 20) (encoded (leaves (length-is 20) frame1))
+
+-- DiscardedBytes is 6, InvalidEsc 7, InvalidMessage 8: read CRC, computed CRC, aligned (0), p
+abbrev pub sheet : List Row
+sheet =
+    b1
+    ∷ row 2 (encode (0x13 ∷ 0x24 ∷ 0x35 ∷ 0x46 ∷ []) 20) (encoded (leaves (length-is 20) frame2))
+    ∷ b3
+    ∷ row 4 (decode 7 frame1) (events (said 20 (refused 3 []) ∷ []))
+    ∷ row 5 (decode 8 (0x1b ∷ frame1)) (events (said 22 (refused 6 (21 ∷ [])) ∷ []))
+    ∷ b6
+    ∷ row 7 (decode 8 twoStarts) (events (said 18 (refused 6 (10 ∷ [])) ∷ said 30 (payload payload1) ∷ []))
+    ∷ row 8 (decode 8 wrongEscape) (events (said 16 (refused 7 (0x02 ∷ 0x00 ∷ 0x00 ∷ 0x00 ∷ [])) ∷ []))
+    ∷ row 9 (decode 8 spoilt1) (events (said 20 (refused 8 (0x7ab8 ∷ 0x7bb8 ∷ 0 ∷ 0 ∷ [])) ∷ []))
+    ∷ row 10 (lengthField (0x07 ∷ [])) (stringOf 6 1)
+    ∷ row 10 (lengthField (0x83 ∷ 0x02 ∷ [])) (stringOf 48 2)
+    ∷ row 10 (optionalString (0x80 ∷ 0x02 ∷ [])) (string (got (some (record { start = 2; len = 0 })) 2))
+    ∷ row 11 (lengthField (0x00 ∷ [])) (field (L.refused (refusedAs 11 3 0)))
+    ∷ row 11 (lengthField (0xc2 ∷ [])) (field (L.refused (refusedAs 11 2 0)))
+    ∷ row 11 (lengthField (0x10 ∷ [])) (field (L.refused (refusedAs 11 5 0)))
+    ∷ row 11 (lengthField (0x81 ∷ 0x12 ∷ [])) (field (L.refused (refusedAs 11 4 0)))
+    ∷ row 11 (lengthField (0x81 ∷ 0x82 ∷ [])) (field (L.refused (refusedAs 10 0 2)))
+    ∷ row 12 (asI32 (0x52 ∷ 0xff ∷ [])) (signed (got (negsuc 0) 2))
+    ∷ row 13 (asU8 (0x63 ∷ 0x00 ∷ 0x05 ∷ [])) (unsigned (L.refused (refusedAs 12 0 0)))
+    ∷ row 14 (lengthField (0x81 ∷ 0x80 ∷ 0x80 ∷ 0x80 ∷ 0x80 ∷ 0x80 ∷ 0x80 ∷ 0x80 ∷ 0x0a ∷ [])) (stringOf 1 9)
+    ∷ []
+
+-- a row holds of a decoder and an encode; the whole sheet does
+abbrev pub Holds : {S : Type 0} → Machine S → Encode → Row → Type 0
+Holds M enc r = outcome M enc (r .input) ≡ r .expected
+
+abbrev pub Bench : {S : Type 0} → Machine S → Encode → Type 0
+Bench M enc = map (λ (r : Row). outcome M enc (r .input)) sheet ≡ map (λ (r : Row). r .expected) sheet

@@ -1,0 +1,81 @@
+-- What a reader must believe: a decoder in use, whichever decoder it is. Operations one after another with one buffer lent each time, what they answer, and which bytes were pushed since the last answer of note.
+use mathlib.Core.List.{List, [], _∷_, _++_}
+use Prim.Native.Nat.{ℕ, suc, _-_}
+use lib.ListN.{length, replicate}
+use Rattle.decoder.specs.Push.{Setup}
+use Rattle.decoder.specs.Record.{Answer, nothing, payload, count, refused, After, newRecord, payloadRecord}
+use Rattle.decoder.specs.Run as R
+use Rattle.decoder.specs.Run.{Op, push, finalize, reset}
+use Rattle.decoder.specs.declared.Decoder.{Decoder}
+
+-- what a call gave: its answer, the decoder and the lent memory as they are then
+pub record Gave (S : Type 0) : Type 0 where
+  pub answer : Answer
+  pub decoder : S
+  pub memory : List ℕ
+
+-- a decoder that keeps an S: a new one, of what never changes (its capacity); what a push, finalize or reset gives, with the lent memory; what it hands back as the payload
+pub record Machine (S : Type 0) : Type 0 where
+  pub new : Setup → S
+  pub act : S → List ℕ → Op → Gave S
+  pub payloadOf : S → List ℕ → List ℕ
+
+-- ours, by the definitions that the contracts of new, push_byte, finalize, reset and payload cite
+abbrev pub gave : After → Gave Decoder
+gave a = record { answer = a .answer; decoder = a .decoder; memory = a .memory }
+
+abbrev pub ours : Machine Decoder
+ours = record { new = λ C. newRecord (C .capacity); act = λ d m o. gave (R.act d m o); payloadOf = payloadRecord }
+
+-- ---- in use
+
+-- an answer for each operation
+unfoldable pub answers : {S : Type 0} → Machine S → S → List ℕ → List Op → List Answer
+answers M d m [] = []
+answers M d m (o ∷ os) =
+    let a = M .act d m o in
+    a .answer ∷ answers M (a .decoder) (a .memory) os
+
+-- what the operation o gives behind the operations os
+unfoldable pub behind : {S : Type 0} → Machine S → S → List ℕ → List Op → Op → Gave S
+behind M d m [] o = M .act d m o
+behind M d m (p ∷ os) o =
+    let a = M .act d m p in
+    behind M (a .decoder) (a .memory) os o
+
+-- ---- what was pushed, told by the operations and their answers alone
+
+-- the bytes pushed since the last payload, refusal, finalize or reset, with the n before
+unfoldable pub countFrom : ℕ → List Op → List Answer → ℕ
+countFrom n [] more = n
+countFrom n (o ∷ os) [] = n
+countFrom n (push b ∷ os) (nothing ∷ more) = countFrom (suc n) os more
+countFrom n (push b ∷ os) (payload bytes ∷ more) = countFrom 0 os more
+countFrom n (push b ∷ os) (count k ∷ more) = countFrom 0 os more
+countFrom n (push b ∷ os) (refused k values ∷ more) = countFrom 0 os more
+countFrom n (finalize ∷ os) (a ∷ more) = countFrom 0 os more
+countFrom n (reset ∷ os) (a ∷ more) = countFrom 0 os more
+
+-- or else since the start
+abbrev pub countSince : List Op → List Answer → ℕ
+countSince os more = countFrom 0 os more
+
+-- the bytes themselves since the last payload, finalize or reset, behind those in h: a refusal is passed over
+unfoldable pub bytesFrom : List ℕ → List Op → List Answer → List ℕ
+bytesFrom h [] more = h
+bytesFrom h (o ∷ os) [] = h
+bytesFrom h (push b ∷ os) (nothing ∷ more) = bytesFrom (h ++ b ∷ []) os more
+bytesFrom h (push b ∷ os) (payload bytes ∷ more) = bytesFrom [] os more
+bytesFrom h (push b ∷ os) (count k ∷ more) = bytesFrom (h ++ b ∷ []) os more
+bytesFrom h (push b ∷ os) (refused k values ∷ more) = bytesFrom (h ++ b ∷ []) os more
+bytesFrom h (finalize ∷ os) (a ∷ more) = bytesFrom [] os more
+bytesFrom h (reset ∷ os) (a ∷ more) = bytesFrom [] os more
+
+abbrev pub bytesSince : List Op → List Answer → List ℕ
+bytesSince os more = bytesFrom [] os more
+
+-- ---- a frame
+
+-- what the pushes of a frame answer: `eighth` at its eighth byte, the payload at its last, and nothing else
+abbrev pub frameSays : Answer → List ℕ → List ℕ → List Answer
+frameSays eighth frame P = replicate 7 nothing ++ eighth ∷ (replicate (length frame - 9) nothing ++ payload P ∷ [])

@@ -1,0 +1,112 @@
+-- What a reader must believe: the fakes of document 01, each a small decoder or encoder, and which claim or row of the bench sheet is false of it.
+use mathlib.Core.Bool.{Bool, true, false, cond}
+use mathlib.Core.List.{List, [], _∷_}
+use Prim.Native.Nat.{ℕ, suc}
+use Rattle.encoder.specs.Encode.{encodeTo, length-is, leaves}
+use Rattle.encoder.specs.Encode as E
+use Rattle.encoder.specs.Encoder.{finished}
+use Rattle.decoder.specs.Record.{Answer, nothing, payload, count, refused}
+use Rattle.decoder.specs.Run.{Op, push, finalize, reset}
+use Rattle.decoder.specs.declared.Decoder.{Decoder}
+use Rattle.marks.specs.Decoders.{Gave, Machine, ours}
+use Rattle.marks.specs.Mark2.{Soundness, Completeness, OurSearch}
+use Rattle.marks.specs.Mark3.{Encode, Mark3}
+use Rattle.marks.specs.Encoders.{Caller, SameBytes}
+use Rattle.marks.specs.Bench.{Holds, b1, b3, b6}
+
+-- ours, but for what it answers
+abbrev pub retold : (Answer → Answer) → Machine Decoder
+retold f =
+    record {
+      new = ours .new;
+      act = λ d m o. record { answer = f (ours .act d m o .answer); decoder = ours .act d m o .decoder; memory = ours .act d m o .memory };
+      payloadOf = ours .payloadOf;
+    }
+
+-- refuses everything, as if every record were a bad one
+abbrev pub refuses : Machine Decoder
+refuses = record { new = ours .new; act = λ d m o. record { answer = refused 4 []; decoder = d; memory = m }; payloadOf = λ d m. [] }
+
+-- one constant payload
+abbrev pub constantly : Answer → Answer
+constantly nothing = nothing
+constantly (payload bytes) = payload (0x2a ∷ [])
+constantly (count k) = count k
+constantly (refused k values) = refused k values
+
+abbrev pub constant : Machine Decoder
+constant = retold constantly
+
+-- a push that does nothing
+abbrev pub idly : Decoder → List ℕ → Op → Gave Decoder
+idly d m (push b) = record { answer = nothing; decoder = d; memory = m }
+idly d m finalize = ours .act d m finalize
+idly d m reset = ours .act d m reset
+
+abbrev pub idle : Machine Decoder
+idle = record { new = ours .new; act = idly; payloadOf = ours .payloadOf }
+
+-- an invented discard count
+abbrev pub inventing : Answer → Answer
+inventing nothing = nothing
+inventing (payload bytes) = payload bytes
+inventing (count k) = count k
+inventing (refused k []) = refused k []
+inventing (refused k (n ∷ [])) = refused k (suc n ∷ [])
+inventing (refused k (n ∷ more ∷ values)) = refused k (n ∷ more ∷ values)
+
+abbrev pub invents : Machine Decoder
+invents = retold inventing
+
+-- right for the first frame, and empty afterwards: a decoder that also remembers that it gave a payload
+pub record Spent : Type 0 where
+  pub decoder : Decoder
+  pub spent : Bool
+
+abbrev pub emptied : Bool → Answer → Answer
+emptied b nothing = nothing
+emptied b (payload bytes) = cond b (payload []) (payload bytes)
+emptied b (count k) = count k
+emptied b (refused k values) = refused k values
+
+abbrev pub spends : Bool → Answer → Bool
+spends b nothing = b
+spends b (payload bytes) = true
+spends b (count k) = b
+spends b (refused k values) = b
+
+abbrev pub once : Machine Spent
+once =
+    record {
+      new = λ C. record { decoder = ours .new C; spent = false };
+      act = λ d m o.
+          let a = ours .act (d .decoder) m o in
+          record { answer = emptied (d .spent) (a .answer); decoder = record { decoder = a .decoder; spent = spends (d .spent) (a .answer) }; memory = a .memory };
+      payloadOf = λ d m. cond (d .spent) [] (ours .payloadOf (d .decoder) m);
+    }
+
+-- an encode that does nothing and says that it wrote nothing, one that refuses everything, and an Encoder that is finished at once
+abbrev pub writesNothing : Encode
+writesNothing P output = leaves (length-is 0) output
+
+abbrev pub refusesToEncode : Encode
+refusesToEncode P output = leaves (E.refused 1) output
+
+abbrev pub finishedAtOnce : Caller Bool
+finishedAtOnce = record { new = true; next = λ e P. record { answer = finished; encoder = e } }
+
+-- each of them falls
+pub record Fall : Type 0 where
+  pub refuses-b3 : Holds refuses encodeTo b3 → ⊥
+  pub refuses-mark3 : Mark3 refuses encodeTo → ⊥
+  pub refuses-b1 : Holds ours refusesToEncode b1 → ⊥
+  pub constant-mark2 : Soundness constant → ⊥
+  pub constant-mark3 : Mark3 constant encodeTo → ⊥
+  pub idle-mark2 : Completeness idle OurSearch → ⊥
+  pub idle-mark3 : Mark3 idle encodeTo → ⊥
+  pub writes-nothing-b1 : Holds ours writesNothing b1 → ⊥
+  pub writes-nothing-mark3 : Mark3 ours writesNothing → ⊥
+  pub finished-at-once : SameBytes finishedAtOnce encodeTo → ⊥
+  pub once-mark3 : Mark3 once encodeTo → ⊥
+  pub invents-b6 : Holds invents encodeTo b6 → ⊥
+  pub invents-mark3 : Mark3 invents encodeTo → ⊥

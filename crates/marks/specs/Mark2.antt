@@ -1,0 +1,71 @@
+-- What a reader must believe: mark 2. A decoder hands out a payload only at the last byte of a sound frame for it, and every sound frame that fits is handed out.
+use mathlib.Core.Path.{_≡_}
+use mathlib.Core.Bool.{false, cond}
+use mathlib.Core.List.{List, [], _∷_, _++_, map}
+use Prim.Native.Nat.{ℕ, _+_, _≤_, _<_}
+use lib.ListN.{length, replicate}
+use lib.Dec.{eqb}
+use Rattle.frame.specs.Frame.{Sound}
+use Rattle.decoder.specs.Push.{Setup}
+use Rattle.decoder.specs.Record.{Answer, nothing, payload, refused, setup, badState, wrongBuffer}
+use Rattle.decoder.specs.Run.{Op, push, finalize, reset}
+use Rattle.decoder.specs.declared.DecodeState.the-variants.{LookingForMessageStart}
+use Rattle.decoder.specs.declared.Decoder.{Decoder}
+use Rattle.marks.specs.Decoders.{Machine, Gave, answers, behind, bytesSince, frameSays}
+
+-- ---- soundness
+
+-- what is pushed are bytes
+abbrev pub PushesBytes : List Op → Type 0
+PushesBytes [] = Unit {0}
+PushesBytes (push b ∷ os) = (b < 256) × PushesBytes os
+PushesBytes (finalize ∷ os) = PushesBytes os
+PushesBytes (reset ∷ os) = PushesBytes os
+
+-- the operation o pushes the last byte of a sound frame for P: with it, the bytes `since` end with such a frame
+pub record EndsFrame (since : List ℕ) (o : Op) (P : List ℕ) : Type 0 where
+  pub last : ℕ
+  pub pushes : o ≡ push last
+  pub before : List ℕ
+  pub frame : List ℕ
+  pub ends : since ++ last ∷ [] ≡ before ++ frame
+  pub sound : Sound frame P
+
+-- Any operations on a new decoder, and one more that answers with a payload: it pushes the last byte of a sound frame for it, which ends the bytes pushed since the last payload, finalize or reset, or else since the start; and
+-- what is handed back from the memory of that same run is that payload
+abbrev pub Soundness : {S : Type 0} → Machine S → Type 0
+Soundness {S} M =
+    (C : Setup) (m : List ℕ) → length m ≡ C .capacity → C .capacity ≤ 1048576
+    → (os : List Op) (o : Op) (P : List ℕ) → PushesBytes (os ++ o ∷ [])
+    → let a : Gave S = behind M (M .new C) m os o in
+    a .answer ≡ payload P
+    → EndsFrame (bytesSince os (answers M (M .new C) m os)) o P × (M .payloadOf (a .decoder) (a .memory) ≡ P)
+
+-- ---- completeness
+
+-- the eighth byte of a frame answers DiscardedBytes(noise) if noise is over 0, else no event
+abbrev pub eighth : ℕ → Answer
+eighth noise = cond (eqb noise 0) nothing (refused 6 (noise ∷ []))
+
+-- the first event behind the eighth byte is 3
+pub record NoRoom (noise : ℕ) (heard : List Answer) : Type 0 where
+  pub quiet : ℕ
+  pub rest : List Answer
+  pub is : heard ≡ replicate 7 nothing ++ eighth noise ∷ (replicate quiet nothing ++ refused 3 [] ∷ rest)
+
+-- From any search with nothing matched (`Searching C d m noise`: the decoder d, with the memory m, is one), every sound frame, pads of any value. Its data D fits where D's length plus 4 is at most the capacity: then the
+-- eighth byte answers for the noise, the last with the payload, and every other nothing. Where it doesn't fit, the first event behind the eighth byte is 3
+abbrev pub Completeness : {S : Type 0} → Machine S → (Setup → S → List ℕ → ℕ → Type 0) → Type 0
+Completeness {S} M Searching =
+    (C : Setup) (d : S) (m : List ℕ) (noise : ℕ) → Searching C d m noise
+    → (frame P : List ℕ) (sound : Sound frame P)
+    → let heard : List Answer = answers M d m (map push frame) in
+    (length (sound .D) + 4 ≤ C .capacity → heard ≡ frameSays (eighth noise) frame P)
+    × (C .capacity < length (sound .D) + 4 → NoRoom noise heard)
+
+-- ours: a record in a search with nothing matched, whatever else it holds, that with this memory is refused neither with 4 nor with 5
+pub record OurSearch (C : Setup) (d : Decoder) (m : List ℕ) (noise : ℕ) : Type 0 where
+  pub searches : d .state ≡ LookingForMessageStart noise 0
+  pub good : badState d ≡ false
+  pub lent : wrongBuffer (d .capacity) (length m) ≡ false
+  pub setup′ : setup d ≡ C

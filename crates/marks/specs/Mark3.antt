@@ -1,0 +1,62 @@
+-- What a reader must believe: mark 3. Whatever was done with a new decoder before, behind capacity + 5 zero bytes every encoded payload that fits is handed out.
+use mathlib.Core.Path.{_≡_}
+use mathlib.Core.List.{List, [], _∷_, _++_, map}
+use Prim.Native.Nat.{ℕ, _+_, _≤_}
+use lib.ListN.{length, take, replicate}
+use Rattle.frame.specs.Frame.{frameOf, missing}
+use Rattle.encoder.specs.Encode.{Leaves, length-is}
+use Rattle.encoder.specs.Encode as E
+use Rattle.decoder.specs.Push.{Setup, stopped}
+use Rattle.decoder.specs.Record.{Answer, nothing, refused}
+use Rattle.decoder.specs.Run.{Op, push}
+use Rattle.marks.specs.Decoders.{Machine, answers, countSince, frameSays}
+
+-- an encode: of a payload and the output that is lent, its answer and what it leaves in the output. Ours is encodeTo, which encode's contract cites
+abbrev pub Encode : Type 0
+Encode = List ℕ → List ℕ → Leaves
+
+-- a payload to be encoded, and the output for it
+pub record Job : Type 0 where
+  pub payload : List ℕ
+  pub output : List ℕ
+
+-- padded length plus 4 is at most the capacity, and the output takes the frame
+abbrev pub Suits : Setup → Job → Type 0
+Suits C j =
+    (length (j .payload) + missing (length (j .payload)) + 4 ≤ C .capacity)
+    × (length (frameOf (j .payload)) ≤ length (j .output))
+
+abbrev pub AllSuit : Setup → List Job → Type 0
+AllSuit C [] = Unit {0}
+AllSuit C (j ∷ js) = Suits C j × AllSuit C js
+
+-- the bytes that encode wrote: as many of the output as it answered
+abbrev pub part : E.Answer → List ℕ → List ℕ
+part (length-is n) output = take n output
+part (E.refused k) output = []
+
+abbrev pub wroteFor : Encode → Job → List ℕ
+wroteFor encode j =
+    let l = encode (j .payload) (j .output) in
+    part (l .answer) (l .output)
+
+-- those of several jobs, back to back
+unfoldable pub framesFor : Encode → List Job → List ℕ
+framesFor encode [] = []
+framesFor encode (j ∷ js) = wroteFor encode j ++ framesFor encode js
+
+-- what they answer behind a payload
+unfoldable pub restSays : Encode → List Job → List Answer
+restSays encode [] = []
+restSays encode (j ∷ js) = frameSays nothing (wroteFor encode j) (j .payload) ++ restSays encode js
+
+-- Any pushes, finalize and reset calls on a new decoder, its capacity + 5 zero bytes, then one or more encoded payloads back to back. Behind what came before, the whole list of answers is: one DiscardedBytes (6), at the
+-- first frame's eighth byte, with the count of the bytes before that frame since the last payload, refusal, finalize or reset, or else since the start, stopped at 4,294,967,295; each payload at its own last byte; nothing else
+abbrev pub Mark3 : {S : Type 0} → Machine S → Encode → Type 0
+Mark3 M encode =
+    (C : Setup) (m : List ℕ) → length m ≡ C .capacity → C .capacity ≤ 1048576
+    → (before : List Op) (j : Job) (js : List Job) → AllSuit C (j ∷ js)
+    → let os : List Op = before ++ replicate (C .capacity + 5) (push 0x00) in
+    let heard : List Answer = answers M (M .new C) m os in
+    answers M (M .new C) m (os ++ map push (framesFor encode (j ∷ js)))
+    ≡ heard ++ (frameSays (refused 6 (stopped (countSince os heard) ∷ [])) (wroteFor encode j) (j .payload) ++ restSays encode js)

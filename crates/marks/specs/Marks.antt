@@ -1,0 +1,31 @@
+-- What a reader must believe: the marks, all that this crate claims of ours, in one place. proofs/Marks.antt proves it.
+use mathlib.Core.Path.{_≡_}
+use mathlib.Core.List.{List}
+use Prim.Native.Nat.{ℕ, _≤_}
+use lib.ListN.{length}
+use Rattle.encoder.specs.Encode.{encodeTo}
+use Rattle.decoder.specs.Push.{Setup}
+use Rattle.marks.specs.Decided.{Views, Decided}
+use Rattle.marks.specs.Decoders.{ours}
+use Rattle.marks.specs.Mark2.{Soundness, Completeness, OurSearch}
+use Rattle.marks.specs.Mark3.{Mark3}
+use Rattle.marks.specs.Encoders.{ourEncoder, SameBytes}
+use Rattle.marks.specs.Bench.{Bench}
+use Rattle.marks.specs.Fakes.{Fall}
+
+pub record Marks : Type 0 where
+  -- mark 1: one outcome for each input
+  pub views : Views
+  pub decided : Decided
+  -- mark 2: payloads only of sound frames, and of every sound frame that fits; a new decoder is such a search
+  pub soundness : Soundness ours
+  pub completeness : Completeness ours OurSearch
+  pub new-searches : (C : Setup) (m : List ℕ) → length m ≡ C .capacity → C .capacity ≤ 1048576 → OurSearch C (ours .new C) m 0
+  -- encode and the Encoder give the same bytes
+  pub same-bytes : SameBytes ourEncoder encodeTo
+  -- mark 3: behind zero bytes every frame is heard
+  pub mark3 : Mark3 ours encodeTo
+  -- B1 to B14
+  pub bench : Bench ours encodeTo
+  -- and what they are false of
+  pub fall : Fall

@@ -1,0 +1,64 @@
+-- What a reader must believe: what each answer says, field for field.
+use Rattle.tlf.specs.Read.{Read, got, refused}
+use Rattle.tlf.specs.Refusals.{faultOf}
+use Rattle.tlf.specs.declared.Span.{Span}
+use Rattle.octet_string.specs.Answers.{optSpan}
+use Rattle.value.specs.Answers.{optTime}
+use Rattle.common.specs.Answers.{openResponse, closeResponse}
+use Rattle.message.specs.Messages.{ListStart, ListEnd, Body, opened, closed, listed, MessageStart}
+use Rattle.message.specs.declared.GetListResponseStart.{GetListResponseStart}
+use Rattle.message.specs.declared.GetListResponseEnd.{GetListResponseEnd}
+use Rattle.message.specs.declared.MessageBody.{MessageBody}
+use Rattle.message.specs.declared.MessageBody.the-variants as BodyC
+use Rattle.message.specs.declared.MessageStart as Starts
+use Rattle.message.specs.declared.ListStartRead.{ListStartRead}
+use Rattle.message.specs.declared.ListStartRead.the-variants as ListStartR
+use Rattle.message.specs.declared.ListEndRead.{ListEndRead}
+use Rattle.message.specs.declared.ListEndRead.the-variants as ListEndR
+use Rattle.message.specs.declared.BodyRead.{BodyRead}
+use Rattle.message.specs.declared.BodyRead.the-variants as BodyR
+use Rattle.message.specs.declared.StartRead.{StartRead}
+use Rattle.message.specs.declared.StartRead.the-variants as StartR
+
+abbrev pub listStart : GetListResponseStart → ListStart Span
+listStart x =
+    record {
+      clientId = optSpan (x .«client_id»);
+      serverId = x .«server_id»;
+      name = optSpan (x .«list_name»);
+      time = optTime (x .«act_sensor_time»);
+      count = x .«num_vals»;
+    }
+
+abbrev pub listStartRead : ListStartRead → Read (ListStart Span)
+listStartRead (ListStartR.Is x next) = got (listStart x) next
+listStartRead (ListStartR.Refused f) = refused (faultOf f)
+
+abbrev pub listEnd : GetListResponseEnd → ListEnd Span
+listEnd x = record { signature = optSpan (x .«list_signature»); time = optTime (x .«act_gateway_time») }
+
+abbrev pub listEndRead : ListEndRead → Read (ListEnd Span)
+listEndRead (ListEndR.Is x next) = got (listEnd x) next
+listEndRead (ListEndR.Refused f) = refused (faultOf f)
+
+abbrev pub messageBody : MessageBody → Body Span
+messageBody (BodyC.OpenResponse x) = opened (openResponse x)
+messageBody (BodyC.CloseResponse x) = closed (closeResponse x)
+messageBody (BodyC.GetListResponse x) = listed (listStart x)
+
+abbrev pub bodyRead : BodyRead → Read (Body Span)
+bodyRead (BodyR.Is x next) = got (messageBody x) next
+bodyRead (BodyR.Refused f) = refused (faultOf f)
+
+abbrev pub messageStart : Starts.MessageStart → MessageStart Span
+messageStart x =
+    record {
+      transactionId = x .«transaction_id»;
+      groupNo = x .«group_no»;
+      abortOnError = x .«abort_on_error»;
+      body = messageBody (x .«message_body»);
+    }
+
+abbrev pub startRead : StartRead → Read (MessageStart Span)
+startRead (StartR.Is x next) = got (messageStart x) next
+startRead (StartR.Refused f) = refused (faultOf f)

@@ -1,0 +1,15 @@
+-- How the code is cut: a list's head with its number of entries, where the fields before it are read already.
+use Prim.Native.Nat.{ℕ}
+use mathlib.Core.List.{List}
+use mathlib.Core.Option.{Option}
+use Rattle.tlf.specs.Read.{Read, got, then, guard, mismatch}
+use Rattle.tlf.specs.Lengths.{tlfAt, isList}
+use Rattle.tlf.specs.declared.TypeLengthField.{TypeLengthField}
+use Rattle.tlf.specs.declared.Span.{Span}
+use Rattle.message.specs.Messages.{ListStart}
+
+unfoldable pub listStartRest : Option Span → Span → Option Span → Option ℕ → List ℕ → ℕ → Read (ListStart Span)
+listStartRest clientId serverId name time s n₄ =
+    then (tlfAt s n₄) λ entries n₅.
+    guard (isList (entries .ty)) (mismatch n₄)
+    (got (record { clientId = clientId; serverId = serverId; name = name; time = time; count = entries .len }) n₅)

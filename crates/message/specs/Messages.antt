@@ -1,0 +1,82 @@
+-- What a reader must believe: a message's head and body, up to the entries of a list, and a list's end.
+use Prim.Native.Nat.{ℕ}
+use mathlib.Core.List.{List}
+use mathlib.Core.Bool.{cond}
+use mathlib.Core.Option.{Option}
+use lib.Dec.{eqb}
+use Rattle.tlf.specs.Read.{Read, got, refused, then, guard, mismatch, unexpected}
+use Rattle.tlf.specs.Lengths.{tlfAt, isList, listOfAt}
+use Rattle.tlf.specs.declared.TypeLengthField.{TypeLengthField}
+use Rattle.tlf.specs.declared.Span.{Span}
+use Rattle.num.specs.Numbers.{unsignedAt}
+use Rattle.octet_string.specs.Strings.{octetsAt}
+use Rattle.octet_string.specs.Optional.{optional}
+use Rattle.value.specs.Values.{timeAt}
+use Rattle.common.specs.Fields.{OpenResponse, CloseResponse, openAt, closeAt}
+
+-- strings are of type T: a part of the input where they are read, or the bytes themselves
+pub record ListStart (T : Type 0) : Type 0 where
+  pub clientId : Option T
+  pub serverId : T
+  pub name : Option T
+  pub time : Option ℕ
+  pub count : ℕ
+
+-- a list response is a list of 7, of which the fifth is a list of entries; here it stands up to that list's head
+unfoldable pub listStartAt : List ℕ → ℕ → Read (ListStart Span)
+listStartAt s at =
+    then (listOfAt 7 s at) λ list n₀.
+    then (optional octetsAt s n₀) λ clientId n₁.
+    then (octetsAt s n₁) λ serverId n₂.
+    then (optional octetsAt s n₂) λ name n₃.
+    then (optional timeAt s n₃) λ time n₄.
+    then (tlfAt s n₄) λ entries n₅.
+    guard (isList (entries .ty)) (mismatch n₄)
+    (got (record { clientId = clientId; serverId = serverId; name = name; time = time; count = entries .len }) n₅)
+
+pub record ListEnd (T : Type 0) : Type 0 where
+  pub signature : Option T
+  pub time : Option ℕ
+
+-- the two fields behind the entries
+unfoldable pub listEndAt : List ℕ → ℕ → Read (ListEnd Span)
+listEndAt s at =
+    then (optional octetsAt s at) λ signature n₁.
+    then (optional timeAt s n₁) λ time n₂.
+    got (record { signature = signature; time = time }) n₂
+
+pub data Body (T : Type 0) : Type 0 where
+  opened : OpenResponse T → Body T
+  closed : CloseResponse T → Body T
+  listed : ListStart T → Body T
+
+-- the content that a tag names; another tag, which stands at `place`, is 13
+unfoldable pub contentAt : List ℕ → ℕ → ℕ → ℕ → Read (Body Span)
+contentAt s place tag at =
+    cond (eqb tag 0x00000101) (then (openAt s at) λ b next. got (opened b) next)
+    (cond (eqb tag 0x00000201) (then (closeAt s at) λ b next. got (closed b) next)
+    (cond (eqb tag 0x00000701) (then (listStartAt s at) λ b next. got (listed b) next)
+    (refused (unexpected place))))
+
+-- a body is a list of 2: u32 tag and content
+unfoldable pub bodyAt : List ℕ → ℕ → Read (Body Span)
+bodyAt s at =
+    then (listOfAt 2 s at) λ list n₀.
+    then (unsignedAt 4 s n₀) λ tag n₁.
+    contentAt s n₀ tag n₁
+
+pub record MessageStart (T : Type 0) : Type 0 where
+  pub transactionId : T
+  pub groupNo : ℕ
+  pub abortOnError : ℕ
+  pub body : Body T
+
+-- a message is a list of 6: transaction id, two u8, a body; CRC and end byte are the trailer's
+unfoldable pub startAt : List ℕ → ℕ → Read (MessageStart Span)
+startAt s at =
+    then (listOfAt 6 s at) λ list n₀.
+    then (octetsAt s n₀) λ transactionId n₁.
+    then (unsignedAt 1 s n₁) λ groupNo n₂.
+    then (unsignedAt 1 s n₂) λ abortOnError n₃.
+    then (bodyAt s n₃) λ body n₄.
+    got (record { transactionId = transactionId; groupNo = groupNo; abortOnError = abortOnError; body = body }) n₄

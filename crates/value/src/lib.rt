@@ -1,0 +1,452 @@
+// Ports Time, Status and Value of parser/common.rs, and Option of parser/mod.rs for all but strings.
+ghost use mathlib.Core.Path.{_≡_};
+ghost use Rattle.tlf.specs.declared.Ty.{Ty};
+ghost use Rattle.num.specs.Numbers.{unsignedAt, signedAt};
+ghost use Rattle.num.specs.Answers.{u32Read};
+ghost use Rattle.octet_string.specs.Optional.{optional};
+ghost use Rattle.value.specs.Values.{isBareTime, timeAt, narrowest, statusOf, statusAt, signedValue, unsignedValue, listTypeAt, valueOf, valueAt, listTime};
+ghost use Rattle.value.specs.Answers.{seconds, value, timeRead, statusRead, valueRead, optU8Read, optI8Read, optTimeRead, optStatusRead};
+use num::BoolRead;
+use num::I8Read;
+use num::I16Read;
+use num::I32Read;
+use num::I64Read;
+use num::U8Read;
+use num::U16Read;
+use num::U32Read;
+use num::U64Read;
+use tlf::Fault;
+use tlf::ParseError;
+use tlf::PlaceRead;
+use tlf::Span;
+use tlf::SpanRead;
+use tlf::TlfRead;
+use tlf::Ty;
+use tlf::TypeLengthField;
+
+// Time::SecIndex of the Rust, its only variant.
+pub struct Time {
+    pub sec_index: u32,
+}
+
+pub enum TimeRead {
+    Is { time: Time, next: usize },
+    Refused(Fault),
+}
+
+// Holley DTZ541 sends a bare u32 of four bytes where a Time should stand.
+fn is_bare_time(tlf: TypeLengthField) -> bool
+    ensures { λ r. ⌜ r ≡ isBareTime tlf ⌝ }
+{
+    let ty = tlf.ty;
+    match ty {
+        Ty::OctetString => false,
+        Ty::Boolean => false,
+        Ty::Integer => false,
+        Ty::Unsigned => tlf.len == 4,
+        Ty::ListOf => false,
+    }
+}
+
+fn sec_index(read: U32Read) -> TimeRead
+    ensures { λ r. ⌜ timeRead r ≡ u32Read read ⌝ }
+{
+    match read {
+        U32Read::Is { value, next } => TimeRead::Is {
+            time: Time { sec_index: value },
+            next,
+        },
+        U32Read::Refused(f) => TimeRead::Refused(f),
+    }
+}
+
+pub fn parse_time(input: &[u8], at: usize) -> TimeRead
+    ensures { λ r. ⌜ timeRead r ≡ timeAt (now (input .entry)) at ⌝ }
+{
+    let mut n = at;
+    match TypeLengthField::parse(input, at) {
+        TlfRead::Is { tlf, next } => {
+            if is_bare_time(tlf) {
+                return sec_index(num::parse_u32(input, at));
+            }
+            if tlf.is_list_of(2) {
+                n = next;
+            } else {
+                return TimeRead::Refused(Fault {
+                    error: ParseError::TlfMismatch,
+                    place: at,
+                });
+            }
+        }
+        TlfRead::Refused(f) => return TimeRead::Refused(f),
+    }
+    match num::parse_u8(input, n) {
+        U8Read::Is { value: tag, next } => {
+            if tag == 1 {
+                sec_index(num::parse_u32(input, next))
+            } else {
+                TimeRead::Refused(Fault {
+                    error: ParseError::UnexpectedVariant,
+                    place: n,
+                })
+            }
+        }
+        U8Read::Refused(f) => TimeRead::Refused(f),
+    }
+}
+
+pub enum Status {
+    Status8(u8),
+    Status16(u16),
+    Status32(u32),
+    Status64(u64),
+}
+
+pub enum StatusRead {
+    Is { status: Status, next: usize },
+    Refused(Fault),
+}
+
+// The status of an element of so many bytes, at the narrowest width.
+fn status_of(input: &[u8], at: usize, len: u32) -> StatusRead
+    ensures { λ r. ⌜ statusRead r ≡ statusOf (narrowest len) (now (input .entry)) at ⌝ }
+{
+    if len <= 1 {
+        return match num::parse_u8(input, at) {
+            U8Read::Is { value, next } => StatusRead::Is {
+                status: Status::Status8(value),
+                next,
+            },
+            U8Read::Refused(f) => StatusRead::Refused(f),
+        };
+    }
+    if len <= 2 {
+        return match num::parse_u16(input, at) {
+            U16Read::Is { value, next } => StatusRead::Is {
+                status: Status::Status16(value),
+                next,
+            },
+            U16Read::Refused(f) => StatusRead::Refused(f),
+        };
+    }
+    if len <= 4 {
+        return match num::parse_u32(input, at) {
+            U32Read::Is { value, next } => StatusRead::Is {
+                status: Status::Status32(value),
+                next,
+            },
+            U32Read::Refused(f) => StatusRead::Refused(f),
+        };
+    }
+    match num::parse_u64(input, at) {
+        U64Read::Is { value, next } => StatusRead::Is {
+            status: Status::Status64(value),
+            next,
+        },
+        U64Read::Refused(f) => StatusRead::Refused(f),
+    }
+}
+
+pub fn parse_status(input: &[u8], at: usize) -> StatusRead
+    ensures { λ r. ⌜ statusRead r ≡ statusAt (now (input .entry)) at ⌝ }
+{
+    match TypeLengthField::parse(input, at) {
+        TlfRead::Is { tlf, next: _ } => status_of(input, at, tlf.len),
+        TlfRead::Refused(f) => StatusRead::Refused(f),
+    }
+}
+
+// ListType::Time of the Rust, its only variant.
+pub struct ListType {
+    pub time: Time,
+}
+
+pub enum Value {
+    Bool(bool),
+    Bytes(Span),
+    I8(i8),
+    I16(i16),
+    I32(i32),
+    I64(i64),
+    U8(u8),
+    U16(u16),
+    U32(u32),
+    U64(u64),
+    List(ListType),
+}
+
+pub enum ValueRead {
+    Is { value: Value, next: usize },
+    Refused(Fault),
+}
+
+fn bool_value(input: &[u8], at: usize) -> ValueRead
+    ensures { λ r. ⌜ valueRead r ≡ valueOf Ty.Boolean 0 (now (input .entry)) at ⌝ }
+{
+    match num::parse_bool(input, at) {
+        BoolRead::Is { value, next } => ValueRead::Is {
+            value: Value::Bool(value),
+            next,
+        },
+        BoolRead::Refused(f) => ValueRead::Refused(f),
+    }
+}
+
+fn bytes_value(input: &[u8], at: usize) -> ValueRead
+    ensures { λ r. ⌜ valueRead r ≡ valueOf Ty.OctetString 0 (now (input .entry)) at ⌝ }
+{
+    match octet_string::parse_octet_str(input, at) {
+        SpanRead::Is { span, next } => ValueRead::Is {
+            value: Value::Bytes(span),
+            next,
+        },
+        SpanRead::Refused(f) => ValueRead::Refused(f),
+    }
+}
+
+// The integer of an element of so many bytes, at the narrowest width.
+fn signed_value(input: &[u8], at: usize, len: u32) -> ValueRead
+    ensures { λ r. ⌜ valueRead r ≡ signedValue (narrowest len) (now (input .entry)) at ⌝ }
+{
+    if len <= 1 {
+        return match num::parse_i8(input, at) {
+            I8Read::Is { value, next } => ValueRead::Is {
+                value: Value::I8(value),
+                next,
+            },
+            I8Read::Refused(f) => ValueRead::Refused(f),
+        };
+    }
+    if len <= 2 {
+        return match num::parse_i16(input, at) {
+            I16Read::Is { value, next } => ValueRead::Is {
+                value: Value::I16(value),
+                next,
+            },
+            I16Read::Refused(f) => ValueRead::Refused(f),
+        };
+    }
+    if len <= 4 {
+        return match num::parse_i32(input, at) {
+            I32Read::Is { value, next } => ValueRead::Is {
+                value: Value::I32(value),
+                next,
+            },
+            I32Read::Refused(f) => ValueRead::Refused(f),
+        };
+    }
+    match num::parse_i64(input, at) {
+        I64Read::Is { value, next } => ValueRead::Is {
+            value: Value::I64(value),
+            next,
+        },
+        I64Read::Refused(f) => ValueRead::Refused(f),
+    }
+}
+
+// The unsigned number of an element of so many bytes, at the narrowest width.
+fn unsigned_value(input: &[u8], at: usize, len: u32) -> ValueRead
+    ensures { λ r. ⌜ valueRead r ≡ unsignedValue (narrowest len) (now (input .entry)) at ⌝ }
+{
+    if len <= 1 {
+        return match num::parse_u8(input, at) {
+            U8Read::Is { value, next } => ValueRead::Is {
+                value: Value::U8(value),
+                next,
+            },
+            U8Read::Refused(f) => ValueRead::Refused(f),
+        };
+    }
+    if len <= 2 {
+        return match num::parse_u16(input, at) {
+            U16Read::Is { value, next } => ValueRead::Is {
+                value: Value::U16(value),
+                next,
+            },
+            U16Read::Refused(f) => ValueRead::Refused(f),
+        };
+    }
+    if len <= 4 {
+        return match num::parse_u32(input, at) {
+            U32Read::Is { value, next } => ValueRead::Is {
+                value: Value::U32(value),
+                next,
+            },
+            U32Read::Refused(f) => ValueRead::Refused(f),
+        };
+    }
+    match num::parse_u64(input, at) {
+        U64Read::Is { value, next } => ValueRead::Is {
+            value: Value::U64(value),
+            next,
+        },
+        U64Read::Refused(f) => ValueRead::Refused(f),
+    }
+}
+
+fn list_value(time: Time) -> Value
+    ensures { λ r. ⌜ value r ≡ listTime (seconds time) ⌝ }
+{
+    Value::List(ListType { time })
+}
+
+fn parse_list_type(input: &[u8], at: usize) -> ValueRead
+    ensures { λ r. ⌜ valueRead r ≡ listTypeAt (now (input .entry)) at ⌝ }
+{
+    let mut n = at;
+    match tlf::parse_list_of(input, at, 2) {
+        PlaceRead::Is { next } => n = next,
+        PlaceRead::Refused(f) => return ValueRead::Refused(f),
+    }
+    let mut after = n;
+    match num::parse_u8(input, n) {
+        U8Read::Is { value: tag, next } => {
+            if tag == 1 {
+                after = next;
+            } else {
+                return ValueRead::Refused(Fault {
+                    error: ParseError::UnexpectedVariant,
+                    place: n,
+                });
+            }
+        }
+        U8Read::Refused(f) => return ValueRead::Refused(f),
+    }
+    match parse_time(input, after) {
+        TimeRead::Is { time, next } => ValueRead::Is {
+            value: list_value(time),
+            next,
+        },
+        TimeRead::Refused(f) => ValueRead::Refused(f),
+    }
+}
+
+pub fn parse_value(input: &[u8], at: usize) -> ValueRead
+    ensures { λ r. ⌜ valueRead r ≡ valueAt (now (input .entry)) at ⌝ }
+{
+    match TypeLengthField::parse(input, at) {
+        TlfRead::Is { tlf, next: _ } => {
+            let ty = tlf.ty;
+            match ty {
+                Ty::Boolean => bool_value(input, at),
+                Ty::OctetString => bytes_value(input, at),
+                Ty::Integer => signed_value(input, at, tlf.len),
+                Ty::Unsigned => unsigned_value(input, at, tlf.len),
+                Ty::ListOf => parse_list_type(input, at),
+            }
+        }
+        TlfRead::Refused(f) => ValueRead::Refused(f),
+    }
+}
+
+pub enum OptU8 {
+    Present(u8),
+    Absent,
+}
+
+pub enum OptU8Read {
+    Is { field: OptU8, next: usize },
+    Refused(Fault),
+}
+
+pub fn parse_opt_u8(input: &[u8], at: usize) -> OptU8Read
+    ensures { λ r. ⌜ optU8Read r ≡ optional (unsignedAt 1) (now (input .entry)) at ⌝ }
+{
+    if octet_string::is_absent(input, at) {
+        return OptU8Read::Is {
+            field: OptU8::Absent,
+            next: at + 1,
+        };
+    }
+    match num::parse_u8(input, at) {
+        U8Read::Is { value, next } => OptU8Read::Is {
+            field: OptU8::Present(value),
+            next,
+        },
+        U8Read::Refused(f) => OptU8Read::Refused(f),
+    }
+}
+
+pub enum OptI8 {
+    Present(i8),
+    Absent,
+}
+
+pub enum OptI8Read {
+    Is { field: OptI8, next: usize },
+    Refused(Fault),
+}
+
+pub fn parse_opt_i8(input: &[u8], at: usize) -> OptI8Read
+    ensures { λ r. ⌜ optI8Read r ≡ optional (signedAt 1) (now (input .entry)) at ⌝ }
+{
+    if octet_string::is_absent(input, at) {
+        return OptI8Read::Is {
+            field: OptI8::Absent,
+            next: at + 1,
+        };
+    }
+    match num::parse_i8(input, at) {
+        I8Read::Is { value, next } => OptI8Read::Is {
+            field: OptI8::Present(value),
+            next,
+        },
+        I8Read::Refused(f) => OptI8Read::Refused(f),
+    }
+}
+
+pub enum OptTime {
+    Present(Time),
+    Absent,
+}
+
+pub enum OptTimeRead {
+    Is { field: OptTime, next: usize },
+    Refused(Fault),
+}
+
+pub fn parse_opt_time(input: &[u8], at: usize) -> OptTimeRead
+    ensures { λ r. ⌜ optTimeRead r ≡ optional timeAt (now (input .entry)) at ⌝ }
+{
+    if octet_string::is_absent(input, at) {
+        return OptTimeRead::Is {
+            field: OptTime::Absent,
+            next: at + 1,
+        };
+    }
+    match parse_time(input, at) {
+        TimeRead::Is { time, next } => OptTimeRead::Is {
+            field: OptTime::Present(time),
+            next,
+        },
+        TimeRead::Refused(f) => OptTimeRead::Refused(f),
+    }
+}
+
+pub enum OptStatus {
+    Present(Status),
+    Absent,
+}
+
+pub enum OptStatusRead {
+    Is { field: OptStatus, next: usize },
+    Refused(Fault),
+}
+
+pub fn parse_opt_status(input: &[u8], at: usize) -> OptStatusRead
+    ensures { λ r. ⌜ optStatusRead r ≡ optional statusAt (now (input .entry)) at ⌝ }
+{
+    if octet_string::is_absent(input, at) {
+        return OptStatusRead::Is {
+            field: OptStatus::Absent,
+            next: at + 1,
+        };
+    }
+    match parse_status(input, at) {
+        StatusRead::Is { status, next } => OptStatusRead::Is {
+            field: OptStatus::Present(status),
+            next,
+        },
+        StatusRead::Refused(f) => OptStatusRead::Refused(f),
+    }
+}
