@@ -1,0 +1,153 @@
+"""vectors.py: writes the fixed list of commands to crates/smlreplay/stdin and the crate's answers (target/oracle/oracle, made by oracle/build) to stdout beside it.
+
+`rt check smlreplay` replays them without the crate at hand. Run it again when a command is added; what it writes depends on nothing but this folder and the crate.
+"""
+import itertools, os, subprocess, sys
+
+sys.dont_write_bytecode = True
+from generate import commands
+from sml import ESCAPE, HERE, KINDS, START, capacities, closed, frame, hexed
+
+b = bytes.fromhex
+CAPS = capacities()
+B1 = frame(b("12345678"))
+lines = []
+
+
+def say(*commands):
+    lines.extend(commands)
+
+
+def push(cap, *ops):
+    say("push %d %s" % (cap, ",".join("b" + hexed(o) if isinstance(o, bytes) else o for o in ops)))
+
+
+def bench():
+    """B1 to B14, and the CRC's published check value."""
+    say("crc 313233343536373839", "crc -", "encode 12345678", "encode 13243546", "stream 12345678", "stream 13243546")
+    push(8, B1), push(7, B1), push(8, b"\x1b" + B1), push(8, b"\x1b" + B1, "f"), push(8, b"\0" + B1)
+    push(8, START + b("aabb") + B1), push(8, START + ESCAPE + b("02000000")), push(8, B1[:-1] + b"\x7a")
+    for h in ["07", "07010203040506", "8302" + "00" * 48, "8302", "8002", "00", "c2", "10", "8112", "8182", "52ff", "630005", "81808080808080800a41"]:
+        say(*("leaf %s %s" % (k, h) for k in KINDS))
+
+
+def doc_comments():
+    """The byte vectors of the crate's doc comments (src/transport.rs), in the buffer that they use, and numbers of every type."""
+    say("encode 001b1b1b1b010203", "stream 001b1b1b1b010203", "encode_cap 20 12345678")
+    push(10, B1, frame(b("13243546")), "f"), push(10, B1, "f", frame(b("13243546")), "r"), push(20, frame(b("001b1b1b1b010203")), "f")
+    for k in KINDS:
+        say(*("leaf %s %s" % (k, h) for h in ["62ff", "6300ff", "63ff01", "52ff", "537fff", "5401ffff", "4200", "4201", "42ff", "01", "0261", "-"]))
+
+
+def wrong_readings():
+    """The bytes of docs/WRONG-READINGS.md, and document 01's five marked readings."""
+    for h in ["8302", "07", "01", "8112", "4201", "6205", "72", "070102", "07010203040506", "52ff", "630102", "42ff", "4200", "41", "61", "6500000005", "00", "016205"]:
+        say(*("leaf %s %s" % (k, h) for k in KINDS))
+    say("crc 31", "crc 32", "crc 3139", "crc 39")
+    for n in range(1, 4):
+        # a payload that ends in 1b, and pads behind it
+        push(16, closed(START + b("010203")[: 4 - n] + b"\x1b" * n, 0), "f")
+        push(16, closed(START + b("010203")[: 3 - n] + b"\x1b" * n + b"\0", 1), "f")
+    for n in range(9):
+        push(8, b"\x1b" * n + B1, "f"), push(8, b"\x1b" * n + b"\0" + B1, "f")
+        push(8, B1[:n] + B1, "f"), push(8, B1, B1[:n], "f"), push(8, B1, B1[:n], "r", B1)
+    push(12, closed(START + ESCAPE + ESCAPE + b("1234") + b"\0\0", 2), "f")
+
+
+def runs_of_1b():
+    """Runs of 1b of every length from 0 to 12 at the start, in the middle and at the end, with every pad; there and back."""
+    for n, pads in itertools.product(range(13), range(4)):
+        for place in ("start", "middle", "end"):
+            size = next(s for s in range(2, 7) if (n + s + pads) % 4 == 0)
+            rest = bytes(range(0x41, 0x41 + size))
+            cut = {"start": 0, "middle": size // 2, "end": size}[place]
+            p = rest[:cut] + b"\x1b" * n + rest[cut:]
+            f = frame(p)
+            say("encode " + hexed(p), "stream " + hexed(p))
+            push(64, f, "f"), push(64, f + f), push(64, f[:-1], "f"), push(64, f[:-3] + b"\x04" + f[-2:], "f")
+
+
+def at_the_limits():
+    """Capacities one below, at and one above each limit: of an output, of the bytes stored."""
+    for n in range(0, 41):
+        p = bytes(0x1B if n % 3 == 0 else k for k in range(n))
+        f = frame(p)
+        for c in (len(f) - 1, len(f), len(f) + 1):
+            if c in CAPS:
+                say("encode_cap %d %s" % (c, hexed(p)))
+        stored = n + -n % 4 + 4
+        for c in (stored - 1, stored, stored + 1):
+            if c in CAPS:
+                push(c, f, "f"), push(c, f, f)
+    for c in range(0, 13):
+        # waiting 1b that don't fit; an escape that doesn't
+        for n in range(1, 4):
+            push(c, START + bytes(range(8)) + b"\x1b" * n + b"\x41" * 3, "f")
+        push(c, START + bytes(range(8)) + ESCAPE + ESCAPE + b"\x41", "f"), push(c, START + ESCAPE + b"\x1a\0\0\0", "f")
+    say("encode_cap 0 -", "encode_cap 15 -", "encode_cap 16 -", "encode_cap 17 -", "encode_cap 4096 " + "1b" * 300)
+    push(0, "f"), push(0, START, "f"), push(0, START + b"\x41", "f"), push(4096, START + bytes(4096), "f"), push(4096, START + bytes(4097), "f")
+    push(4096, frame(bytes(4092))), push(4096, frame(bytes(4093))), push(4095, frame(bytes(4092)))
+
+
+def refusals():
+    """Each refusal of a push, in each way, and the searches."""
+    for p in range(6):
+        for n in range(0, 6):
+            push(32, closed(START + bytes(range(0x30, 0x30 + n)), p), "f")
+            push(32, closed(START + bytes(range(0x30, 0x30 + n)), p)[:-1] + b"\0", "f")
+    for a in range(4):
+        for q in itertools.product((0x1B, 0x1A, 0x01, 0x02), repeat=4):
+            push(16, START + b"\x41" * a + ESCAPE + bytes(q), b"\x1a\0\0\0\0", "f")
+    for t in itertools.product((0x1B, 0x01, 0x00), repeat=5):
+        push(8, START[:3] + bytes(t) + START[4:], "f")
+    for n in (65534, 65535):
+        say("push 8 z%d:00,b%s,f" % (n, B1.hex()), "push 8 z%d:00,f,r" % n, "push 8 z%d:1b,f" % n)
+    say("push 8 b%s,f,f,r,r" % B1.hex(), "push 8 r,f,b-,r", "push 8 b1b,f,b1b1b,r,b00,f,z3:1b,f", "push 8 z0:00,f")
+
+
+def meters():
+    """The two constructed frames of meters: whole, at capacities about their limit, cut, one bit wrong."""
+    for f in map(b, open(os.path.join(HERE, "frames.hex")).read().split()):
+        push(512, f), push(512, f, f[:9], "f"), push(239, f, "f"), push(240, f, "f"), push(360, f, "f"), push(366, f, "f")
+        for k in range(0, len(f), 4):
+            push(512, f[: k + k // 4 % 4], "f"), push(512, f[:k] + bytes([f[k] ^ 1 << k // 4 % 8]) + f[k + 1:], "f")
+
+
+def fields():
+    """Every length byte at every kind, and the edges of every width."""
+    for k in KINDS:
+        for x in range(256):
+            say("leaf %s %02x" % (k, x))
+            if x % 16 < 10 or x >= 128:
+                say("leaf %s %02x0203040506070809" % (k, x))
+    for n in range(0, 10):
+        for c in ("00" * n, "ff" * n, "80" + "00" * n, "7f" + "ff" * n, "01" * n):
+            say(*("leaf %s %x%x%s" % (k, ty, n + 1, c[: 2 * n]) for k in KINDS for ty in (5, 6)))
+
+
+def no_commands():
+    say("", " ", "encode", "encode ", "encode  12", "encode 1", "encode 123", "encode AB", "encode ab ", "encode ab cd", "encode --", "encode 0x12", "ENCODE ab", "encode\tab",
+        "encode ab\r", "crc", "crc -\r", "stream", "stream g0", "encode_cap", "encode_cap 16", "encode_cap 16 ", "encode_cap  -", "encode_cap -1 -", "encode_cap +16 -", "encode_cap 4097 -",
+        "encode_cap 016 -", "encode_cap 99999999999999999999999999 -", "push", "push 8", "push 8 ", "push 8 ,", "push 8 f,", "push 8 ,f", "push 8 b", "push 8 b1", "push 8 bAB", "push 8 f f",
+        "push 8 x", "push 8 ff", "push 8 rf", "push 8 b12-", "push 8 b--", "push 4097 f", "push 99999999999999999999 f", "push 8x f", "push -8 f", "push 008 f", "push 8 z", "push 8 z3", "push 8 z3:",
+        "push 8 z:00", "push 8 z3:0", "push 8 z3:000", "push 8 z3:-", "push 8 z3:00:00", "push 8 z+3:00", "push 8 z1048577:00", "push 8 z99999999999999999999:00", "push 8 f,b,r", "leaf", "leaf u8",
+        "leaf u8 ", "leaf u9 6201", "leaf  6201", "leaf U8 6201", "leaf u8 620", "leaf opt_u9 01", "bad command", "pushx 8 f", "pus 8 f", "crc " + "00" * 34998,
+        "crc " + "00" * 34999, "x" * 70001, "encode \u00e9", "crc 31")
+
+
+def main():
+    bench(), doc_comments(), wrong_readings(), runs_of_1b(), at_the_limits(), refusals(), meters(), fields(), no_commands()
+    lines.extend(commands(20240607, 1500))
+    crate = os.path.join(HERE, "..", "crates", "smlreplay")
+    # the last line has no line end
+    given = "\n".join(lines + ["encode 12345678"]).encode()
+    said = subprocess.run([os.path.join(HERE, "..", "target/oracle/oracle")], input=given, capture_output=True, check=True).stdout
+    for word in (b"no such capacity", b"panic"):
+        assert word not in said, word
+    open(os.path.join(crate, "stdin"), "wb").write(given)
+    open(os.path.join(crate, "stdout"), "wb").write(said)
+    print(f"{len(lines) + 1} commands, {len(given)} bytes; {len(said)} bytes of answers, {said.count(b'bad command')} of them bad command")
+
+
+if __name__ == "__main__":
+    main()
