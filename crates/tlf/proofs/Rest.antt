@@ -11,6 +11,7 @@ use lib.ListN.{length, getD, take, drop, length-append, length-drop}
 use lib.Seq.{drop-drop, drop-append-seam, take-append-seam, getD-drop}
 use Rattle.tlf.specs.Read.{Read, got, refused, Refusal, then, guard, need, byteAt, spanAt}
 use Rattle.tlf.specs.declared.Span.{Span}
+use Rattle.tlf.proofs.Read.{Ahead}
 
 -- the input's bytes from p on are l
 pub record Rest (s : List ℕ) (p : ℕ) (l : List ℕ) : Type 0 where
@@ -24,6 +25,10 @@ pub record Gets {A : Type 0} (P : A → Type 0) (s l : List ℕ) (r : Read A) : 
   pub is : r ≡ got value next
   pub has : P value
   pub left : Rest s next l
+
+-- behind any reading that is known to end within the input, what is left are the input's bytes from that place on
+pub rest-behind : {s : List ℕ} {at next : ℕ} → Ahead s at next → Rest s next (drop next s)
+rest-behind h = record { inside = h .within; bytes = refl }
 
 pub rest-length : {s : List ℕ} {p : ℕ} {l : List ℕ} → Rest s p l → length s ≡ p + length l
 rest-length {s} {p} {l} h = omega (arith, length-drop p s, ap length (h .bytes))
