@@ -31,11 +31,11 @@ first-left payload h = record { all = gives-the-frame payload h 1 }
 
 head : List Next → Next
 head [] = finished
-head (a ∷ as) = a
+head (a ∷ more) = a
 
 tail : List Next → List Next
 tail [] = []
-tail (a ∷ as) = as
+tail (a ∷ more) = more
 
 -- a call where bytes are left
 next-gives : (e : Encoder) (payload : List ℕ) (b : ℕ) (bs : List ℕ) → Left e payload (b ∷ bs)
@@ -84,17 +84,17 @@ module _ (e : Encoder) (payload l : List ℕ) (i t : ℕ) (g : Given) (said : st
   -- a byte: one more of l
   pub byte-next : isByte (nextOf (g .answer)) ≡ true → (k : ℕ) → k ≡ given (nextOf (g .answer))
       → (i + 1 ≤ length l) × Left (g .encoder) payload (drop (i + 1) l) × (t + k + sum (drop (i + 1) l) ≡ sum l)
-  byte-next yes k is =
+  byte-next said-byte k is =
       split (suc i) (length l)
       (λ h. (omega arith, subst (λ (x : Encoder). Left x payload (drop (i + 1) l)) (sym (ap (λ (s : Step). s .encoder) said)) (taken h .1),
       omega (arith, is, number h, sum-at l i h, so-far)))
-      (λ h. never (sym (ended (omega arith)) ∙ yes))
+      (λ h. never (sym (ended (omega arith)) ∙ said-byte))
 
   -- no byte: all of l were given
   pub no-byte : isByte (nextOf (g .answer)) ≡ false → t ≡ sum l
-  no-byte no =
+  no-byte said-none =
       split (suc i) (length l)
-      (λ h. never (sym no ∙ ap isByte (answer-is ∙ taken h .0)))
+      (λ h. never (sym said-none ∙ ap isByte (answer-is ∙ taken h .0)))
       (λ h. omega (arith, so-far, sum-end l i (omega arith)))
 
 -- all calls were made
