@@ -207,7 +207,7 @@ fn looking(d: Decoder, noise: u32, n: u8) -> Decoder
 }
 
 // Behind n start bytes, b is the next one.
-fn matching(n: u8, b: u8) -> bool
+pub fn matching(n: u8, b: u8) -> bool
     ensures { λ r. ⌜ r ≡ starts n b ⌝ }
 {
     if n < 4 { b == Decoder::ESC } else { b == 0x01 }
@@ -458,7 +458,7 @@ fn escape(d: Decoder, buf: &mut [u8], n: u8, b: u8) -> Pushed
 }
 
 // A record that no pushes lead to.
-fn bad_state(d: Decoder) -> bool
+pub fn bad_state(d: Decoder) -> bool
     ensures { λ r. ⌜ r ≡ badState d ⌝ }
 {
     if d.capacity < d.fill {
@@ -499,7 +499,7 @@ fn bad_state(d: Decoder) -> bool
     }
 }
 
-fn wrong_buffer(recorded: usize, lent: usize) -> bool
+pub fn wrong_buffer(recorded: usize, lent: usize) -> bool
     ensures { λ r. ⌜ r ≡ wrongBuffer recorded lent ⌝ }
 {
     if lent == recorded {

@@ -1,20 +1,55 @@
--- The bytes fed so far, and one more.
-use mathlib.Core.Path.{_≡_, ap}
-use mathlib.Core.List.{List}
-use Prim.Native.Nat.{ℕ, suc, _+_, _<_, _≤_}
-use native.Mathlib.Numerals.{add-one}
-use lib.ListN.{length, getD, drop, drop-of-length-le}
-use lib.Seq.{drop-cons}
-use Rattle.decoder.specs.Record.{After, leaves, pushRecord}
+-- The bytes fed so far, and those that a push of a slice takes.
+use mathlib.Core.Path.{_≡_, refl, ap, sym, _∙_}
+use mathlib.Core.Bool.{cond}
+use mathlib.Core.List.{List, [], _∷_}
+use Prim.Native.Nat.{ℕ, _+_, _-_, _<_, _≤_}
+use native.Mathlib.Omega.{arith}
+use lib.ListN.{length, take, drop, drop-of-length-le, length-drop}
+use lib.Seq.{take-length, drop-drop}
+use Rattle.decoder.specs.Record.{Answer, After, after, refused, badState, pushRecord}
 use Rattle.decoder.specs.declared.Decoder.{Decoder}
-use Rattle.decoder.specs.declared.Pushed.{Pushed}
-use Rattle.smlcat.specs.Fed.{held, fed}
+use Rattle.slice.specs.Slice.{Took, leaves, sliceRecord}
+use Rattle.slice.specs.declared.Sliced.{Sliced}
+use Rattle.slice.proofs.Taken.{taken-le, none-took, none-taken, goes-on}
+use Rattle.smlcat.specs.Fed.{Held, held, fed}
 
-pub fed-next : (d : Decoder) (m bs : List ℕ) (i : ℕ) (r : Pushed) (n : List ℕ) → i < length bs → leaves r n ≡ pushRecord d m (getD bs i 0)
-    → fed (r .decoder) n (drop (i + 1) bs) ≡ fed d m (drop i bs)
+one : (d : Decoder) (m : List ℕ) (b : ℕ) (bs : List ℕ) → fed (pushRecord d m b .decoder) (pushRecord d m b .memory) bs ≡ fed d m (b ∷ bs)
 unfolding fed
-fed-next d m bs i r n h e = rw (add-one, drop-cons bs i 0) (ap (λ (a : After). fed (a .decoder) (a .memory) (drop (suc i) bs)) e)
+one d m b bs = refl
+
+-- pushes that are all refused
+fed-refused : (bs : List ℕ) (d : Decoder) (m : List ℕ) → ((b : ℕ) → pushRecord d m b ≡ after (refused (cond (badState d) 4 5) []) d m) → held d m ≡ fed d m bs
+unfolding fed
+fed-refused [] d m h = refl
+fed-refused (b ∷ bs) d m h = fed-refused bs d m h ∙ ap (λ (a : After). fed (a .decoder) (a .memory) bs) (sym (h b))
 
 pub fed-done : (d : Decoder) (m bs : List ℕ) (i : ℕ) → length bs ≤ i → fed d m (drop i bs) ≡ held d m
 unfolding fed
 fed-done d m bs i h = rw drop-of-length-le
+
+-- the part of s from i on is pushed
+module _ (d : Decoder) (m s : List ℕ) (i : ℕ) (r : Sliced) (n : List ℕ) (said : leaves r n ≡ sliceRecord d m (take (length s - i) (drop i s))) (in-s : i < length s) where
+  left : length (drop i s) ≡ length s - i
+  left = length-drop i s
+
+  part : leaves r n ≡ sliceRecord d m (drop i s)
+  part = said ∙ ap (sliceRecord d m) (ap (λ (k : ℕ). take k (drop i s)) (sym left) ∙ take-length (drop i s))
+
+  taken-is : r .taken ≡ sliceRecord d m (drop i s) .taken
+  taken-is = ap (λ (t : Took). t .taken) part
+
+  pub room : i + r .taken ≤ length s
+  room = omega (arith, taken-is, left, taken-le d m (drop i s))
+
+  pub fed-on : (r .taken ≡ 0 → ⊥) → fed (r .decoder) n (drop (i + r .taken) s) ≡ fed d m (drop i s)
+  fed-on h =
+      ap (fed (r .decoder) n) (sym (drop-drop (r .taken) i s))
+      ∙ ap (λ (t : Took). fed (t .decoder) (t .memory) (drop (t .taken) (drop i s))) part
+      ∙ goes-on fed (λ a e l cs. fed e l cs) one (λ e l cs. refl) d m (drop i s) (λ z. h (taken-is ∙ z))
+
+  pub fed-stop : r .taken ≡ 0 → held (r .decoder) n ≡ fed d m (drop i s)
+  fed-stop z =
+      let some : 0 < length (drop i s) = omega (arith, left) in
+      let none = sym taken-is ∙ z in
+      ap (λ (t : Took). held (t .decoder) (t .memory)) (part ∙ none-took d m (drop i s) some none)
+      ∙ fed-refused (drop i s) d m (none-taken d m (drop i s) some none)

@@ -84,18 +84,22 @@ fn print_event(e: Event, d: Decoder, buf: &[u8]) {
     }
 }
 
-// Pushes the bytes of a chunk one by one, and prints what each says.
+// Pushes the bytes of a chunk, event by event, and prints what each says. A refused push takes no byte, and nor would the next.
 fn drive(d: Decoder, buf: &mut [u8], chunk: &[u8]) -> Decoder
     ensures { λ r. ⌜ held r (now (buf .exit)) ≡ fed d (now (buf .entry)) (now (chunk .entry)) ⌝ }
 {
     let mut at = d;
     let mut i: usize = 0;
     while i < chunk.len() {
-        let p = at.push_byte(buf, chunk[i]);
+        let p = slice::push_slice(at, buf, &chunk[i..]);
         let e = p.event;
+        let taken = p.taken;
         at = p.decoder;
         print_event(e, at, buf);
-        i += 1;
+        if taken == 0 {
+            return at;
+        }
+        i += taken;
     }
     at
 }

@@ -1,9 +1,9 @@
 use mathlib.Core.Path.{_≡_, sym, _∙_}
 use denote.Ref.{now}
-use Prim.Native.Nat.{_≤_, _-_}
+use Prim.Native.Nat.{_≤_, _<_, _-_, _+_, _^_}
 use lib.ListN.{length, drop}
 use Rattle.smlcat.specs.Fed.{fed}
-use Rattle.smlcat.proofs.Laws.{fed-next, fed-done}
+use Rattle.smlcat.proofs.Laws.{room, fed-on, fed-stop, fed-done}
 use borrow.Author.Needs.{needs}
 use Rattle.smlcat.proofs.drive.Statement.{statement}
 use Rattle.smlcat.proofs.drive.Tie as tie
@@ -17,33 +17,62 @@ abbrev μ-loop : tie.MeasureT-loop
 loop-holds : tie.Need-loop-holds Inv-loop μ-loop
 loop-holds c = search needs
 
-shared-slice-read-push-byte : tie.Need-shared-slice-read-push-byte Inv-loop μ-loop
-shared-slice-read-push-byte c = search needs
+sub-push-slice : tie.Need-sub-push-slice Inv-loop μ-loop
+sub-push-slice c = search needs
 
-push-byte-requires : tie.Need-push-byte-requires Inv-loop μ-loop
-push-byte-requires c κs = search needs
+part-push-slice-start : tie.Need-part-push-slice-start Inv-loop μ-loop
+part-push-slice-start c = search needs
+
+part-push-slice-end : tie.Need-part-push-slice-end Inv-loop μ-loop
+part-push-slice-end c = search needs
+
+push-slice-requires : tie.Need-push-slice-requires Inv-loop μ-loop
+push-slice-requires c κs = search needs
 
 print-event-requires : tie.Need-print-event-requires Inv-loop μ-loop
 print-event-requires c κs = search needs
-
-add-i : tie.Need-add-i Inv-loop μ-loop
-add-i c = search needs
-
-loop-less : tie.Need-loop-less Inv-loop μ-loop
-loop-less c = search needs
-
-loop-again : tie.Need-loop-again Inv-loop μ-loop
-loop-again c =
-    let l = c .before .before .before .before .before .before .before .before .before .loop in
-    let a = c .before .before .before .before .before .before .before .before .before .before .before .before .args in
-    let p = c .before .before .before .before .before .push-byte in
-    (search needs, search needs, fed-next (l .at) (l .buf) (now (a .chunk)) (l .i) (p .result) _ (c .before .before .before .before .before .before .before .before .loop-test .taken) (p .ensures) ∙ l .inv .2)
 
 same-length : tie.Need-same-length Inv-loop μ-loop
 same-length c = search needs
 
 returns : tie.Need-returns Inv-loop μ-loop
 returns c =
+    let l = c .before .before .before .before .before .before .before .before .before .before .loop in
+    let a = c .before .before .before .before .before .before .before .before .before .before .before .before .before .args in
+    let p = c .before .before .before .before .before .before .push-slice in
+    fed-stop (l .at) (l .buf) (now (a .chunk)) (l .i) (p .result) _ (p .ensures) (c .before .before .before .before .before .before .before .before .before .loop-test .taken) (c .if1 .taken) ∙ l .inv .2
+
+add-i : tie.Need-add-i Inv-loop μ-loop
+add-i c =
+    let l = c .before .before .before .before .before .before .before .before .before .before .loop in
+    let a = c .before .before .before .before .before .before .before .before .before .before .before .before .before .args in
+    let p = c .before .before .before .before .before .before .push-slice in
+    let h : l .i + p .result .taken ≤ length (now (a .chunk)) = room (l .at) (l .buf) (now (a .chunk)) (l .i) (p .result) _ (p .ensures) (c .before .before .before .before .before .before .before .before .before .loop-test .taken) in
+    let g = c .before .before .before .before .before .before .before .before .before .before .before .before .before .good in
+    let z : length (now (a .chunk)) < 2 ^ 64 = search needs in
+    let f : l .i + p .result .taken < 2 ^ 64 = search needs in
+    record { fits = f }
+
+loop-less : tie.Need-loop-less Inv-loop μ-loop
+loop-less c =
+    let l = c .before .before .before .before .before .before .before .before .before .before .loop in
+    let a = c .before .before .before .before .before .before .before .before .before .before .before .before .before .args in
+    let p = c .before .before .before .before .before .before .push-slice in
+    let h : l .i + p .result .taken ≤ length (now (a .chunk)) = room (l .at) (l .buf) (now (a .chunk)) (l .i) (p .result) _ (p .ensures) (c .before .before .before .before .before .before .before .before .before .loop-test .taken) in
+    search needs
+
+loop-again : tie.Need-loop-again Inv-loop μ-loop
+loop-again c =
+    let l = c .before .before .before .before .before .before .before .before .before .before .loop in
+    let a = c .before .before .before .before .before .before .before .before .before .before .before .before .before .args in
+    let p = c .before .before .before .before .before .before .push-slice in
+    (room (l .at) (l .buf) (now (a .chunk)) (l .i) (p .result) _ (p .ensures) (c .before .before .before .before .before .before .before .before .before .loop-test .taken), search needs, fed-on (l .at) (l .buf) (now (a .chunk)) (l .i) (p .result) _ (p .ensures) (c .before .before .before .before .before .before .before .before .before .loop-test .taken) (c .if1 .left) ∙ l .inv .2)
+
+same-length-2 : tie.Need-same-length-2 Inv-loop μ-loop
+same-length-2 c = search needs
+
+returns-2 : tie.Need-returns-2 Inv-loop μ-loop
+returns-2 c =
     let l = c .before .loop in
     let a = c .before .before .before .before .args in
     sym (fed-done (l .at) (l .buf) (now (a .chunk)) (l .i) (c .loop-test .left)) ∙ l .inv .2
@@ -55,11 +84,15 @@ drive-spec =
     Inv-loop
     μ-loop
     loop-holds
-    shared-slice-read-push-byte
-    push-byte-requires
+    sub-push-slice
+    part-push-slice-start
+    part-push-slice-end
+    push-slice-requires
     print-event-requires
+    same-length
+    returns
     add-i
     loop-less
     loop-again
-    same-length
-    returns)
+    same-length-2
+    returns-2)

@@ -1,0 +1,57 @@
+-- What a reader must believe: what the functions for counting answer, by the definitions that the contracts of push, encode, Encoder and CRC cite.
+use mathlib.Core.Bool.{cond}
+use mathlib.Core.List.{List, [], _∷_}
+use Prim.Native.Nat.{ℕ, _+_}
+use lib.ListN.{length}
+use lib.Dec.{leb}
+use Rattle.frame.specs.Frame.{frameOf}
+use Rattle.decoder.specs.Record as D
+use Rattle.decoder.specs.Record.{nothing, payload, count, After, pushRecord, newRecord}
+use Rattle.decoder.specs.declared.Decoder.{Decoder}
+use Rattle.encoder.specs.Encode as E
+use Rattle.encoder.specs.Encode.{limit, length-is, encodeTo}
+
+-- a number, with the lent memory as it is then
+pub record Counted : Type 0 where
+  pub number : ℕ
+  pub memory : List ℕ
+
+abbrev pub counted : ℕ → List ℕ → Counted
+counted n m = record { number = n; memory = m }
+
+-- ---- the payloads of single pushes
+
+abbrev pub one : D.Answer → ℕ
+one nothing = 0
+one (payload bytes) = 1
+one (count n) = 0
+one (D.refused n v) = 0
+
+-- n payloads came before these bytes
+unfoldable pub payloadsFrom : ℕ → Decoder → List ℕ → List ℕ → Counted
+payloadsFrom n d m [] = counted n m
+payloadsFrom n d m (b ∷ bs) =
+    let a : After = pushRecord d m b in
+    payloadsFrom (n + one (a .answer)) (a .decoder) (a .memory) bs
+
+-- from a new decoder of the lent buffer's length
+abbrev pub payloads : List ℕ → List ℕ → Counted
+payloads bytes m = payloadsFrom 0 (newRecord (length m)) m bytes
+
+-- ---- encode and Encoder
+
+abbrev pub lengthIn : E.Answer → ℕ
+lengthIn (length-is n) = n
+lengthIn (E.refused n) = 0
+
+-- the frame's length, or 0 if it is refused
+abbrev pub encoded : List ℕ → List ℕ → Counted
+encoded bytes m = counted (lengthIn (encodeTo bytes m .answer)) (encodeTo bytes m .output)
+
+unfoldable pub sum : List ℕ → ℕ
+sum [] = 0
+sum (b ∷ bs) = b + sum bs
+
+-- the sum of the frame's bytes, or 0 for a payload over the limit
+abbrev pub streamed : List ℕ → ℕ
+streamed bytes = cond (leb (length bytes) limit) (sum (frameOf bytes)) 0

@@ -1,0 +1,162 @@
+// For the static library: what bench/run counts the instructions of.
+ghost use mathlib.Core.Path.{_≡_};
+ghost use mathlib.Core.List.{[]};
+ghost use Prim.Native.Nat.{_<_, _≤_};
+ghost use lib.ListN.{length};
+ghost use Rattle.crc_x25.specs.Crc.{crcOf};
+ghost use Rattle.frame.specs.Frame.{frameOf};
+ghost use Rattle.decoder.specs.Record as D;
+ghost use Rattle.encoder.specs.Encode as E;
+ghost use Rattle.encoder.specs.Encode.{limit};
+ghost use Rattle.encoder.specs.Encoder.{nextOf};
+ghost use Rattle.bench.specs.Bench.{counted, one, payloads, lengthIn, encoded, sum, streamed};
+ghost use Rattle.bench.specs.Given.{isByte, given};
+use decoder::Decoder;
+use decoder::Event;
+use encoder::Encoded;
+use encoder::Encoder;
+use encoder::Item;
+
+// 1 for a payload, 0 for all else.
+fn one_payload(e: Event) -> u64
+    ensures { λ r. ⌜ (r ≡ one (D.answerOf e [])) × (r ≤ 1) ⌝ }
+{
+    match e {
+        Event::Nothing => 0,
+        Event::Payload => 1,
+        Event::DiscardedBytes(_) => 0,
+        Event::InvalidEsc(_, _, _, _) => 0,
+        Event::OutOfMemory => 0,
+        Event::InvalidMessage {
+            read_crc: _,
+            calculated_crc: _,
+            misaligned: _,
+            num_padding_bytes: _,
+        } => 0,
+        Event::BadState => 0,
+        Event::WrongBuffer => 0,
+    }
+}
+
+// The payloads in `src`, by single pushes.
+#[no_mangle]
+pub extern "C" fn bench_push(src: &[u8], buf: &mut [u8]) -> u64
+    ensures { λ r. ⌜ counted r (now (buf .exit)) ≡ payloads (now (src .entry)) (now (buf .entry)) ⌝ }
+{
+    let mut at = Decoder::new(buf.len());
+    let mut n: u64 = 0;
+    let mut i = 0;
+    while i < src.len() {
+        let p = at.push_byte(buf, src[i]);
+        let e = p.event;
+        at = p.decoder;
+        n += one_payload(e);
+        i += 1;
+    }
+    n
+}
+
+// The payloads in `src`, by pushes of slices. A refused push takes no byte, and nor would the next.
+#[no_mangle]
+pub extern "C" fn bench_push_slice(src: &[u8], buf: &mut [u8]) -> u64
+    ensures { λ r. ⌜ counted r (now (buf .exit)) ≡ payloads (now (src .entry)) (now (buf .entry)) ⌝ }
+{
+    let mut at = Decoder::new(buf.len());
+    let mut n: u64 = 0;
+    let mut i = 0;
+    while i < src.len() {
+        let p = slice::push_slice(at, buf, &src[i..]);
+        let e = p.event;
+        let taken = p.taken;
+        at = p.decoder;
+        if taken == 0 {
+            return n;
+        }
+        n += one_payload(e);
+        i += taken;
+    }
+    n
+}
+
+fn frame_length(r: Encoded) -> u64
+    ensures { λ k. ⌜ k ≡ lengthIn (E.answerOf r) ⌝ }
+{
+    match r {
+        Encoded::Frame(n) => n as u64,
+        Encoded::PayloadTooLong => 0,
+        Encoded::OutOfMemory => 0,
+    }
+}
+
+// The length of the payload's frame, which goes to `out`.
+#[no_mangle]
+pub extern "C" fn bench_encode(payload: &[u8], out: &mut [u8]) -> u64
+    ensures { λ r. ⌜ counted r (now (out .exit)) ≡ encoded (now (payload .entry)) (now (out .entry)) ⌝ }
+{
+    let r = encoder::encode(payload, out);
+    frame_length(r)
+}
+
+fn is_byte(answer: Item) -> bool
+    ensures { λ r. ⌜ r ≡ isByte (nextOf answer) ⌝ }
+{
+    match answer {
+        Item::Byte(_) => true,
+        Item::Finished => false,
+        Item::PayloadTooLong => false,
+        Item::BadState => false,
+    }
+}
+
+// The byte given, or 0 if none was.
+fn byte_of(answer: Item) -> u64
+    ensures { λ r. ⌜ (r ≡ given (nextOf answer)) × (r ≤ 255) ⌝ }
+{
+    match answer {
+        Item::Byte(b) => b as u64,
+        Item::Finished => 0,
+        Item::PayloadTooLong => 0,
+        Item::BadState => 0,
+    }
+}
+
+// The sum of the bytes that an Encoder gives.
+fn sum_given(payload: &[u8]) -> u64
+    requires { ⌜ length (now payload) ≤ limit ⌝ }
+    ensures { λ r. ⌜ r ≡ sum (frameOf (now (payload .entry))) ⌝ }
+{
+    let most = 2 * payload.len() + 19;
+    let mut e = Encoder::new();
+    let mut total: u64 = 0;
+    let mut i = 0;
+    while i < most {
+        let g = e.next(payload);
+        let answer = g.answer;
+        if !is_byte(answer) {
+            return total;
+        }
+        e = g.encoder;
+        total += byte_of(answer);
+        i += 1;
+    }
+    total
+}
+
+// The sum of the bytes of the payload's frame, by an Encoder.
+#[no_mangle]
+pub extern "C" fn bench_stream(payload: &[u8]) -> u64
+    ensures { λ r. ⌜ r ≡ streamed (now (payload .entry)) ⌝ }
+{
+    if encoder::LIMIT < payload.len() {
+        return 0;
+    }
+    sum_given(payload)
+}
+
+// The check value of `src`.
+#[no_mangle]
+pub extern "C" fn bench_crc(src: &[u8]) -> u64
+    ensures { λ r. ⌜ r ≡ crcOf (now (src .entry)) ⌝ }
+{
+    crc_x25::checksum(src) as u64
+}

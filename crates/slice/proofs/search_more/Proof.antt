@@ -1,0 +1,111 @@
+use borrow.Author.Needs.{needs}
+use Prim.Native.Nat.{ℕ, _+_, _-_, _<_, _≤_, _^_}
+use mathlib.Core.List.{List}
+use mathlib.Core.Path.{_≡_, refl, sym, ap, _∙_, subst}
+use mathlib.Core.Bool.{Bool, true, false}
+use native.Mathlib.Omega.{arith}
+use denote.Ref.{now}
+use lib.ListN.{length, drop, set, getD, length-set}
+use Rattle.decoder.specs.declared.Decoder.{Decoder}
+use Rattle.decoder.specs.declared.DecodeState.the-variants.{LookingForMessageStart, ParsingNormal, ParsingEscChars, ParsingEscPayload, Done}
+use Rattle.decoder.specs.Push.{stopped, starts}
+use Rattle.slice.specs.Slice.{silent, pushesFrom}
+use Rattle.slice.specs.Stretch.{moved, inState, Goes}
+use Rattle.slice.proofs.Runs as runs
+use mathlib.Core.Logic.{⊎-elim}
+use Rattle.slice.proofs.search_more.Statement.{statement}
+use Rattle.slice.proofs.search_more.Tie as tie
+
+abbrev Inv-loop : tie.InvT-loop
+Inv-loop d noise n chunk from left k₀ q₀ k q = (k ≤ left) × (left ≡ length chunk - from) × (from ≤ length chunk) × (q ≤ n + k) × (q < 8) × ((m : List ℕ) → length m ≡ d .capacity → Goes (moved d 0 k (LookingForMessageStart (stopped (noise + (n + k - q))) q)) (from + k) m from (inState d (LookingForMessageStart noise n)) m chunk)
+
+abbrev μ-loop : tie.MeasureT-loop
+μ-loop d noise n chunk from left k₀ q₀ k q = left - k
+
+sub-left : tie.Need-sub-left Inv-loop μ-loop
+sub-left c = search needs
+
+loop-holds : tie.Need-loop-holds Inv-loop μ-loop
+loop-holds c =
+    let a = c .before .args in
+    (search needs, search needs, search needs, search needs, search needs, λ m h. runs.first-search (a .d) (a .noise) (a .n) m (now (a .chunk)) (a .from) (search needs) (search needs))
+
+add-matching : tie.Need-add-matching Inv-loop μ-loop
+add-matching c = search needs
+
+shared-slice-read-matching : tie.Need-shared-slice-read-matching Inv-loop μ-loop
+shared-slice-read-matching c = search needs
+
+matching-requires : tie.Need-matching-requires Inv-loop μ-loop
+matching-requires c κs = search needs
+
+add-q : tie.Need-add-q Inv-loop μ-loop
+add-q c = search needs
+
+add-k : tie.Need-add-k Inv-loop μ-loop
+add-k c = search needs
+
+loop-less : tie.Need-loop-less Inv-loop μ-loop
+loop-less c = search needs
+
+loop-again : tie.Need-loop-again Inv-loop μ-loop
+loop-again c =
+    let l = c .before .before .before .before .loop in
+    let a = c .before .before .before .before .before .before .args in
+    let s = now (a .chunk) in
+    let said = sym (c .before .matching .ensures) in
+    let small : a .d .capacity ≤ 1048576 = search needs in
+    let room : a .from + l .k < length s = search needs in
+    let z = ⊎-elim
+        (λ w. runs.search-next (a .d) (a .noise) (a .n) (l .q) (c .if1 .q) s (a .from) (l .k) true (search needs) (search needs) (search needs) small room (l .inv .4) (l .inv .3) (said ∙ w .0 .taken) (runs.not-seven (l .q) (w .1 .left)) (w .2))
+        (λ w. runs.search-next (a .d) (a .noise) (a .n) (l .q) (c .if1 .q) s (a .from) (l .k) false (search needs) (search needs) (search needs) small room (l .inv .4) (l .inv .3) (said ∙ w .0 .left) (runs.no-match (l .q)) (w .1))
+        (c .if1 .came) in
+    (search needs, search needs, search needs, z .0, z .1, λ m h. z .2 m h ∙ l .inv .5 m h)
+
+add-more : tie.Need-add-more Inv-loop μ-loop
+add-more c = search needs
+
+cast-more : tie.Need-cast-more Inv-loop μ-loop
+cast-more c = search needs
+
+sub-more : tie.Need-sub-more Inv-loop μ-loop
+sub-more c = search needs
+
+more-requires : tie.Need-more-requires Inv-loop μ-loop
+more-requires c κs = search needs
+
+moved-on-requires : tie.Need-moved-on-requires Inv-loop μ-loop
+moved-on-requires c κs = search needs
+
+add-t11 : tie.Need-add-t11 Inv-loop μ-loop
+add-t11 c = search needs
+
+returns : tie.Need-returns Inv-loop μ-loop
+returns c =
+    let l = c .before .before .before .loop in
+    let a = c .before .before .before .before .before .args in
+    let e = c .moved-on .ensures ∙ ap (λ (x : ℕ). moved (a .d) 0 (l .k) (LookingForMessageStart x (l .q))) (c .before .more .ensures) in
+    (search needs, search needs, λ m h. ap (λ (x : Decoder). pushesFrom (a .from + l .k) x m (drop (a .from + l .k) (now (a .chunk)))) e ∙ l .inv .5 m h)
+
+pub search-more-spec : {M : Type 1} → statement M
+search-more-spec =
+    tie.close
+    (tie.spec
+    Inv-loop
+    μ-loop
+    sub-left
+    loop-holds
+    add-matching
+    shared-slice-read-matching
+    matching-requires
+    add-q
+    add-k
+    loop-less
+    loop-again
+    add-more
+    cast-more
+    sub-more
+    more-requires
+    moved-on-requires
+    add-t11
+    returns)
