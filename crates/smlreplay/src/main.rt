@@ -22,6 +22,9 @@ use tlf::Span;
 use tlf::SpanRead;
 use tlf::TlfParseError;
 
+// No table has as many names.
+const NO_NAME: u8 = 32;
+
 // The most bytes that a capacity may be.
 const CAPACITY: usize = 4096;
 
@@ -78,6 +81,43 @@ fn same(s: &[u8], t: &[u8]) -> bool {
         i += 1;
     }
     true
+}
+
+fn one_less(x: u8) -> u8 {
+    if 0 < x { x - 1 } else { 0 }
+}
+
+// The place behind the k-th comma.
+fn skip(table: &[u8], k: u8) -> usize {
+    let mut left = k;
+    let mut i = 0;
+    while i < table.len() {
+        if left == 0 {
+            return i;
+        }
+        if table[i] == b',' {
+            left = one_less(left);
+        }
+        i += 1;
+    }
+    i
+}
+
+// The k-th name of a table, from 0 on. Its names have commas between them.
+fn nth(table: &[u8], k: u8) -> &[u8] {
+    first(part(table, skip(table, k), table.len()), b',')
+}
+
+// A name's number in a table, or NO_NAME; the empty name has one that no name has.
+fn find(table: &[u8], name: &[u8]) -> u8 {
+    let mut k = 0;
+    while k < NO_NAME {
+        if same(nth(table, k), name) {
+            return k;
+        }
+        k += 1;
+    }
+    k
 }
 
 // The byte at a place, or 0.
@@ -269,7 +309,7 @@ fn bad(out: &mut [u8], n: usize) -> usize {
     text(out, n, b"bad command")
 }
 
-// ---- encode, encode_cap
+// ---- encode
 
 fn encode_into(payload: &[u8], frame: &mut [u8], out: &mut [u8], n: usize) -> usize {
     match encoder::encode(payload, frame) {
@@ -277,25 +317,6 @@ fn encode_into(payload: &[u8], frame: &mut [u8], out: &mut [u8], n: usize) -> us
         Encoded::OutOfMemory => text(out, n, b"memory"),
         Encoded::PayloadTooLong => text(out, n, b"too long"),
     }
-}
-
-fn encode(hex: &[u8], bytes: &mut [u8], memory: &mut [u8], out: &mut [u8], n: usize) -> usize {
-    if !is_hex(hex) {
-        return bad(out, n);
-    }
-    let len = unhex(hex, bytes);
-    encode_into(part(&bytes[..], 0, len), memory, out, n)
-}
-
-fn encode_cap(rest: &[u8], bytes: &mut [u8], memory: &mut [u8], out: &mut [u8], n: usize) -> usize {
-    let room = number(first(rest, b' '));
-    if CAPACITY < room {
-        return bad(out, n);
-    }
-    if memory.len() < room {
-        return bad(out, n);
-    }
-    encode(behind(rest, b' '), bytes, &mut memory[..room], out, n)
 }
 
 // ---- stream
@@ -306,33 +327,34 @@ struct Streaming {
     more: bool,
 }
 
+fn item(answer: Item, out: &mut [u8], n: usize) -> usize {
+    match answer {
+        Item::Byte(b) => hex_byte(out, n, b),
+        Item::Finished => text(out, n, b" none"),
+        Item::PayloadTooLong => text(out, n, b" too long"),
+        Item::BadState => text(out, n, b" bad state"),
+    }
+}
+
+fn is_byte(answer: Item) -> bool {
+    match answer {
+        Item::Byte(_) => true,
+        Item::Finished => false,
+        Item::PayloadTooLong => false,
+        Item::BadState => false,
+    }
+}
+
 // One call of the Encoder's next.
 fn stream_next(s: Streaming, payload: &[u8], out: &mut [u8]) -> Streaming {
     let encoder = s.encoder;
     let given = encoder.next(payload);
     let next = given.encoder;
     let answer = given.answer;
-    match answer {
-        Item::Byte(b) => Streaming {
-            encoder: next,
-            n: hex_byte(out, s.n, b),
-            more: true,
-        },
-        Item::Finished => Streaming {
-            encoder: next,
-            n: text(out, s.n, b" none"),
-            more: false,
-        },
-        Item::PayloadTooLong => Streaming {
-            encoder: next,
-            n: text(out, s.n, b" too long"),
-            more: false,
-        },
-        Item::BadState => Streaming {
-            encoder: next,
-            n: text(out, s.n, b" bad state"),
-            more: false,
-        },
+    Streaming {
+        encoder: next,
+        n: item(answer, out, s.n),
+        more: is_byte(answer),
     }
 }
 
@@ -362,22 +384,50 @@ fn streamed(payload: &[u8], out: &mut [u8], n: usize) -> usize {
     third.n
 }
 
-fn stream(hex: &[u8], bytes: &mut [u8], out: &mut [u8], n: usize) -> usize {
-    if !is_hex(hex) {
-        return bad(out, n);
+// ---- encode, stream and crc, which have bytes alone; encode_cap
+
+const ENCODE: u8 = 3;
+
+fn of_payload(kind: u8, payload: &[u8], memory: &mut [u8], out: &mut [u8], n: usize) -> usize {
+    match kind {
+        ENCODE => encode_into(payload, memory, out, n),
+        4 => streamed(payload, out, n),
+        5 => hex_u16(out, n, crc_x25::checksum(payload)),
+        _ => bad(out, n),
     }
-    let len = unhex(hex, bytes);
-    streamed(part(&bytes[..], 0, len), out, n)
 }
 
-// ---- crc
-
-fn crc(hex: &[u8], bytes: &mut [u8], out: &mut [u8], n: usize) -> usize {
+fn of_bytes(
+    kind: u8,
+    hex: &[u8],
+    bytes: &mut [u8],
+    memory: &mut [u8],
+    out: &mut [u8],
+    n: usize,
+) -> usize {
     if !is_hex(hex) {
         return bad(out, n);
     }
     let len = unhex(hex, bytes);
-    hex_u16(out, n, crc_x25::checksum(part(&bytes[..], 0, len)))
+    of_payload(kind, part(&bytes[..], 0, len), memory, out, n)
+}
+
+fn encode_cap(rest: &[u8], bytes: &mut [u8], memory: &mut [u8], out: &mut [u8], n: usize) -> usize {
+    let room = number(first(rest, b' '));
+    if CAPACITY < room {
+        return bad(out, n);
+    }
+    if memory.len() < room {
+        return bad(out, n);
+    }
+    of_bytes(
+        ENCODE,
+        behind(rest, b' '),
+        bytes,
+        &mut memory[..room],
+        out,
+        n,
+    )
 }
 
 // ---- push
@@ -695,48 +745,9 @@ fn push(rest: &[u8], memory: &mut [u8], out: &mut [u8], n: usize) -> usize {
 
 // ---- leaf
 
-const NO_KIND: u8 = 255;
-
 // A kind's number in `field`.
 fn kind_of(s: &[u8]) -> u8 {
-    if same(s, b"u8") {
-        return 0;
-    }
-    if same(s, b"u16") {
-        return 1;
-    }
-    if same(s, b"u32") {
-        return 2;
-    }
-    if same(s, b"u64") {
-        return 3;
-    }
-    if same(s, b"i8") {
-        return 4;
-    }
-    if same(s, b"i16") {
-        return 5;
-    }
-    if same(s, b"i32") {
-        return 6;
-    }
-    if same(s, b"i64") {
-        return 7;
-    }
-    other_kind_of(s)
-}
-
-fn other_kind_of(s: &[u8]) -> u8 {
-    if same(s, b"bool") {
-        return 8;
-    }
-    if same(s, b"oct") {
-        return 9;
-    }
-    if same(s, b"opt_oct") {
-        return 10;
-    }
-    NO_KIND
+    find(b"u8,u16,u32,u64,i8,i16,i32,i64,bool,oct,opt_oct", s)
 }
 
 fn field(kind: u8, input: &[u8], out: &mut [u8], n: usize) -> usize {
@@ -752,7 +763,7 @@ fn field(kind: u8, input: &[u8], out: &mut [u8], n: usize) -> usize {
         8 => field_bool(input, out, n),
         9 => field_oct(input, out, n),
         10 => field_opt_oct(input, out, n),
-        _ => text(out, n, b"bad command"),
+        _ => bad(out, n),
     }
 }
 
@@ -765,27 +776,33 @@ fn left(input: &[u8], next: usize, out: &mut [u8], n: usize) -> usize {
     text(out, m, b"a place beyond the input")
 }
 
-fn tlf_error(e: TlfParseError, out: &mut [u8], n: usize) -> usize {
-    let m = text(out, n, b"err InvalidTlf ");
+fn tlf_error(e: TlfParseError) -> u8 {
     match e {
-        TlfParseError::TlfLengthOverflow => text(out, m, b"TlfLengthOverflow"),
-        TlfParseError::TlfReserved => text(out, m, b"TlfReserved"),
-        TlfParseError::TlfLengthUnderflow => text(out, m, b"TlfLengthUnderflow"),
-        TlfParseError::TlfNextByteTypeMismatch => text(out, m, b"TlfNextByteTypeMismatch"),
-        TlfParseError::TlfInvalidTy => text(out, m, b"TlfInvalidTy"),
+        TlfParseError::TlfLengthOverflow => 1,
+        TlfParseError::TlfReserved => 2,
+        TlfParseError::TlfLengthUnderflow => 3,
+        TlfParseError::TlfNextByteTypeMismatch => 4,
+        TlfParseError::TlfInvalidTy => 5,
+    }
+}
+
+fn error_number(e: ParseError) -> u8 {
+    match e {
+        ParseError::UnexpectedEOF => 0,
+        ParseError::InvalidTlf(k) => tlf_error(k),
+        ParseError::TlfMismatch => 6,
+        ParseError::CrcMismatch => 7,
+        ParseError::MsgEndMismatch => 8,
+        ParseError::UnexpectedVariant => 9,
     }
 }
 
 fn error(f: Fault, out: &mut [u8], n: usize) -> usize {
     let e = f.error;
-    match e {
-        ParseError::UnexpectedEOF => text(out, n, b"err UnexpectedEOF"),
-        ParseError::InvalidTlf(k) => tlf_error(k, out, n),
-        ParseError::TlfMismatch => text(out, n, b"err TlfMismatch"),
-        ParseError::CrcMismatch => text(out, n, b"err CrcMismatch"),
-        ParseError::MsgEndMismatch => text(out, n, b"err MsgEndMismatch"),
-        ParseError::UnexpectedVariant => text(out, n, b"err UnexpectedVariant"),
-    }
+    let names =
+        b"UnexpectedEOF,InvalidTlf TlfLengthOverflow,InvalidTlf TlfReserved,InvalidTlf TlfLengthUnderflow,InvalidTlf TlfNextByteTypeMismatch,InvalidTlf TlfInvalidTy,TlfMismatch,CrcMismatch,MsgEndMismatch,UnexpectedVariant";
+    let m = text(out, n, b"err ");
+    text(out, m, nth(names, error_number(e)))
 }
 
 fn unsigned(value: u64, input: &[u8], next: usize, out: &mut [u8], n: usize) -> usize {
@@ -907,9 +924,6 @@ fn field_opt_oct(input: &[u8], out: &mut [u8], n: usize) -> usize {
 fn leaf(rest: &[u8], bytes: &mut [u8], out: &mut [u8], n: usize) -> usize {
     let kind = kind_of(first(rest, b' '));
     let hex = behind(rest, b' ');
-    if kind == NO_KIND {
-        return bad(out, n);
-    }
     if !is_hex(hex) {
         return bad(out, n);
     }
@@ -920,27 +934,13 @@ fn leaf(rest: &[u8], bytes: &mut [u8], out: &mut [u8], n: usize) -> usize {
 // ---- lines
 
 fn command(line: &[u8], bytes: &mut [u8], memory: &mut [u8], out: &mut [u8], n: usize) -> usize {
-    let name = first(line, b' ');
     let rest = behind(line, b' ');
-    if same(name, b"push") {
-        return push(rest, memory, out, n);
+    match find(b"push,leaf,encode_cap,encode,stream,crc", first(line, b' ')) {
+        0 => push(rest, memory, out, n),
+        1 => leaf(rest, bytes, out, n),
+        2 => encode_cap(rest, bytes, memory, out, n),
+        k => of_bytes(k, rest, bytes, memory, out, n),
     }
-    if same(name, b"leaf") {
-        return leaf(rest, bytes, out, n);
-    }
-    if same(name, b"encode") {
-        return encode(rest, bytes, memory, out, n);
-    }
-    if same(name, b"encode_cap") {
-        return encode_cap(rest, bytes, memory, out, n);
-    }
-    if same(name, b"stream") {
-        return stream(rest, bytes, out, n);
-    }
-    if same(name, b"crc") {
-        return crc(rest, bytes, out, n);
-    }
-    bad(out, n)
 }
 
 // How long the line is so far, usize::MAX where it is too long; how full the output is; whether input may follow.

@@ -31,14 +31,14 @@ returns-2 c = search needs
 behind-requires : tie.Need-behind-requires
 behind-requires c κs = search needs
 
-slice-relend-prefix-encode : tie.Need-slice-relend-prefix-encode
-slice-relend-prefix-encode c = search needs
+slice-relend-prefix-of-bytes : tie.Need-slice-relend-prefix-of-bytes
+slice-relend-prefix-of-bytes c = search needs
 
-slice-aggregate-encode : tie.Need-slice-aggregate-encode
-slice-aggregate-encode c = simp length-take (omega (arith, c .before .before .before .if2 .left))
+slice-aggregate-of-bytes : tie.Need-slice-aggregate-of-bytes
+slice-aggregate-of-bytes c = simp length-take (omega (arith, c .before .before .before .if2 .left))
 
-encode-requires : tie.Need-encode-requires
-encode-requires c κs = search needs
+of-bytes-requires : tie.Need-of-bytes-requires
+of-bytes-requires c κs = search needs
 
 same-length-3 : tie.Need-same-length-3
 same-length-3 c = search needs
@@ -65,9 +65,9 @@ encode-cap-spec =
     same-length-2
     returns-2
     behind-requires
-    slice-relend-prefix-encode
-    slice-aggregate-encode
-    encode-requires
+    slice-relend-prefix-of-bytes
+    slice-aggregate-of-bytes
+    of-bytes-requires
     same-length-3
     same-length-4
     same-length-5
