@@ -1,0 +1,40 @@
+/* Calls one exported function on standard input: main FUNCTION CALLS REPEAT CAPACITY. The input is repeated REPEAT times. */
+typedef unsigned long size_t;
+typedef unsigned long u64;
+typedef unsigned char u8;
+
+long read(int, void *, size_t);
+int atoi(const char *);
+int strcmp(const char *, const char *);
+int dprintf(int, const char *, ...);
+
+extern u64 bench_push(const u8 *, size_t, u8 *, size_t);
+extern u64 bench_push_slice(const u8 *, size_t, u8 *, size_t);
+extern u64 bench_encode(const u8 *, size_t, u8 *, size_t);
+extern u64 bench_stream(const u8 *, size_t);
+extern u64 bench_crc(const u8 *, size_t);
+
+static u8 in[1 << 20], out[1 << 22];
+
+static u64 call(const char *f, size_t n, size_t cap) {
+    if (!strcmp(f, "bench_push")) return bench_push(in, n, out, cap);
+    if (!strcmp(f, "bench_push_slice")) return bench_push_slice(in, n, out, cap);
+    if (!strcmp(f, "bench_encode")) return bench_encode(in, n, out, cap);
+    if (!strcmp(f, "bench_stream")) return bench_stream(in, n);
+    if (!strcmp(f, "bench_crc")) return bench_crc(in, n);
+    return ~0ul;
+}
+
+int main(int argc, char **argv) {
+    if (argc != 5) return 2;
+    size_t n = 0, once;
+    long k;
+    while ((k = read(0, in + n, sizeof in - n)) > 0) n += k;
+    once = n;
+    for (int r = atoi(argv[3]); r > 1; r--)
+        for (size_t i = 0; i < once; i++) in[n++] = in[i];
+    u64 last = 0;
+    for (int i = atoi(argv[2]); i > 0; i--) last = call(argv[1], n, atoi(argv[4]));
+    dprintf(1, "%lu\n", last);
+    return 0;
+}
