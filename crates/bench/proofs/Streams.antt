@@ -41,7 +41,7 @@ tail (a ∷ more) = more
 next-gives : (e : Encoder) (payload : List ℕ) (b : ℕ) (bs : List ℕ) → Left e payload (b ∷ bs)
     → (nextStep e payload .answer ≡ byte b) × Left (nextStep e payload .encoder) payload bs
 unfolding calls head tail
-next-gives e payload b bs h = 
+next-gives e payload b bs h =
     let n : length (b ∷ bs) + 1 ≡ suc (length bs + 1) = omega arith in
     let all : calls (suc (length bs + 1)) e payload ≡ map byte (b ∷ bs) ++ finished ∷ [] = ap (λ (k : ℕ). calls k e payload) (sym n) ∙ h .all in
     (ap head all, record { all = ap tail all })
@@ -86,8 +86,11 @@ module _ (e : Encoder) (payload l : List ℕ) (i t : ℕ) (g : Given) (said : st
       → (i + 1 ≤ length l) × Left (g .encoder) payload (drop (i + 1) l) × (t + k + sum (drop (i + 1) l) ≡ sum l)
   byte-next said-byte k is =
       split (suc i) (length l)
-      (λ h. (omega arith, subst (λ (x : Encoder). Left x payload (drop (i + 1) l)) (sym (ap (λ (s : Step). s .encoder) said)) (taken h .1),
-      omega (arith, is, number h, sum-at l i h, so-far)))
+      (λ h. (
+        omega arith,
+        subst (λ (x : Encoder). Left x payload (drop (i + 1) l)) (sym (ap (λ (s : Step). s .encoder) said)) (taken h .1),
+        omega (arith, is, number h, sum-at l i h, so-far),
+      ))
       (λ h. never (sym (ended (omega arith)) ∙ said-byte))
 
   -- no byte: all of l were given

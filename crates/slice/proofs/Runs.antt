@@ -17,10 +17,11 @@ use Rattle.decoder.specs.declared.Event.{Event}
 use Rattle.decoder.specs.declared.Event.the-variants.{Nothing, Payload, DiscardedBytes, InvalidEsc, OutOfMemory, InvalidMessage, BadState, WrongBuffer}
 use Rattle.decoder.specs.declared.Pushed.{Pushed}
 use Rattle.decoder.specs.Push.{stopped, starts, searching}
-use Rattle.decoder.specs.Record.{Answer, nothing, answerOf, After, after, leaves, pushRecord, badIn, badState, wrongBuffer, setup}
+use Rattle.decoder.specs.Record.{Answer, nothing, answerOf, After, after, leaves, pushRecord, badIn, badState, wrongBuffer, newRecord}
 use Rattle.decoder.specs.Cut.{cut, told, quiet, grown, code, stepOf, normalStep, waitStep, escapeStep}
 use Rattle.decoder.proofs.Faithful.{Fit}
-use Rattle.decoder.proofs.Tied.{tied}
+use Rattle.decoder.proofs.Tied.{tied, push-step}
+use Rattle.decoder.proofs.Runs.{new-fit}
 use Rattle.decoder.proofs.Valid.{right-buffer}
 use Rattle.slice.specs.Slice.{Took, took, silent, pushesFrom}
 use Rattle.slice.specs.Stretch.{moved, inState, Goes}
@@ -114,7 +115,7 @@ plain-next d m s i k ix raw l small h hs n =
     let f : d .fill + k + 1 ≡ d .fill + (k + 1) = omega arith in
     let b : ltb (stopped (d .«raw_msg_len» + k)) 8 ≡ false = le-ltb (stopped (d .«raw_msg_len» + k)) 8 (omega arith) in
     let p = sym (tied g m (getD s (i + k) 0) (fit g m (omega arith) (omega arith) l small b))
-        ∙ plain-byte g (d .fill + k) m (getD s (i + k) 0) refl (omega arith) n in
+    ∙ plain-byte g (d .fill + k) m (getD s (i + k) 0) refl (omega arith) n in
     more d k (k + 1) k ParsingNormal ParsingNormal m _ s i hs (rw (← f) p)
 
 -- four ordinary bytes
@@ -182,13 +183,16 @@ search-next d noise n q q′ s i k t f x ff small hs h g e c r =
     let now : Decoder = moved d 0 k (LookingForMessageStart (stopped (noise + (n + k - q))) q) in
     let z : d .fill + 0 ≡ 0 = omega arith in
     let le : cond t (q + 1) 0 ≤ q + 1 = matched-le q t in
-    let bad : badIn (d .fill + 0) (d .«crc_idx») (stopped (d .«raw_msg_len» + k)) (LookingForMessageStart (stopped (noise + (n + k - q))) q) ≡ false = simp (z, le-ltb 7 q (omega arith)) in
-    (omega (arith, r, le, g), rw r (matched-lt q t h c), λ m l.
-    ap (λ (z : ℕ). pushesFrom (i + (k + 1)) (moved d 0 (k + 1) (LookingForMessageStart (stopped (noise + (n + (k + 1) - z))) z)) m (drop (i + (k + 1)) s)) r
-    ∙ ap (λ (z : ℕ). pushesFrom (i + (k + 1)) (moved d 0 (k + 1) (LookingForMessageStart z (cond t (q + 1) 0))) m (drop (i + (k + 1)) s)) (sym (counted noise n k q t g))
-    ∙ more d 0 0 k (LookingForMessageStart (stopped (noise + (n + k - q))) q) _ m m s i hs
-    (sym (tied now m b (fit now m (omega arith) (omega arith) l small bad))
-    ∙ search-byte now (stopped (noise + (n + k - q))) q m b t z x ff e c))
+    let bad : badIn (d .fill + 0) (d .«crc_idx») (stopped (d .«raw_msg_len» + k)) (LookingForMessageStart (stopped (noise + (n + k - q))) q) ≡ false = simp (z, le-ltb 7 q (omega arith)) in (
+      omega (arith, r, le, g),
+      rw r (matched-lt q t h c),
+      λ m l.
+          ap (λ (z : ℕ). pushesFrom (i + (k + 1)) (moved d 0 (k + 1) (LookingForMessageStart (stopped (noise + (n + (k + 1) - z))) z)) m (drop (i + (k + 1)) s)) r
+          ∙ ap (λ (z : ℕ). pushesFrom (i + (k + 1)) (moved d 0 (k + 1) (LookingForMessageStart z (cond t (q + 1) 0))) m (drop (i + (k + 1)) s)) (sym (counted noise n k q t g))
+          ∙ more d 0 0 k (LookingForMessageStart (stopped (noise + (n + k - q))) q) _ m m s i hs
+          (sym (tied now m b (fit now m (omega arith) (omega arith) l small bad))
+          ∙ search-byte now (stopped (noise + (n + k - q))) q m b t z x ff e c),
+    )
 
 pub not-seven : (q : ℕ) → (q ≡ 7 → ⊥) → cond (eqb q 7) true false ≡ false
 not-seven q n = simp (ne-eqb q 7 n)
@@ -247,9 +251,9 @@ judged-next d n m s i k ix raw l small h hs h3 =
     let f : d .fill + k + 1 ≡ d .fill + (k + 1) = omega arith in
     let q : n + k + 1 ≡ n + (k + 1) = omega arith in
     let b : badIn (d .fill + k) (d .«crc_idx») (stopped (d .«raw_msg_len» + k)) (ParsingEscPayload (n + k)) ≡ false =
-        simp (le-ltb (stopped (d .«raw_msg_len» + k)) 8 (omega arith), le-ltb 3 (n + k) (omega arith), le-ltb (d .fill + k) (d .«crc_idx» + (n + k)) (omega arith)) in
+    simp (le-ltb (stopped (d .«raw_msg_len» + k)) 8 (omega arith), le-ltb 3 (n + k) (omega arith), le-ltb (d .fill + k) (d .«crc_idx» + (n + k)) (omega arith)) in
     let p = sym (tied g m (getD s (i + k) 0) (fit g m (omega arith) (omega arith) l small b))
-        ∙ judged-byte g (n + k) (d .fill + k) m (getD s (i + k) 0) refl (omega arith) h3 in
+    ∙ judged-byte g (n + k) (d .fill + k) m (getD s (i + k) 0) refl (omega arith) h3 in
     more d k (k + 1) k (ParsingEscPayload (n + k)) (ParsingEscPayload (n + (k + 1))) m _ s i hs (rw (← f, ← q) p)
 
 pub same-state : (d : Decoder) (s : DecodeState) → d .state ≡ s → inState d s ≡ d
@@ -263,6 +267,19 @@ first-judged d n m s i h =
 
 pub at-state : (d : Decoder) (t : DecodeState) (m s : List ℕ) (i : ℕ) {x : Took} → d .state ≡ t → x ≡ pushesFrom i (inState d t) m (drop i s) → x ≡ pushesFrom i d m (drop i s)
 at-state d t m s i e h = h ∙ ap (λ (g : Decoder). pushesFrom i g m (drop i s)) (same-state d t e)
+
+-- behind a payload the next byte begins a fresh search
+fresh-push : (d : Decoder) (m : List ℕ) (b : ℕ) → d .state ≡ Done → badState d ≡ false → wrongBuffer (d .capacity) (length m) ≡ false
+    → pushRecord (newRecord (d .capacity)) m b ≡ pushRecord d m b
+unfolding stepOf
+fresh-push d m b s e w =
+    sym (tied (newRecord (d .capacity)) m b (new-fit (d .capacity) m (right-buffer _ _ w .0) (omega (arith, right-buffer (d .capacity) (length m) w))))
+    ∙ push-step d m b Done _ e w s refl
+
+pub fresh-goes : (d : Decoder) (m s : List ℕ) (i : ℕ) → d .state ≡ Done → badState d ≡ false → wrongBuffer (d .capacity) (length m) ≡ false → i < length s
+    → pushesFrom i (newRecord (d .capacity)) m (drop i s) ≡ pushesFrom i d m (drop i s)
+unfolding pushesFrom
+fresh-goes d m s i e g w h = rw (at s i h, fresh-push d m (getD s i 0) e g w)
 
 pub right-capacity : (C n : ℕ) → wrongBuffer C n ≡ false → C ≤ 1048576
 right-capacity C n e = omega (arith, right-buffer C n e)

@@ -9,8 +9,8 @@ ghost use Rattle.decoder.specs.Push.{stopped};
 ghost use Rattle.decoder.specs.Record.{answerOf};
 ghost use Rattle.slice.specs.Slice.{leaves, silent, pushesFrom, sliceRecord};
 ghost use Rattle.slice.specs.Stretch.{moved, inState, Goes};
-use decoder::Decoder;
 use decoder::DecodeState;
+use decoder::Decoder;
 use decoder::Event;
 
 // What a push of a slice gives: the first event, and how many bytes were taken up to and with the one that brought it.
@@ -50,7 +50,11 @@ fn says_nothing(e: Event) -> bool
 fn more(x: u32, k: usize) -> u32
     ensures { λ r. ⌜ r ≡ stopped (x + k) ⌝ }
 {
-    if k <= (4294967295 - x) as usize { x + k as u32 } else { 4294967295 }
+    if k <= (4294967295 - x) as usize {
+        x + k as u32
+    } else {
+        4294967295
+    }
 }
 
 // d behind k bytes of which j were stored.
@@ -154,10 +158,15 @@ fn search_more(d: Decoder, noise: u32, n: u8, chunk: &[u8], from: usize) -> Stre
         k += 1;
     }
     let all = more(noise, (n as usize) + k - (q as usize));
-    let g = moved_on(d, 0, k, DecodeState::LookingForMessageStart {
-        num_discarded_bytes: all,
-        num_init_seq_bytes: q,
-    });
+    let g = moved_on(
+        d,
+        0,
+        k,
+        DecodeState::LookingForMessageStart {
+            num_discarded_bytes: all,
+            num_init_seq_bytes: q,
+        },
+    );
     Stretch {
         decoder: g,
         at: from + k,
@@ -213,7 +222,7 @@ fn put_judged(d: Decoder, n: u8, buf: &mut [u8], chunk: &[u8], from: usize) -> S
 
 // The bytes from `from` on that change nothing but counts and the buffer. A search whose register isn't ffff yet gets it from a single push.
 fn ahead(d: Decoder, buf: &mut [u8], chunk: &[u8], from: usize) -> Stretch
-    requires { ⌜ from ≤ length (now chunk) ⌝ }
+    requires { ⌜ from < length (now chunk) ⌝ }
     ensures { λ r. ⌜ (r .at ≤ length (now (chunk .entry))) × (from ≤ r .at) × Goes (r .decoder) (r .at) (now (buf .exit)) from d (now (buf .entry)) (now (chunk .entry)) ⌝ }
 {
     if decoder::bad_state(d) {
@@ -245,10 +254,7 @@ fn ahead(d: Decoder, buf: &mut [u8], chunk: &[u8], from: usize) -> Stretch
         DecodeState::ParsingNormal => put_plain(d, buf, chunk, from),
         DecodeState::ParsingEscChars(n) => wait_more(d, n, chunk, from),
         DecodeState::ParsingEscPayload(n) => put_judged(d, n, buf, chunk, from),
-        DecodeState::Done => Stretch {
-            decoder: d,
-            at: from,
-        },
+        DecodeState::Done => search_more(Decoder::new(d.capacity), 0, 0, chunk, from),
     }
 }
 

@@ -43,9 +43,12 @@ loop-again : tie.Need-loop-again Inv-loop μ-loop
 loop-again c =
     let l = c .before .before .before .before .before .before .before .before .loop in
     let a = c .before .before .before .before .before .before .before .before .before .before .before .before .args in
-    let p = c .before .before .before .before .push-byte in
-    (search needs, search needs, search needs,
-    pushes.push-next (l .n) (l .at) (l .buf) (now (a .src)) (l .i) (c .one-payload .result) (p .result) _ (c .before .before .before .before .before .before .before .loop-test .taken) (p .ensures) (c .one-payload .ensures .0) ∙ l .inv .3)
+    let p = c .before .before .before .before .push-byte in (
+      search needs,
+      search needs,
+      search needs,
+      pushes.push-next (l .n) (l .at) (l .buf) (now (a .src)) (l .i) (c .one-payload .result) (p .result) _ (c .before .before .before .before .before .before .before .loop-test .taken) (p .ensures) (c .one-payload .ensures .0) ∙ l .inv .3,
+    )
 
 same-length : tie.Need-same-length Inv-loop μ-loop
 same-length c = search needs

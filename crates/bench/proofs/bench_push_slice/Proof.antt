@@ -82,9 +82,12 @@ loop-again c =
     let l = c .before .before .before .before .before .before .before .before .before .loop in
     let a = c .before .before .before .before .before .before .before .before .before .before .before .before .before .args in
     let p = c .before .before .before .before .before .push-slice in
-    let some = c .before .if1 .left in
-    (pushes.room (l .n) (l .at) (l .buf) (now (a .src)) (l .i) (p .result) _ (p .ensures) (c .before .before .before .before .before .before .before .before .loop-test .taken), search needs, search needs,
-    pushes.slice-next (l .n) (l .at) (l .buf) (now (a .src)) (l .i) (p .result) _ (p .ensures) (c .before .before .before .before .before .before .before .before .loop-test .taken) (c .one-payload .result) (c .one-payload .ensures .0) some ∙ l .inv .3)
+    let some = c .before .if1 .left in (
+      pushes.room (l .n) (l .at) (l .buf) (now (a .src)) (l .i) (p .result) _ (p .ensures) (c .before .before .before .before .before .before .before .before .loop-test .taken),
+      search needs,
+      search needs,
+      pushes.slice-next (l .n) (l .at) (l .buf) (now (a .src)) (l .i) (p .result) _ (p .ensures) (c .before .before .before .before .before .before .before .before .loop-test .taken) (c .one-payload .result) (c .one-payload .ensures .0) some ∙ l .inv .3,
+    )
 
 same-length-2 : tie.Need-same-length-2 Inv-loop μ-loop
 same-length-2 c = search needs

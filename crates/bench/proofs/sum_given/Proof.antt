@@ -33,9 +33,12 @@ new-requires c κs = search needs
 
 loop-holds : tie.Need-loop-holds Inv-loop μ-loop
 loop-holds c =
-    let a = c .before .before .args in
-    (search needs, search needs, subst (λ (e : Encoder). Left e (now (a .payload)) (frameOf (now (a .payload)))) (sym (c .new .ensures)) (streams.first-left (now (a .payload)) (c .before .before .pre)),
-    streams.first-sum (frameOf (now (a .payload))))
+    let a = c .before .before .args in (
+      search needs,
+      search needs,
+      subst (λ (e : Encoder). Left e (now (a .payload)) (frameOf (now (a .payload)))) (sym (c .new .ensures)) (streams.first-left (now (a .payload)) (c .before .before .pre)),
+      streams.first-sum (frameOf (now (a .payload))),
+    )
 
 next-requires : tie.Need-next-requires Inv-loop μ-loop
 next-requires c κs = search needs

@@ -2,7 +2,10 @@ use mathlib.Core.Path.{_≡_, sym, ap, _∙_, subst}
 use Prim.Native.Nat.{ℕ, _≤_}
 use native.Mathlib.Omega.{arith}
 use denote.Ref.{now}
-use lib.ListN.{length}
+use lib.ListN.{length, drop}
+use Rattle.decoder.specs.declared.Decoder.{Decoder}
+use Rattle.slice.specs.Slice.{pushesFrom}
+use Rattle.slice.specs.Stretch.{inState}
 use Rattle.decoder.specs.declared.DecodeState.the-variants.{LookingForMessageStart, ParsingNormal, ParsingEscChars, ParsingEscPayload}
 use Rattle.decoder.proofs.Valid.{sane, sane-search, sane-normal, sane-wait, sane-escape, right-buffer}
 use Rattle.slice.proofs.Runs as runs
@@ -28,13 +31,14 @@ enum-known-s c = search needs
 search-more-requires : tie.Need-search-more-requires
 search-more-requires c κs =
     let a = c .before .before .before .before .before .before .before .before .before .before .before .args in
+    let inside : a .from ≤ length (now (a .chunk)) = search needs in
     let bad = sym (c .before .before .before .before .before .before .before .before .bad-state .ensures) ∙ c .before .before .before .before .before .before .before .if1 .left in
     let wrong = sym (c .before .before .before .before .before .before .wrong-buffer .ensures) ∙ c .before .before .before .before .before .if2 .left in
     let v = c .before .before .before .s .given in
     let g = sane (a .d) bad in
     let z = sane-search (a .d) bad (v .0 .0) (v .0 .1 .0) (v .1) in
     let i : a .d .«crc_idx» ≡ 0 = omega (arith, g .1, z .0) in
-    (i, z .0, runs.right-capacity _ _ wrong, z .1, c .before .before .before .before .before .before .before .before .before .before .before .pre, c .if3 .taken)
+    (i, z .0, runs.right-capacity _ _ wrong, z .1, inside, c .if3 .taken)
 
 returns-3 : tie.Need-returns-3
 returns-3 c =
@@ -50,11 +54,12 @@ enum-told c = search needs
 put-plain-requires : tie.Need-put-plain-requires
 put-plain-requires c κs =
     let a = c .before .before .before .before .before .before .before .before .before .args in
+    let inside : a .from ≤ length (now (a .chunk)) = search needs in
     let bad = sym (c .before .before .before .before .before .before .bad-state .ensures) ∙ c .before .before .before .before .before .if1 .left in
     let wrong = sym (c .before .before .before .before .wrong-buffer .ensures) ∙ c .before .before .before .if2 .left in
     let g = sane (a .d) bad in
     let l = right-buffer _ _ wrong .0 in
-    (g .1, subst (λ (n : ℕ). a .d .fill ≤ n) (sym l) (g .0), sane-normal (a .d) bad (c .before .enum-told .given .1), l, runs.right-capacity _ _ wrong, c .before .before .before .before .before .before .before .before .before .pre)
+    (g .1, subst (λ (n : ℕ). a .d .fill ≤ n) (sym l) (g .0), sane-normal (a .d) bad (c .before .enum-told .given .1), l, runs.right-capacity _ _ wrong, inside)
 
 enum-known-s-2 : tie.Need-enum-known-s-2
 enum-known-s-2 c = search needs
@@ -62,12 +67,13 @@ enum-known-s-2 c = search needs
 wait-more-requires : tie.Need-wait-more-requires
 wait-more-requires c κs =
     let a = c .before .before .before .before .before .before .before .before .before .args in
+    let inside : a .from ≤ length (now (a .chunk)) = search needs in
     let bad = sym (c .before .before .before .before .before .before .bad-state .ensures) ∙ c .before .before .before .before .before .if1 .left in
     let wrong = sym (c .before .before .before .before .wrong-buffer .ensures) ∙ c .before .before .before .if2 .left in
     let v = c .before .s2 .given in
     let g = sane (a .d) bad in
     let z = sane-wait (a .d) bad (v .0 .0) (v .1) in
-    (g .1, g .0, z .2, runs.right-capacity _ _ wrong, z .0, z .1, c .before .before .before .before .before .before .before .before .before .pre)
+    (g .1, g .0, z .2, runs.right-capacity _ _ wrong, z .0, z .1, inside)
 
 enum-known-s-3 : tie.Need-enum-known-s-3
 enum-known-s-3 c = search needs
@@ -75,16 +81,29 @@ enum-known-s-3 c = search needs
 put-judged-requires : tie.Need-put-judged-requires
 put-judged-requires c κs =
     let a = c .before .before .before .before .before .before .before .before .before .before .args in
+    let inside : a .from ≤ length (now (a .chunk)) = search needs in
     let bad = sym (c .before .before .before .before .before .before .before .bad-state .ensures) ∙ c .before .before .before .before .before .before .if1 .left in
     let wrong = sym (c .before .before .before .before .before .wrong-buffer .ensures) ∙ c .before .before .before .before .if2 .left in
     let v = c .before .before .s3 .given in
     let g = sane (a .d) bad in
     let l = right-buffer _ _ wrong .0 in
     let z = sane-escape (a .d) bad (v .0 .0) (v .1) in
-    (z .0, subst (λ (n : ℕ). a .d .fill ≤ n) (sym l) (g .0), z .2, l, runs.right-capacity _ _ wrong, z .1, c .before .before .before .before .before .before .before .before .before .before .pre)
+    (z .0, subst (λ (n : ℕ). a .d .fill ≤ n) (sym l) (g .0), z .2, l, runs.right-capacity _ _ wrong, z .1, inside)
 
 enum-told-2 : tie.Need-enum-told-2
 enum-told-2 c = search needs
+
+new-requires : tie.Need-new-requires
+new-requires c κs = search needs
+
+search-more-requires-2 : tie.Need-search-more-requires-2
+search-more-requires-2 c κs =
+    let a = c .before .before .before .before .before .before .before .before .before .args in
+    let inside : a .from ≤ length (now (a .chunk)) = search needs in
+    let wrong = sym (c .before .before .before .before .wrong-buffer .ensures) ∙ c .before .before .before .if2 .left in
+    let n = c .new .ensures in
+    let small = runs.right-capacity _ _ wrong in
+    (ap (λ (x : Decoder). x .«crc_idx») n, ap (λ (x : Decoder). x .fill) n, subst (λ (x : Decoder). x .capacity ≤ 1048576) (sym n) small, search needs, inside, ap (λ (x : Decoder). x .crc) n)
 
 returns-4 : tie.Need-returns-4
 returns-4 c = search needs
@@ -117,7 +136,18 @@ returns-7 c =
     (e .0, e .1, runs.at-state (a .d) (ParsingEscPayload (v .0 .0)) (now (a .buf)) (now (a .chunk)) (a .from) (v .1) (e .2))
 
 returns-8 : tie.Need-returns-8
-returns-8 c = search needs
+returns-8 c =
+    let a = c .before .before .before .before .before .before .before .before .before .before .args in
+    let bad = sym (c .before .before .before .before .before .before .before .bad-state .ensures) ∙ c .before .before .before .before .before .before .if1 .left in
+    let wrong = sym (c .before .before .before .before .before .wrong-buffer .ensures) ∙ c .before .before .before .before .if2 .left in
+    let n = c .before .new .ensures in
+    let e = c .search-more2 .ensures in (
+      e .0,
+      e .1,
+      e .2 (now (a .buf)) (right-buffer _ _ wrong .0 ∙ sym (ap (λ (x : Decoder). x .capacity) n))
+          ∙ ap (λ (x : Decoder). pushesFrom (a .from) (inState x (LookingForMessageStart 0 0)) (now (a .buf)) (drop (a .from) (now (a .chunk)))) n
+          ∙ runs.fresh-goes (a .d) (now (a .buf)) (now (a .chunk)) (a .from) (c .before .before .enum-told2 .given .1) bad wrong (c .before .before .before .before .before .before .before .before .before .before .pre),
+    )
 
 pub ahead-spec : {M : Type 1} → statement M
 ahead-spec =
@@ -137,6 +167,8 @@ ahead-spec =
     enum-known-s-3
     put-judged-requires
     enum-told-2
+    new-requires
+    search-more-requires-2
     returns-4
     same-length
     returns-5

@@ -65,9 +65,15 @@ loop-less c = search needs
 loop-again : tie.Need-loop-again Inv-loop μ-loop
 loop-again c =
     let l = c .before .before .loop in
-    let a = c .before .before .before .before .before .before .before .args in
-    (search needs, search needs, search needs, search needs, search needs, simp length-set (l .inv .5),
-    runs.judged-next (a .d) (a .n) (l .buf) (now (a .chunk)) (a .from) (l .k) (search needs) (search needs) (search needs) (search needs) (search needs) (search needs) (search needs) ∙ l .inv .6)
+    let a = c .before .before .before .before .before .before .before .args in (
+      search needs,
+      search needs,
+      search needs,
+      search needs,
+      search needs,
+      simp length-set (l .inv .5),
+      runs.judged-next (a .d) (a .n) (l .buf) (now (a .chunk)) (a .from) (l .k) (search needs) (search needs) (search needs) (search needs) (search needs) (search needs) (search needs) ∙ l .inv .6,
+    )
 
 cast-t14 : tie.Need-cast-t14 Inv-loop μ-loop
 cast-t14 c = search needs

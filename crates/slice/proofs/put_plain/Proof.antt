@@ -135,10 +135,17 @@ loop-again : tie.Need-loop-again Inv-loop μ-loop Inv-loop2 μ-loop2
 loop-again c =
     let l = c .before .before .before .before .before .before .before .loop in
     let a = c .before .before .before .before .before .before .before .before .before .before .before .args in
-    let n = c .before .all-plain .ensures (runs.not-false _ (c .if1 .left)) in
-    (search needs, search needs, search needs, search needs, simp length-set (l .inv .4),
-    runs.plain-four (a .d) (l .buf) (now (a .chunk)) (a .from) (l .k) (search needs) (search needs) (search needs) (search needs) (search needs) (search needs) (n .0) (n .1) (n .2) (n .3) ∙ l .inv .5,
-    search needs, search needs, search needs)
+    let n = c .before .all-plain .ensures (runs.not-false _ (c .if1 .left)) in (
+      search needs,
+      search needs,
+      search needs,
+      search needs,
+      simp length-set (l .inv .4),
+      runs.plain-four (a .d) (l .buf) (now (a .chunk)) (a .from) (l .k) (search needs) (search needs) (search needs) (search needs) (search needs) (search needs) (n .0) (n .1) (n .2) (n .3) ∙ l .inv .5,
+      search needs,
+      search needs,
+      search needs,
+    )
 
 loop2-holds : tie.Need-loop2-holds Inv-loop μ-loop Inv-loop2 μ-loop2
 loop2-holds c = (search needs, search needs, search needs, search needs, search needs, refl)
@@ -164,9 +171,14 @@ loop2-less c = search needs
 loop2-again : tie.Need-loop2-again Inv-loop μ-loop Inv-loop2 μ-loop2
 loop2-again c =
     let l = c .before .before .before .loop2 in
-    let a = c .before .before .before .before .before .before .before .before .before .args in
-    (search needs, search needs, search needs, search needs, simp length-set (l .inv .4),
-    runs.plain-next (a .d) (l .buf) (now (a .chunk)) (a .from) (l .k) (search needs) (search needs) (search needs) (search needs) (search needs) (search needs) (c .if2 .left) ∙ l .inv .5)
+    let a = c .before .before .before .before .before .before .before .before .before .args in (
+      search needs,
+      search needs,
+      search needs,
+      search needs,
+      simp length-set (l .inv .4),
+      runs.plain-next (a .d) (l .buf) (now (a .chunk)) (a .from) (l .k) (search needs) (search needs) (search needs) (search needs) (search needs) (search needs) (c .if2 .left) ∙ l .inv .5,
+    )
 
 moved-on-requires : tie.Need-moved-on-requires Inv-loop μ-loop Inv-loop2 μ-loop2
 moved-on-requires c κs = search needs

@@ -57,9 +57,9 @@ loop-again c =
     let small : a .d .capacity ≤ 1048576 = search needs in
     let room : a .from + l .k < length s = search needs in
     let z = ⊎-elim
-        (λ w. runs.search-next (a .d) (a .noise) (a .n) (l .q) (c .if1 .q) s (a .from) (l .k) true (search needs) (search needs) (search needs) small room (l .inv .4) (l .inv .3) (said ∙ w .0 .taken) (runs.not-seven (l .q) (w .1 .left)) (w .2))
-        (λ w. runs.search-next (a .d) (a .noise) (a .n) (l .q) (c .if1 .q) s (a .from) (l .k) false (search needs) (search needs) (search needs) small room (l .inv .4) (l .inv .3) (said ∙ w .0 .left) (runs.no-match (l .q)) (w .1))
-        (c .if1 .came) in
+    (λ w. runs.search-next (a .d) (a .noise) (a .n) (l .q) (c .if1 .q) s (a .from) (l .k) true (search needs) (search needs) (search needs) small room (l .inv .4) (l .inv .3) (said ∙ w .0 .taken) (runs.not-seven (l .q) (w .1 .left)) (w .2))
+    (λ w. runs.search-next (a .d) (a .noise) (a .n) (l .q) (c .if1 .q) s (a .from) (l .k) false (search needs) (search needs) (search needs) small room (l .inv .4) (l .inv .3) (said ∙ w .0 .left) (runs.no-match (l .q)) (w .1))
+    (c .if1 .came) in
     (search needs, search needs, search needs, z .0, z .1, λ m h. z .2 m h ∙ l .inv .5 m h)
 
 add-more : tie.Need-add-more Inv-loop μ-loop

@@ -47,9 +47,14 @@ loop-less c = search needs
 loop-again : tie.Need-loop-again Inv-loop μ-loop
 loop-again c =
     let l = c .before .before .before .before .loop in
-    let a = c .before .before .before .before .before .before .args in
-    (search needs, search needs, search needs, search needs, search needs,
-    λ m h. runs.wait-next (a .d) (l .q) m (now (a .chunk)) (a .from) (l .k) (search needs) (search needs) (search needs) h (search needs) (search needs) (search needs) (search needs) (c .if2 .left) (c .before .before .if1 .left) ∙ l .inv .5 m h)
+    let a = c .before .before .before .before .before .before .args in (
+      search needs,
+      search needs,
+      search needs,
+      search needs,
+      search needs,
+      λ m h. runs.wait-next (a .d) (l .q) m (now (a .chunk)) (a .from) (l .k) (search needs) (search needs) (search needs) h (search needs) (search needs) (search needs) (search needs) (c .if2 .left) (c .before .before .if1 .left) ∙ l .inv .5 m h,
+    )
 
 moved-on-requires : tie.Need-moved-on-requires Inv-loop μ-loop
 moved-on-requires c κs = search needs
