@@ -69,6 +69,7 @@ gives-then {s} {at} {start} {pending} x y place start′ pending′ h g = record
   where
     ever : Gives s place start′ pending′ (record { first = []; later = y })
     ever = gives-ever y g
+
     by : (k : ℕ) → call k s at start pending ≡ answer (record { first = x ∷ []; later = y }) k
     by zero = ap (λ (r : After). r .said) h
     by (suc k) = ap (λ (r : After). call k s (r .place) (r .start) (r .pending)) h ∙ ever .gives k

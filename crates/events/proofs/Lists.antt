@@ -1,0 +1,36 @@
+-- A list response with n entries gives n entries and its end, and nothing between, or a refusal before that.
+use mathlib.Core.Path.{_≡_, refl}
+use mathlib.Core.List.{List, [], _∷_}
+use Prim.Native.Nat.{ℕ, zero, suc}
+use lib.ListN.{length}
+use Rattle.tlf.specs.Read.{Read, got, refused, Refusal}
+use Rattle.tlf.specs.declared.Span.{Span}
+use Rattle.common.specs.Fields.{ListEntry, entryAt}
+use Rattle.message.specs.Messages.{ListStart, ListEnd, listed, listEndAt}
+use Rattle.streaming.specs.Next.{Event, entry, ends, Said, failed}
+use Rattle.events.specs.Events.{Answers, says, inside, entriesFrom, contentFrom}
+
+pub data Listing : ℕ → Answers → Type 0 where
+  stops : {n : ℕ} (f : Refusal) (x : Said) → Listing n (record { first = failed f ∷ []; later = x })
+  lists : {n : ℕ} (e : ListEntry Span) {a : Answers} → Listing n a → Listing (suc n) (says (entry e) a)
+  ended : (e : ListEnd Span) (a : Answers) → Listing 0 (says (ends e) a)
+
+end-lists : (end : ℕ) (r : Read (ListEnd Span)) (k : ℕ → Answers) → Listing 0 (inside end r λ e m. says (ends e) (k m))
+unfolding inside
+end-lists end (got e m) k = ended e (k m)
+end-lists end (refused f) k = stops f _
+
+entry-lists : (n end : ℕ) (r : Read (ListEntry Span)) (k : ℕ → Answers) → ((m : ℕ) → Listing n (k m)) → Listing (suc n) (inside end r λ e m. says (entry e) (k m))
+unfolding inside
+entry-lists n end (got e m) k h = lists e (h m)
+entry-lists n end (refused f) k h = stops f _
+
+entries-list : (n : ℕ) (s : List ℕ) (at : ℕ) (k : ℕ → Answers) → ((m : ℕ) → Listing 0 (k m)) → Listing n (entriesFrom n s at k)
+unfolding entriesFrom
+entries-list zero s at k h = h at
+entries-list (suc n) s at k h = entry-lists n (length s) (entryAt s at) _ (λ m. entries-list n s m k h)
+
+-- what follows the start of a list response that says n entries
+pub list-content : (b : ListStart Span) (s : List ℕ) (at : ℕ) (k : ℕ → Answers) → Listing (b .count) (contentFrom (listed b) s at k)
+unfolding contentFrom
+list-content b s at k = entries-list (b .count) s at _ (λ m. end-lists (length s) (listEndAt s m) k)
