@@ -35,7 +35,6 @@ use denote.Triple.Spec.{Meets, tripleOf}
 use denote.Triple.Table.{entered}
 use denote.Triple.Walked.{says, Stays, stay-none-slice, walkOf, goes-none-slice, Walks, ends-at, walked, walk-meets}
 use denote.Exit.{yes}
-use Rattle.parser.specs.Reader.{readerOf}
 use Rattle.parser.specs.declared.Parser.{Parser}
 use Rattle.parser.proofs.Parser as T
 use Rattle.parser.proofs.Parser.Laws as T′
@@ -56,7 +55,7 @@ module _ {M : Type 1} (𝓤 : URA M) (H : Heap 𝓤) (A : Atoms 𝓤) (W : Given
   v = sliceVal (s .ptr) (length (s .now))
 
   abbrev made : Parser
-  made = readerOf s
+  made = record { input = s; place = 0; «message_start» = 0; pending = 0 }
 
   abbrev at : List Val × Unit {0}
   at = (v ∷ [], tt)
