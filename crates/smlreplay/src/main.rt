@@ -1,5 +1,7 @@
 // Runs a list of commands, one a line, and answers one line each: the vectors, and the comparison with the crate. A line that is
 // no command is answered `bad command`. Slices stand for words; a word that isn't there is the empty one, which no command takes.
+mod messages;
+
 use decoder::Decoder;
 use decoder::Event;
 use encoder::Encoded;
@@ -736,7 +738,7 @@ fn other_kind_of(s: &[u8]) -> u8 {
     if same(s, b"opt_oct") {
         return 10;
     }
-    NO_KIND
+    messages::kind_of(s)
 }
 
 fn field(kind: u8, input: &[u8], out: &mut [u8], n: usize) -> usize {
@@ -752,7 +754,7 @@ fn field(kind: u8, input: &[u8], out: &mut [u8], n: usize) -> usize {
         8 => field_bool(input, out, n),
         9 => field_oct(input, out, n),
         10 => field_opt_oct(input, out, n),
-        _ => text(out, n, b"bad command"),
+        _ => messages::field(kind, input, out, n),
     }
 }
 
@@ -799,9 +801,21 @@ fn integer(value: i64, input: &[u8], next: usize, out: &mut [u8], n: usize) -> u
 }
 
 // S of the answers: x and hex.
+fn octets(span: Span, input: &[u8], out: &mut [u8], n: usize) -> usize {
+    let m = emit(out, n, b'x');
+    hex(out, m, octet_string::octet_str(input, span))
+}
+
+// O of the answers.
+fn opt_octets(s: OptSpan, input: &[u8], out: &mut [u8], n: usize) -> usize {
+    match s {
+        OptSpan::Present(span) => octets(span, input, out, n),
+        OptSpan::Absent => emit(out, n, b'-'),
+    }
+}
+
 fn string(span: Span, input: &[u8], next: usize, out: &mut [u8], n: usize) -> usize {
-    let k = emit(out, n, b'x');
-    let m = hex(out, k, octet_string::octet_str(input, span));
+    let m = octets(span, input, out, n);
     left(input, next, out, m)
 }
 
@@ -888,13 +902,8 @@ fn field_oct(input: &[u8], out: &mut [u8], n: usize) -> usize {
 }
 
 fn optional_string(s: OptSpan, input: &[u8], next: usize, out: &mut [u8], n: usize) -> usize {
-    match s {
-        OptSpan::Present(span) => string(span, input, next, out, n),
-        OptSpan::Absent => {
-            let m = emit(out, n, b'-');
-            left(input, next, out, m)
-        }
-    }
+    let m = opt_octets(s, input, out, n);
+    left(input, next, out, m)
 }
 
 fn field_opt_oct(input: &[u8], out: &mut [u8], n: usize) -> usize {
@@ -940,7 +949,7 @@ fn command(line: &[u8], bytes: &mut [u8], memory: &mut [u8], out: &mut [u8], n: 
     if same(name, b"crc") {
         return crc(rest, bytes, out, n);
     }
-    bad(out, n)
+    messages::command(name, rest, bytes, out, n)
 }
 
 // How long the line is so far, usize::MAX where it is too long; how full the output is; whether input may follow.
