@@ -1,9 +1,10 @@
-"""generate.py SEED COUNT: random commands inside document 01's domain, one a line; the same for the same seed.
+"""generate.py SEED COUNT [messages]: random commands inside document 01's domain, one a line; the same for the same seed.
 
 Valid frames, damaged ones, payloads with many 1b, noise, capacities about the limit, finalize and reset in between, fields that are bent; now and then a line
-that is no command.
+that is no command. With `messages`: events of messages, valid, bent field by field, cut, damaged, and the fields of crate value (messages.py).
 """
 import random, sys
+import messages
 from sml import ESCAPE, KINDS, START, capacities, closed, escaped, frame, hexed
 
 CAPS = capacities()
@@ -136,7 +137,7 @@ def leaf(r):
     return "leaf %s %s" % (kind, hexed(data + r.randbytes(r.choice([0, 0, 1, 5]))))
 
 
-def no_command(r):
+def no_command(r, command):
     line = command(r)
     at = r.randrange(len(line))
     bent = line[:at] + r.choice(["", " ", "g", "A", ",", "-", ":", "\r", "\t", "+"]) + line[at + r.randrange(2):]
@@ -158,12 +159,16 @@ def command(r):
     return ("stream " if what < 0.98 else "crc ") + hexed(p)
 
 
-def commands(seed, count):
-    r = random.Random(seed)
+# what the third word says, and none
+STYLES = {"transport": command, "messages": messages.command}
+
+
+def commands(seed, count, style="transport"):
+    r, one = random.Random(seed), STYLES[style]
     for _ in range(count):
-        line = no_command(r) if r.random() < 0.02 else command(r)
+        line = no_command(r, one) if r.random() < 0.02 else one(r)
         yield line if len(line) <= 69000 else "crc -"
 
 
 if __name__ == "__main__":
-    sys.stdout.writelines(c + "\n" for c in commands(int(sys.argv[1]), int(sys.argv[2])))
+    sys.stdout.writelines(c + "\n" for c in commands(int(sys.argv[1]), int(sys.argv[2]), *sys.argv[3:]))

@@ -3,7 +3,7 @@ import glob, os, re, subprocess, sys
 
 os.chdir(os.path.join(os.path.dirname(os.path.abspath(__file__)), ".."))
 bad, count = [], 0
-FN = re.compile(r'^(\s*)(pub(?:\(crate\))?\s+)?(?:extern\s+"C"\s+)?fn\s+(\w+)')
+FN = re.compile(r'^(\s*)(pub\s+|pub\(crate\)\s+)?(?:extern\s+"C"\s+)?fn\s+(\w+)')
 for path in sorted(glob.glob("crates/*/src/**/*.rt", recursive=True)):
     lines = open(path, encoding="utf-8").read().split("\n")
     for i, line in enumerate(lines):
@@ -17,7 +17,7 @@ for path in sorted(glob.glob("crates/*/src/**/*.rt", recursive=True)):
         end = next(k for k in range(j, len(lines)) if lines[k] == m.group(1) + "}")
         if end - j > 40:
             bad.append(f"{path}:{i + 1}: {m.group(3)} has {end - j} lines")
-        if m.group(2) and m.group(2).startswith("pub"):
+        if m.group(2) and m.group(2).startswith("pub "):
             count += 1
             if "requires" in clauses:
                 bad.append(f"{path}:{i + 1}: {m.group(3)} is public and has a requires")

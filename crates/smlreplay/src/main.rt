@@ -1,5 +1,7 @@
 // Runs a list of commands, one a line, and answers one line each: the vectors, and the comparison with the crate. A line that is
 // no command is answered `bad command`. Slices stand for words; a word that isn't there is the empty one, which no command takes.
+mod messages;
+
 use decoder::Decoder;
 use decoder::Event;
 use encoder::Encoded;
@@ -747,7 +749,10 @@ fn push(rest: &[u8], memory: &mut [u8], out: &mut [u8], n: usize) -> usize {
 
 // A kind's number in `field`.
 fn kind_of(s: &[u8]) -> u8 {
-    find(b"u8,u16,u32,u64,i8,i16,i32,i64,bool,oct,opt_oct", s)
+    find(
+        b"u8,u16,u32,u64,i8,i16,i32,i64,bool,oct,opt_oct,time,value,status,opt_u8,opt_i8,opt_time,opt_status",
+        s,
+    )
 }
 
 fn field(kind: u8, input: &[u8], out: &mut [u8], n: usize) -> usize {
@@ -763,7 +768,7 @@ fn field(kind: u8, input: &[u8], out: &mut [u8], n: usize) -> usize {
         8 => field_bool(input, out, n),
         9 => field_oct(input, out, n),
         10 => field_opt_oct(input, out, n),
-        _ => bad(out, n),
+        _ => messages::field(kind, input, out, n),
     }
 }
 
@@ -816,9 +821,21 @@ fn integer(value: i64, input: &[u8], next: usize, out: &mut [u8], n: usize) -> u
 }
 
 // S of the answers: x and hex.
+fn octets(span: Span, input: &[u8], out: &mut [u8], n: usize) -> usize {
+    let m = emit(out, n, b'x');
+    hex(out, m, octet_string::octet_str(input, span))
+}
+
+// O of the answers.
+fn opt_octets(s: OptSpan, input: &[u8], out: &mut [u8], n: usize) -> usize {
+    match s {
+        OptSpan::Present(span) => octets(span, input, out, n),
+        OptSpan::Absent => emit(out, n, b'-'),
+    }
+}
+
 fn string(span: Span, input: &[u8], next: usize, out: &mut [u8], n: usize) -> usize {
-    let k = emit(out, n, b'x');
-    let m = hex(out, k, octet_string::octet_str(input, span));
+    let m = octets(span, input, out, n);
     left(input, next, out, m)
 }
 
@@ -905,13 +922,8 @@ fn field_oct(input: &[u8], out: &mut [u8], n: usize) -> usize {
 }
 
 fn optional_string(s: OptSpan, input: &[u8], next: usize, out: &mut [u8], n: usize) -> usize {
-    match s {
-        OptSpan::Present(span) => string(span, input, next, out, n),
-        OptSpan::Absent => {
-            let m = emit(out, n, b'-');
-            left(input, next, out, m)
-        }
-    }
+    let m = opt_octets(s, input, out, n);
+    left(input, next, out, m)
 }
 
 fn field_opt_oct(input: &[u8], out: &mut [u8], n: usize) -> usize {
@@ -935,10 +947,15 @@ fn leaf(rest: &[u8], bytes: &mut [u8], out: &mut [u8], n: usize) -> usize {
 
 fn command(line: &[u8], bytes: &mut [u8], memory: &mut [u8], out: &mut [u8], n: usize) -> usize {
     let rest = behind(line, b' ');
-    match find(b"push,leaf,encode_cap,encode,stream,crc", first(line, b' ')) {
+    match find(
+        b"push,leaf,encode_cap,encode,stream,crc,events,places",
+        first(line, b' '),
+    ) {
         0 => push(rest, memory, out, n),
         1 => leaf(rest, bytes, out, n),
         2 => encode_cap(rest, bytes, memory, out, n),
+        6 => messages::events(rest, false, bytes, out, n),
+        7 => messages::events(rest, true, bytes, out, n),
         k => of_bytes(k, rest, bytes, memory, out, n),
     }
 }

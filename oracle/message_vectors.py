@@ -1,0 +1,230 @@
+"""message_vectors.py: prints the fixed commands over messages. message_vectors.py append: puts them, with their answers, behind the lines of crates/smlreplay/stdin and stdout.
+
+The answers are the crate's (target/oracle/oracle, made by oracle/build). The crate has no places: what `places` answers is its answer to `events` with document 01's number behind each
+error, and the place that is written here beside the input, by the rule: 10 the input's length; 11, 12, 13 the element's first length byte, of a 13 the tag's; 14 the CRC's; 15 the end byte.
+A second `append` replaces what the first one put there. vectors.py writes both files anew, so run it first.
+"""
+import os, subprocess, sys
+
+sys.dont_write_bytecode = True
+from messages import BOOL, INT, KINDS, LIST, OCT, UINT, element, length, payloads, sealed, unsigned
+from sml import HERE, crc, hexed
+
+b = bytes.fromhex
+ORACLE = os.path.join(HERE, "..", "target/oracle/oracle")
+NUMBERS = {"UnexpectedEOF": 10, "InvalidTlf": 11, "TlfMismatch": 12, "UnexpectedVariant": 13, "CrcMismatch": 14, "MsgEndMismatch": 15}
+
+
+def heads(data):
+    """Of a sound file: the place, number of length bytes, type and length of each element, in their order; the end byte is a string of no length."""
+    at = 0
+    while at < len(data):
+        own, total = 1, data[at] & 15
+        while data[at + own - 1] & 0x80:
+            total, own = total << 4 | data[at + own] & 15, own + 1
+        ty = data[at] >> 4 & 7
+        n = 0 if data[at] == 0 else total if ty == LIST else total - own
+        yield at, own, ty, n
+        at += own + (0 if ty == LIST else n)
+
+
+def messages_of(data):
+    start = 0
+    for at, own, ty, n in heads(data):
+        if data[at] == 0:
+            yield data[start : at + 1]
+            start = at + 1
+
+
+# ---- a file with every field present: (what it is, its bytes), so that each place is known
+
+
+def fields(tag, content):
+    head = [("list", length(LIST, 6)), ("string", element(OCT, b("05032b180f1b"))), ("number", unsigned(5, 1)), ("number", unsigned(1, 1)), ("list", length(LIST, 2)), ("tag", unsigned(tag, 4))]
+    out = head + content
+    c = crc(b"".join(x for _, x in out))
+    return out + [("crc", element(UINT, c.to_bytes(2, "little"))), ("end", b"\0")]
+
+
+def time(seconds):
+    return [("list", length(LIST, 2)), ("time tag", unsigned(1, 1)), ("number", unsigned(seconds, 4))]
+
+
+def string(text):
+    return [("string", element(OCT, text))]
+
+
+def entry(value):
+    middle = [("number", unsigned(130, 2))] + time(7) + [("number", unsigned(30, 1)), ("number", element(INT, b"\xff"))]
+    return [("list", length(LIST, 7))] + string(b("0100010800ff")) + middle + value + string(b"\xaa\xbb")
+
+
+VALUES = [[("value", element(INT, b("fffe")))], [("list value", length(LIST, 2)), ("value tag", unsigned(1, 1))] + time(9)]
+OPEN = fields(0x101, [("list", length(LIST, 6))] + string(b"utf8") + string(b"client") + string(b"file") + string(b"server") + time(1000000) + [("number", unsigned(1, 1))])
+CLOSE = fields(0x201, [("list", length(LIST, 1))] + string(b"sig"))
+LISTED = fields(
+    0x701,
+    [("list", length(LIST, 7))] + string(b"client") + string(b"server") + string(b"name") + time(5) + [("any list", length(LIST, 2))] + entry(VALUES[0]) + entry(VALUES[1]) + string(b"sig") + time(6),
+)
+
+
+def joined(message):
+    return b"".join(x for _, x in message)
+
+
+FULL = joined(OPEN) + joined(LISTED) + joined(CLOSE)
+
+
+# ---- commands that the crate answers
+
+
+def whole():
+    both = list(payloads())
+    for p in both + [b"", FULL, both[0] + both[1], both[1] + FULL, both[0] + b"\0", both[1] + b"\x76", b("00"), b("01")]:
+        yield "events " + hexed(p)
+    for p in both:
+        yield from ("events " + m.hex() for m in messages_of(p))
+
+
+def cuts():
+    """Cut after every byte."""
+    for p in [*payloads(), FULL]:
+        yield from ("events " + hexed(p[:k]) for k in range(len(p)))
+
+
+OTHERS = b("00 01 02 10 42 52 62 63 65 69 72 76 77 80 83 c2 f0 ff")
+
+
+def replaced(message, others):
+    """Each length byte replaced, and the CRC made right again; that of the CRC itself, and the end byte, replaced too."""
+    for at, own, ty, n in heads(message):
+        for p in range(at, at + own):
+            for x in others(message[p]):
+                bent = message[:p] + bytes([x]) + message[p + 1 :]
+                yield "events " + (sealed(bent[:-4]) if at < len(message) - 4 else bent).hex()
+
+
+def lengths():
+    for m in map(joined, (OPEN, LISTED, CLOSE)):
+        yield from replaced(m, lambda x: sorted({*OTHERS, (x + 1) % 256, (x - 1) % 256} - {x}))
+    for p in payloads():
+        for m in messages_of(p):
+            yield from replaced(m, lambda x: sorted({0x01, x + 1} - {x}))
+
+
+def longer():
+    """One element in turn with one more length byte, or two, and each string with a content that needs two: the fields behind it are read as before."""
+    for m in [*map(joined, (OPEN, LISTED, CLOSE)), *(m for p in payloads() for m in messages_of(p))]:
+        for at, own, ty, n in heads(m[:-4]):
+            end = at + own + (0 if ty == LIST else n)
+            for more in (1, 2):
+                if ty != BOOL:
+                    yield "events " + sealed(m[:at] + length(ty, n, own - 1 + more) + m[at + own : -4]).hex()
+            if ty == OCT:
+                for k in (14, 15, 48, 255):
+                    yield "events " + sealed(m[:at] + element(OCT, bytes(range(k))) + m[end:-4]).hex()
+                yield "events " + sealed(m[:at] + b"\x01" + m[end:-4]).hex()
+
+
+def leaves():
+    """Every length byte at every kind that crate value reads, and both forms of a time."""
+    for k in KINDS:
+        yield from ("leaf %s %02x0203040506070809" % (k, x) for x in range(256))
+        for h in ["01", "00", "8002", "8001", "-", "72620165000f4240", "65000f4240", "6400ffff", "720165000f4240", "72620265000f4240", "7262016201", "726201620165000000ff", "7262017262016500000001",
+                  "72620165000000ff00", "7201", "7262", "726201", "72620165", "f002620165000000ff", "e00600000001", "e0070000000001", "72e003016500000001", "7262ff6500000001", "710165000000ff", "7362016500000001"]:
+            yield "leaf %s %s" % (k, h)
+        for n in range(0, 10):
+            for ty in (INT, UINT):
+                yield from ("leaf %s %x%x%s" % (k, ty, n + 1, c[: 2 * n]) for c in ("00" * n, "ff" * n, "80" + "00" * n, "7f" + "ff" * n))
+
+
+# ---- commands with places: the input, the number of the first refusal and its place
+
+# of each kind of field, what can't stand in its place: 12
+WRONG = {"list": "6205", "any list": "6205", "string": "6205", "number": "0241", "tag": "0241", "time tag": "0241", "value": "71", "list value": "73", "value tag": "0241", "crc": "0241"}
+
+
+def placed():
+    before = joined(CLOSE)
+    for message in (OPEN, CLOSE, LISTED):
+        body = list(message)
+        for k, (kind, bytes_of) in enumerate(body):
+            at = len(before) + len(joined(body[:k]))
+
+            def put(x):
+                bent = joined(body[:k]) + x + joined(body[k + 1 :])
+                return before + (bent if kind in ("crc", "end") else sealed(bent[:-4]))
+
+            if k > 0:
+                cut = put(bytes_of)[: at + len(bytes_of) - 1]
+                yield cut, 10, len(cut)
+            if kind == "end":
+                yield put(b"\x01"), 15, at
+                continue
+            for x in ("10", "c2", "00", "8112"):
+                yield put(b(x)), 11, at
+            yield put(b(WRONG[kind])), 12, at
+            if kind.endswith("tag"):
+                yield put(unsigned(2, 1)), 13, at
+            if kind == "number":
+                yield put(element(UINT, bytes(9))), 12, at
+            if kind == "crc":
+                yield put(b"\x63" + bytes([bytes_of[1] ^ 1]) + bytes_of[2:]), 14, at
+                yield put(b"\x63" + bytes_of[:0:-1]), 14, at
+                # both wrong: the end byte is judged first
+                yield put(b"\x63" + bytes_of[:0:-1])[:-1] + b"\x01", 15, at + 3
+
+
+def with_places(said, size, number, place):
+    """The crate's answer to `events`, with number and place behind each error; behind the first refusal it is 10 at the end of the input."""
+    out, first = [], True
+    for one in said.split(" | "):
+        if one.startswith("err "):
+            n = NUMBERS[one.split()[1]]
+            assert n == (number if first else 10), (said, number)
+            one += " %d @%d" % (n, place if first else size)
+            first = False
+        out.append(one)
+    assert not first, said
+    return " | ".join(out)
+
+
+def asked(commands):
+    said = subprocess.run([ORACLE], input="\n".join(commands).encode(), capture_output=True, check=True).stdout.decode().splitlines()
+    assert len(said) == len(commands)
+    assert not {"panic", "bad command"} & set(said)
+    return said
+
+
+def plain():
+    seen = dict.fromkeys([*whole(), *cuts(), *lengths(), *longer(), *leaves()])
+    return list(seen)
+
+
+def vectors():
+    """Commands and answers."""
+    commands = plain()
+    bent = list(placed())
+    said = asked(commands + ["events " + d.hex() for d, _, _ in bent])
+    yield from zip(commands, said)
+    for (data, number, place), answer in zip(bent, said[len(commands) :]):
+        yield "places " + data.hex(), with_places(answer, len(data), number, place)
+
+
+def append():
+    crate = os.path.join(HERE, "..", "crates", "smlreplay")
+    given, stored = (open(os.path.join(crate, f)).read() for f in ("stdin", "stdout"))
+    pairs = list(vectors())
+    old = given.removesuffix("\n").split("\n")
+    kept = old.index(pairs[0][0]) if pairs[0][0] in old else len(old)
+    # the last line has no line end
+    open(os.path.join(crate, "stdin"), "w").write("\n".join(old[:kept] + [c for c, _ in pairs]))
+    open(os.path.join(crate, "stdout"), "w").write("".join(a + "\n" for a in stored.split("\n")[:kept] + [a for _, a in pairs]))
+    print(f"{len(pairs)} commands behind {kept}")
+
+
+if __name__ == "__main__":
+    if sys.argv[1:] == ["append"]:
+        append()
+    else:
+        sys.stdout.writelines(c + "\n" for c in plain() + ["places " + d.hex() for d, _, _ in placed()])
