@@ -109,6 +109,9 @@ module _ {M : Type 1} (𝓤 : URA M) (H : Heap 𝓤) (A : Atoms 𝓤) (W : Given
   abbrev h : Parser
   h = record { input = s; place = a; «message_start» = m; pending = p }
 
+  start-fits : h .«message_start» < 2 ^ 64
+  start-fits = m-fits
+
   abbrev R : RattleType
   R = T.the-row (record { mir = named 0; lft = κ })
 
@@ -140,8 +143,8 @@ module _ {M : Type 1} (𝓤 : URA M) (H : Heap 𝓤) (A : Atoms 𝓤) (W : Given
   parts : ent 𝓤 (sem 𝓤 H A Owns) (sep 𝓤 (sem 𝓤 H A (R .own h (mach h ∷ []))) (sem 𝓤 H A Own))
   parts =
       qed W (‵ Owns ∷ []) ∵ fsplit ! $ move ! (1 ∷ []) $ drop ! $ use1 W (‵ Own ⊛ ‵ Own) (shr-slice-copy 𝓤 H A W (named 0) κ u8 .twice s (v ∷ [])) $ split ! $ nothing ! $
-      owned ! u64 (Is u64) (uint-makes 𝓤 H A W w64) p _ (refl, p-fits) $ fjoin ! $ owned ! usize (Is usize) (uint-makes 𝓤 H A W w64) m _ (refl, m-fits) $ fjoin ! $
-      owned ! usize (Is usize) (uint-makes 𝓤 H A W w64) a _ (refl, a-fits) $ fjoin ! $ move ! (1 ∷ 0 ∷ []) $ fjoin ! $ use1 W (‵ (R .own h (mach h ∷ []))) (own-shut 𝓤 H A W D L x) $ frame ! $ done !
+      owned ! u64 (Is u64) (uint-makes 𝓤 H A W w64) p _ (refl, p-fits) $ fjoin ! $ owned ! usize (Is usize) (uint-makes 𝓤 H A W w64) (h .«message_start») _ (refl, start-fits) $ fjoin ! $
+      owned ! usize (Is usize) (uint-makes 𝓤 H A W w64) a _ (refl, a-fits) $ fjoin ! $ move ! (1 ∷ 0 ∷ []) $ fjoin ! $ use1 W (‵ (R .own h (mach h ∷ []))) (own-shut 𝓤 H A W D L (s, (a, (h .«message_start», (p, tt))))) $ frame ! $ done !
 
   -- the call: the local l that holds the reader is lent for ν ∷ κ under the name δ
   abbrev ref : ℕ → GName → RefT Parser
@@ -188,7 +191,7 @@ module _ {M : Type 1} (𝓤 : URA M) (H : Heap 𝓤) (A : Atoms 𝓤) (W : Given
         pass1 ! (init ! 18 refl typed-s) $ pass1 ! (init ! 16 refl (tt, record { fits = a-fits })) $ pass1 ! (init ! 14 refl (tt, record { fits = m-fits })) $ pass1 ! (init ! 12 refl (tt, record { fits = p-fits })) $ pass0 ! $
         -- [_10; …; _9; …; _8; …; _7; …; _6; …; _5; …; _4; …; _3; …; _2; …; _1; …; room for _0; …; the token; what the parameters own]
         assigns ! (agg ! (and-then ! (load ! (from ! (stop !)) (look ! 18 refl)) (and-then ! (load ! (from ! (stop !)) (look ! 16 refl)) (and-then ! (load ! (from ! (stop !)) (look ! 14 refl)) (and-then ! (load ! (from ! (stop !)) (look ! 12 refl)) (no-more !)))))) (from ! {sp = (R-ty, l₅, 0)} (stop !))
-        (init ! 10 {τ = R-ty} {b = l₅} {o = 0} {v = mach h} refl (tt, (typed-s .1, (record { fits = a-fits }, (record { fits = m-fits }, (record { fits = p-fits }, tt)))))) $
+        (init ! 10 {τ = R-ty} {b = l₅} {o = 0} {v = mach h} refl (tt, (typed-s .1, (record { fits = a-fits }, (record { fits = start-fits }, (record { fits = p-fits }, tt)))))) $
         assigns ! (addr ! (from ! {sp = (R-ty, l₅, 0)} (stop !))) (from ! (stop !)) (init ! 6 refl (tt, tt)) $
         -- _5's cell and what the reader owns are put together
         move ! (23 ∷ []) $ use1 W (‵ (R .own h (mach h ∷ [])) ⊛ ‵ Own) parts $ split ! $
