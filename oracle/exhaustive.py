@@ -8,6 +8,7 @@ leaves2   all inputs up to 2 bytes to each leaf
 leaves4   all inputs of 3 and 4 bytes over sixteen letters to each leaf
 """
 import itertools, sys
+import messages
 from sml import ESCAPE, KINDS, START, closed, frame, hexed
 
 FIVE = bytes([0x1B, 0x1A, 0x01, 0x00, 0x42])
@@ -46,13 +47,13 @@ def ends():
 
 
 def leaves2():
-    for k in KINDS:
+    for k in KINDS + messages.KINDS:
         for s in words(bytes(range(256)), range(3)):
             yield "leaf %s %s" % (k, hexed(s))
 
 
 def leaves4():
-    for k in KINDS:
+    for k in KINDS + messages.KINDS:
         for s in words(SIXTEEN, (3, 4)):
             yield "leaf %s %s" % (k, s.hex())
 
