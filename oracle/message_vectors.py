@@ -213,13 +213,14 @@ def vectors():
 
 def append():
     crate = os.path.join(HERE, "..", "crates", "smlreplay")
-    given, stored = (open(os.path.join(crate, f)).read() for f in ("stdin", "stdout"))
+    # as they stand: some lines hold a carriage return or a byte that is no text
+    given, stored = (open(os.path.join(crate, f), encoding="latin-1", newline="").read() for f in ("stdin", "stdout"))
     pairs = list(vectors())
     old = given.removesuffix("\n").split("\n")
     kept = old.index(pairs[0][0]) if pairs[0][0] in old else len(old)
     # the last line has no line end
-    open(os.path.join(crate, "stdin"), "w").write("\n".join(old[:kept] + [c for c, _ in pairs]))
-    open(os.path.join(crate, "stdout"), "w").write("".join(a + "\n" for a in stored.split("\n")[:kept] + [a for _, a in pairs]))
+    open(os.path.join(crate, "stdin"), "w", encoding="latin-1", newline="").write("\n".join(old[:kept] + [c for c, _ in pairs]))
+    open(os.path.join(crate, "stdout"), "w", encoding="latin-1", newline="").write("".join(a + "\n" for a in stored.split("\n")[:kept] + [a for _, a in pairs]))
     print(f"{len(pairs)} commands behind {kept}")
 
 
