@@ -44,7 +44,7 @@ cond-cond false t x y = refl
 
 final-is : (d : Decoder) (s : DecodeState) → finalized (viewAs s d []) ≡ cond (isFresh s) silent (cond (isDone s) silent (discarded (d .«raw_msg_len»)))
 unfolding finalized
-final-is d (LookingForMessageStart noise n) = cond-cond (eqb n 0) (eqb noise 0) silent (discarded (d .«raw_msg_len»))
+final-is d (LookingForMessageStart n noise) = cond-cond (eqb n 0) (eqb noise 0) silent (discarded (d .«raw_msg_len»))
 final-is d ParsingNormal = refl
 final-is d (ParsingEscChars n) = refl
 final-is d (ParsingEscPayload k) = refl
@@ -70,7 +70,7 @@ module _ (d : Decoder) where
 
 reset-is : (d : Decoder) (s : DecodeState) → resetCount (viewAs s d []) ≡ cond (isDone s) 0 (d .«raw_msg_len»)
 unfolding resetCount
-reset-is d (LookingForMessageStart noise n) = refl
+reset-is d (LookingForMessageStart n noise) = refl
 reset-is d ParsingNormal = refl
 reset-is d (ParsingEscChars n) = refl
 reset-is d (ParsingEscPayload k) = refl
@@ -88,7 +88,7 @@ module _ (d : Decoder) where
 -- ---- the payload
 
 stands-is : (d : Decoder) (m : List ℕ) (s : DecodeState) → isDone s ≡ stands (viewAs s d m)
-stands-is d m (LookingForMessageStart noise n) = refl
+stands-is d m (LookingForMessageStart n noise) = refl
 stands-is d m ParsingNormal = refl
 stands-is d m (ParsingEscChars n) = refl
 stands-is d m (ParsingEscPayload k) = refl

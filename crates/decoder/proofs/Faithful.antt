@@ -100,7 +100,7 @@ written-length m w n h = simp (length-append, length-take, length-drop) (omega a
 
 -- its fill is the number of its state's bytes
 fill-as : (d : Decoder) (m : List ℕ) (s : DecodeState) → d .state ≡ s → badState d ≡ false → length m ≡ d .capacity → d .fill ≡ length (contents (viewAs s d m))
-fill-as d m (LookingForMessageStart noise n) e g l = sane-search d g noise n e .0
+fill-as d m (LookingForMessageStart n noise) e g l = sane-search d g noise n e .0
 fill-as d m ParsingNormal e g l = sym (length-take-le (d .fill) m (omega (arith, sane d g .0)))
 fill-as d m (ParsingEscChars n) e g l = sym (length-take-le (d .fill) m (omega (arith, sane d g .0)))
 fill-as d m (ParsingEscPayload n) e g l = sym (length-take-le (d .fill) m (omega (arith, sane d g .0)))
@@ -111,7 +111,7 @@ fill-view d m g l = fill-as d m (d .state) refl g l
 
 holds-as : (d : Decoder) (m : List ℕ) (s : DecodeState) → d .fill ≤ length m → Holds (viewAs s d m) m
 unfolding Holds
-holds-as d m (LookingForMessageStart noise n) l = refl
+holds-as d m (LookingForMessageStart n noise) l = refl
 holds-as d m ParsingNormal l = rw (length-take-le (d .fill) m l)
 holds-as d m (ParsingEscChars n) l = rw (length-take-le (d .fill) m l)
 holds-as d m (ParsingEscPayload n) l = rw (length-take-le (d .fill) m l)

@@ -25,7 +25,7 @@ pub record Acts (d : Decoder) (m : List ℕ) (o : Op) (a : After) : Type 0 where
 -- finalize and reset look at no stored byte
 final-as : (d : Decoder) (m n : List ℕ) (s : DecodeState) → finalized (viewAs s d m) ≡ finalized (viewAs s d n)
 unfolding finalized
-final-as d m n (LookingForMessageStart noise k) = refl
+final-as d m n (LookingForMessageStart k noise) = refl
 final-as d m n ParsingNormal = refl
 final-as d m n (ParsingEscChars k) = refl
 final-as d m n (ParsingEscPayload k) = refl
@@ -33,7 +33,7 @@ final-as d m n Done = refl
 
 reset-as : (d : Decoder) (m n : List ℕ) (s : DecodeState) → resetCount (viewAs s d m) ≡ resetCount (viewAs s d n)
 unfolding resetCount
-reset-as d m n (LookingForMessageStart noise k) = refl
+reset-as d m n (LookingForMessageStart k noise) = refl
 reset-as d m n ParsingNormal = refl
 reset-as d m n (ParsingEscChars k) = refl
 reset-as d m n (ParsingEscPayload k) = refl

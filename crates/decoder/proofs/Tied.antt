@@ -191,7 +191,7 @@ tied-wait d m b n e l lent =
 tied-as : (d : Decoder) (m : List ℕ) (b : ℕ) (s : DecodeState) → d .state ≡ s → badState d ≡ false → length m ≡ d .capacity
     → stepOf s d m b ≡ coded (setup d) m (viewAs s d m) b
 unfolding stepOf step wrote
-tied-as d m b (LookingForMessageStart noise n) e g lent = refl
+tied-as d m b (LookingForMessageStart n noise) e g lent = refl
 tied-as d m b Done e g lent = ap (cut (code (setup d) (searching 0 0 0 b))) (sym (written-nil m (length (take (d .fill) m))))
 tied-as d m b ParsingNormal e g lent = tied-wait d m b 0 e (omega (arith, sane d g .0)) lent
 tied-as d m b (ParsingEscChars zero) e g lent = absurd (omega (arith, sane-wait d g 0 e .0))

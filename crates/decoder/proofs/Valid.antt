@@ -77,7 +77,7 @@ sane d e =
     (ltb-false _ _ (p .0), ltb-false _ _ (q .0), q .1)
 
 module _ (d : Decoder) (g : badState d ≡ false) where
-  pub sane-search : (noise n : ℕ) → d .state ≡ LookingForMessageStart noise n → (d .fill ≡ 0) × (n < 8)
+  pub sane-search : (noise n : ℕ) → d .state ≡ LookingForMessageStart n noise → (d .fill ≡ 0) × (n < 8)
   sane-search noise n s =
       let h : cond (eqb (d .fill) 0) (ltb 7 n) true ≡ false = rw s at (sane d g .2) in
       let p = if-false (eqb (d .fill) 0) (ltb 7 n) h in
@@ -111,7 +111,7 @@ right-buffer C n e =
 
 -- the state of a record that is not refused, with a buffer of the recorded length
 valid-as : (d : Decoder) (m : List ℕ) (s : DecodeState) → d .state ≡ s → badState d ≡ false → length m ≡ d .capacity → Valid (setup d) (viewAs s d m)
-valid-as d m (LookingForMessageStart noise n) e g l = omega (arith, sane-search d g noise n e .1)
+valid-as d m (LookingForMessageStart n noise) e g l = omega (arith, sane-search d g noise n e .1)
 valid-as d m ParsingNormal e g l =
     let n = length-take-le (d .fill) m (omega (arith, sane d g .0)) in
     rw n (omega arith, sane d g .0, sane d g .1, sane-normal d g e)

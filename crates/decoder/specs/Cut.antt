@@ -132,7 +132,7 @@ escapeStep d m k b =
 -- ---- a push that is not refused
 
 unfoldable pub stepOf : DecodeState → Decoder → List ℕ → ℕ → Cut
-stepOf (LookingForMessageStart noise n) d m b = cut (code (setup d) (searching n noise (d .«raw_msg_len») b)) m
+stepOf (LookingForMessageStart n noise) d m b = cut (code (setup d) (searching n noise (d .«raw_msg_len») b)) m
 stepOf ParsingNormal d m b = normalStep d m b
 stepOf (ParsingEscChars n) d m b = waitStep d m n b
 stepOf (ParsingEscPayload k) d m b = escapeStep d m k b
@@ -141,14 +141,14 @@ stepOf Done d m b = cut (code (setup d) (searching 0 0 0 b)) m
 -- ---- what finalize and reset ask
 
 abbrev pub isFresh : DecodeState → Bool
-isFresh (LookingForMessageStart noise n) = cond (eqb n 0) (eqb noise 0) false
+isFresh (LookingForMessageStart n noise) = cond (eqb n 0) (eqb noise 0) false
 isFresh ParsingNormal = false
 isFresh (ParsingEscChars n) = false
 isFresh (ParsingEscPayload k) = false
 isFresh Done = false
 
 abbrev pub isDone : DecodeState → Bool
-isDone (LookingForMessageStart noise n) = false
+isDone (LookingForMessageStart n noise) = false
 isDone ParsingNormal = false
 isDone (ParsingEscChars n) = false
 isDone (ParsingEscPayload k) = false

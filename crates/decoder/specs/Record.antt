@@ -91,7 +91,7 @@ abbrev pub memOf : Decoder → List ℕ → Mem
 memOf d m = record { stored = take (d .fill) m; reg = d .crc; idx = d .«crc_idx»; raw = d .«raw_msg_len» }
 
 abbrev pub viewAs : DecodeState → Decoder → List ℕ → State
-viewAs (LookingForMessageStart noise n) d m = search n noise (d .«raw_msg_len»)
+viewAs (LookingForMessageStart n noise) d m = search n noise (d .«raw_msg_len»)
 viewAs ParsingNormal d m = body 0 (memOf d m)
 viewAs (ParsingEscChars n) d m = body n (memOf d m)
 viewAs (ParsingEscPayload k) d m = escape k (memOf d m)
@@ -109,7 +109,7 @@ packed C fill raw reg idx s = record { capacity = C .capacity; fill = fill; «ra
 
 -- counts that a state doesn't use are 0, and its CRC register is ffff
 abbrev pub pack : Setup → State → Decoder
-pack C (search n noise raw) = packed C 0 raw start 0 (LookingForMessageStart noise n)
+pack C (search n noise raw) = packed C 0 raw start 0 (LookingForMessageStart n noise)
 pack C (body n m) = packed C (length (m .stored)) (m .raw) (m .reg) (m .idx) (waiting n)
 pack C (escape k m) = packed C (length (m .stored)) (m .raw) (m .reg) (m .idx) (ParsingEscPayload k)
 pack C (done bytes) = packed C (length bytes) 0 start 0 Done
@@ -133,7 +133,7 @@ written m at l = take at m ++ (l ++ drop (at + length l) m)
 
 -- by the state: searching with fill not 0 or n over 7; raw length under 8 inside a frame; waiting count outside 1 to 3; escape count over 3, or CRC index plus it over fill
 abbrev pub badIn : ℕ → ℕ → ℕ → DecodeState → Bool
-badIn fill idx raw (LookingForMessageStart noise n) = cond (eqb fill 0) (ltb 7 n) true
+badIn fill idx raw (LookingForMessageStart n noise) = cond (eqb fill 0) (ltb 7 n) true
 badIn fill idx raw ParsingNormal = ltb raw 8
 badIn fill idx raw (ParsingEscChars n) = cond (ltb raw 8) true (cond (eqb n 0) true (ltb 3 n))
 badIn fill idx raw (ParsingEscPayload k) = cond (ltb raw 8) true (cond (ltb 3 k) true (ltb fill (idx + k)))

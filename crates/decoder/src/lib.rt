@@ -10,8 +10,8 @@ ghost use Rattle.decoder.specs.Cut.{code, cut, grown, moved, inState, qu
 
 pub enum DecodeState {
     LookingForMessageStart {
-        num_discarded_bytes: u32,
         num_init_seq_bytes: u8,
+        num_discarded_bytes: u32,
     },
     ParsingNormal,
     ParsingEscChars(u8),

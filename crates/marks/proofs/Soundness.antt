@@ -462,7 +462,7 @@ got-back (badEscape w x y z) P h = cc
 got-back (badMessage w x y z) P h = cc
 
 first-bytes : (s : DecodeState) (d : Decoder) (m P : List ℕ) → viewAs s d m ≡ done P → take (d .fill) m ≡ P
-first-bytes (LookingForMessageStart noise n) d m P e = cc
+first-bytes (LookingForMessageStart n noise) d m P e = cc
 first-bytes ParsingNormal d m P e = cc
 first-bytes (ParsingEscChars n) d m P e = cc
 first-bytes (ParsingEscPayload n) d m P e = cc

@@ -65,7 +65,7 @@ Completeness {S} M Searching =
 
 -- ours: a record in a search with nothing matched, whatever else it holds, that with this memory is refused neither with 4 nor with 5
 pub record OurSearch (C : Setup) (d : Decoder) (m : List ℕ) (noise : ℕ) : Type 0 where
-  pub searches : d .state ≡ LookingForMessageStart noise 0
+  pub searches : d .state ≡ LookingForMessageStart 0 noise
   pub good : badState d ≡ false
   pub lent : wrongBuffer (d .capacity) (length m) ≡ false
   pub setup′ : setup d ≡ C

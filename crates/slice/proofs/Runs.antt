@@ -154,8 +154,8 @@ and-true false e = refl
 
 -- a byte of a search that does not end it
 search-byte : (d : Decoder) (noise q : ℕ) (m : List ℕ) (b : ℕ) (t : Bool) → d .fill ≡ 0 → d .«crc_idx» ≡ 0 → d .crc ≡ 0xffff → starts q b ≡ t → cond (eqb q 7) t false ≡ false
-    → told (stepOf (LookingForMessageStart noise q) d m b)
-    ≡ after nothing (record { capacity = d .capacity; fill = d .fill; «raw_msg_len» = stopped (suc (d .«raw_msg_len»)); crc = d .crc; «crc_idx» = d .«crc_idx»; state = LookingForMessageStart (cond t noise (stopped (noise + (q + 1)))) (cond t (q + 1) 0) }) m
+    → told (stepOf (LookingForMessageStart q noise) d m b)
+    ≡ after nothing (record { capacity = d .capacity; fill = d .fill; «raw_msg_len» = stopped (suc (d .«raw_msg_len»)); crc = d .crc; «crc_idx» = d .«crc_idx»; state = LookingForMessageStart (cond t (q + 1) 0) (cond t noise (stopped (noise + (q + 1)))) }) m
 unfolding stepOf searching
 search-byte d noise q m b true f x c e n = simp (add-one q, f, x, c, e, and-true (eqb q 7) n)
 search-byte d noise q m b false f x c e n = simp (add-one q, f, x, c, e)
@@ -176,20 +176,20 @@ matched-le q false = omega arith
 pub search-next : (d : Decoder) (noise n q q′ : ℕ) (s : List ℕ) (i k : ℕ) (t : Bool) → d .fill ≡ 0 → d .«crc_idx» ≡ 0 → d .crc ≡ 0xffff → d .capacity ≤ 1048576
     → i + k < length s → q < 8 → q ≤ n + k → starts q (getD s (i + k) 0) ≡ t → cond (eqb q 7) t false ≡ false → q′ ≡ cond t (q + 1) 0
     → (q′ ≤ n + (k + 1)) × (q′ < 8) × ((m : List ℕ) → length m ≡ d .capacity
-    → pushesFrom (i + (k + 1)) (moved d 0 (k + 1) (LookingForMessageStart (stopped (noise + (n + (k + 1) - q′))) q′)) m (drop (i + (k + 1)) s)
-    ≡ pushesFrom (i + k) (moved d 0 k (LookingForMessageStart (stopped (noise + (n + k - q))) q)) m (drop (i + k) s))
+    → pushesFrom (i + (k + 1)) (moved d 0 (k + 1) (LookingForMessageStart q′ (stopped (noise + (n + (k + 1) - q′))))) m (drop (i + (k + 1)) s)
+    ≡ pushesFrom (i + k) (moved d 0 k (LookingForMessageStart q (stopped (noise + (n + k - q))))) m (drop (i + k) s))
 search-next d noise n q q′ s i k t f x ff small hs h g e c r =
     let b : ℕ = getD s (i + k) 0 in
-    let now : Decoder = moved d 0 k (LookingForMessageStart (stopped (noise + (n + k - q))) q) in
+    let now : Decoder = moved d 0 k (LookingForMessageStart q (stopped (noise + (n + k - q)))) in
     let z : d .fill + 0 ≡ 0 = omega arith in
     let le : cond t (q + 1) 0 ≤ q + 1 = matched-le q t in
-    let bad : badIn (d .fill + 0) (d .«crc_idx») (stopped (d .«raw_msg_len» + k)) (LookingForMessageStart (stopped (noise + (n + k - q))) q) ≡ false = simp (z, le-ltb 7 q (omega arith)) in (
+    let bad : badIn (d .fill + 0) (d .«crc_idx») (stopped (d .«raw_msg_len» + k)) (LookingForMessageStart q (stopped (noise + (n + k - q)))) ≡ false = simp (z, le-ltb 7 q (omega arith)) in (
       omega (arith, r, le, g),
       rw r (matched-lt q t h c),
       λ m l.
-          ap (λ (z : ℕ). pushesFrom (i + (k + 1)) (moved d 0 (k + 1) (LookingForMessageStart (stopped (noise + (n + (k + 1) - z))) z)) m (drop (i + (k + 1)) s)) r
-          ∙ ap (λ (z : ℕ). pushesFrom (i + (k + 1)) (moved d 0 (k + 1) (LookingForMessageStart z (cond t (q + 1) 0))) m (drop (i + (k + 1)) s)) (sym (counted noise n k q t g))
-          ∙ more d 0 0 k (LookingForMessageStart (stopped (noise + (n + k - q))) q) _ m m s i hs
+          ap (λ (z : ℕ). pushesFrom (i + (k + 1)) (moved d 0 (k + 1) (LookingForMessageStart z (stopped (noise + (n + (k + 1) - z))))) m (drop (i + (k + 1)) s)) r
+          ∙ ap (λ (z : ℕ). pushesFrom (i + (k + 1)) (moved d 0 (k + 1) (LookingForMessageStart (cond t (q + 1) 0) z)) m (drop (i + (k + 1)) s)) (sym (counted noise n k q t g))
+          ∙ more d 0 0 k (LookingForMessageStart q (stopped (noise + (n + k - q)))) _ m m s i hs
           (sym (tied now m b (fit now m (omega arith) (omega arith) l small bad))
           ∙ search-byte now (stopped (noise + (n + k - q))) q m b t z x ff e c),
     )
@@ -205,10 +205,10 @@ pub no-match : (q : ℕ) → cond (eqb q 7) false false ≡ false
 no-match q = same-sides (eqb q 7)
 
 pub first-search : (d : Decoder) (noise n : ℕ) (m s : List ℕ) (i : ℕ) → d .«raw_msg_len» ≤ 4294967295 → noise ≤ 4294967295
-    → Goes (moved d 0 0 (LookingForMessageStart (stopped (noise + (n + 0 - n))) n)) (i + 0) m i (inState d (LookingForMessageStart noise n)) m s
+    → Goes (moved d 0 0 (LookingForMessageStart n (stopped (noise + (n + 0 - n))))) (i + 0) m i (inState d (LookingForMessageStart n noise)) m s
 first-search d noise n m s i h g =
     let e : stopped (noise + (n + 0 - n)) ≡ noise = omega arith in
-    rw e (first-goes d (LookingForMessageStart noise n) m s i h)
+    rw e (first-goes d (LookingForMessageStart n noise) m s i h)
 
 pub not-false : (x : Bool) → not x ≡ false → x ≡ true
 not-false true e = refl

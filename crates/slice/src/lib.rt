@@ -141,7 +141,7 @@ fn put_plain(d: Decoder, buf: &mut [u8], chunk: &[u8], from: usize) -> Stretch
 // The bytes of a search from `from` on, up to the last of a start sequence. Matched bytes and noise are all the bytes there are.
 fn search_more(d: Decoder, noise: u32, n: u8, chunk: &[u8], from: usize) -> Stretch
     requires { ⌜ (d .«crc_idx» ≡ 0) × (d .fill ≡ 0) × (d .capacity ≤ 1048576) × (n < 8) × (from ≤ length (now chunk)) × (d .crc ≡ 0xffff) ⌝ }
-    ensures { λ r. ⌜ (r .at ≤ length (now (chunk .entry))) × (from ≤ r .at) × ((m : List ℕ) → length m ≡ d .capacity → Goes (r .decoder) (r .at) m from (inState d (LookingForMessageStart noise n)) m (now (chunk .entry))) ⌝ }
+    ensures { λ r. ⌜ (r .at ≤ length (now (chunk .entry))) × (from ≤ r .at) × ((m : List ℕ) → length m ≡ d .capacity → Goes (r .decoder) (r .at) m from (inState d (LookingForMessageStart n noise)) m (now (chunk .entry))) ⌝ }
 {
     let left = chunk.len() - from;
     let mut k = 0;

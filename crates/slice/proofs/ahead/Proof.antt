@@ -36,7 +36,7 @@ search-more-requires c κs =
     let wrong = sym (c .before .before .before .before .before .before .wrong-buffer .ensures) ∙ c .before .before .before .before .before .if2 .left in
     let v = c .before .before .before .s .given in
     let g = sane (a .d) bad in
-    let z = sane-search (a .d) bad (v .0 .0) (v .0 .1 .0) (v .1) in
+    let z = sane-search (a .d) bad (v .0 .1 .0) (v .0 .0) (v .1) in
     let i : a .d .«crc_idx» ≡ 0 = omega (arith, g .1, z .0) in
     (i, z .0, runs.right-capacity _ _ wrong, z .1, inside, c .if3 .taken)
 

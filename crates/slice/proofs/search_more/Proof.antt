@@ -17,7 +17,7 @@ use Rattle.slice.proofs.search_more.Statement.{statement}
 use Rattle.slice.proofs.search_more.Tie as tie
 
 abbrev Inv-loop : tie.InvT-loop
-Inv-loop d noise n chunk from left k₀ q₀ k q = (k ≤ left) × (left ≡ length chunk - from) × (from ≤ length chunk) × (q ≤ n + k) × (q < 8) × ((m : List ℕ) → length m ≡ d .capacity → Goes (moved d 0 k (LookingForMessageStart (stopped (noise + (n + k - q))) q)) (from + k) m from (inState d (LookingForMessageStart noise n)) m chunk)
+Inv-loop d noise n chunk from left k₀ q₀ k q = (k ≤ left) × (left ≡ length chunk - from) × (from ≤ length chunk) × (q ≤ n + k) × (q < 8) × ((m : List ℕ) → length m ≡ d .capacity → Goes (moved d 0 k (LookingForMessageStart q (stopped (noise + (n + k - q))))) (from + k) m from (inState d (LookingForMessageStart n noise)) m chunk)
 
 abbrev μ-loop : tie.MeasureT-loop
 μ-loop d noise n chunk from left k₀ q₀ k q = left - k
@@ -84,7 +84,7 @@ returns : tie.Need-returns Inv-loop μ-loop
 returns c =
     let l = c .before .before .before .loop in
     let a = c .before .before .before .before .before .args in
-    let e = c .moved-on .ensures ∙ ap (λ (x : ℕ). moved (a .d) 0 (l .k) (LookingForMessageStart x (l .q))) (c .before .more .ensures) in
+    let e = c .moved-on .ensures ∙ ap (λ (x : ℕ). moved (a .d) 0 (l .k) (LookingForMessageStart (l .q) x)) (c .before .more .ensures) in
     (search needs, search needs, λ m h. ap (λ (x : Decoder). pushesFrom (a .from + l .k) x m (drop (a .from + l .k) (now (a .chunk)))) e ∙ l .inv .5 m h)
 
 pub search-more-spec : {M : Type 1} → statement M
