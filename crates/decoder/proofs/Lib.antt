@@ -5,6 +5,7 @@ pub mod Faithful
 pub mod Runs
 pub mod Counts
 pub mod Payload
+pub mod Plain
 pub mod Bench
 pub mod Answers
 pub mod Tied

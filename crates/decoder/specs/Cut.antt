@@ -154,5 +154,24 @@ isDone (ParsingEscChars n) = false
 isDone (ParsingEscPayload k) = false
 isDone Done = true
 
+-- ---- the short way of a push
+
+abbrev pub isNormal : DecodeState → Bool
+isNormal (LookingForMessageStart n noise) = false
+isNormal ParsingNormal = true
+isNormal (ParsingEscChars n) = false
+isNormal (ParsingEscPayload k) = false
+isNormal Done = false
+
+-- a byte of a frame that is no 1b and has room, with record and buffer as they should be
+unfoldable pub plain : Decoder → ℕ → ℕ → Bool
+plain d lent b =
+    cond (eqb b 0x1b) false
+    (cond (leb lent (d .fill)) false
+    (cond (ltb (d .fill) (d .«crc_idx»)) false
+    (cond (ltb (d .«raw_msg_len») 8) false (cond (eqb lent (d .capacity)) (cond (ltb 1048576 lent) false (isNormal (d .state))) false))))
+
+-- ---- a payload in the buffer
+
 unfoldable pub payloadIn : Decoder → ℕ → Bool
 payloadIn d lent = cond (badState d) false (cond (wrongBuffer (d .capacity) lent) false (isDone (d .state)))

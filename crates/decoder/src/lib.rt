@@ -6,7 +6,7 @@ ghost use lib.ListN.{length, replicate};
 ghost use lib.Seq.{sets};
 ghost use Rattle.decoder.specs.Push.{stopped, starts, searching, begun, search, same, early};
 ghost use Rattle.decoder.specs.Record.{setup, pack, leaves, leavesFinal, leavesReset, answerAsked, badState, wrongBuffer, newRecord, pushRecord, finalizeRecord, resetRecord, payloadRecord, askRecord};
-ghost use Rattle.decoder.specs.Cut.{code, cut, grown, moved, inState, quiet, freshWith, normalStep, escapeAt, waitStep, sound, verdict, endStep, otherStep, judgeStep, escapeStep, isFresh, isDone, payloadIn};
+ghost use Rattle.decoder.specs.Cut.{code, cut, grown, moved, inState, quiet, freshWith, normalStep, escapeAt, waitStep, sound, verdict, endStep, otherStep, judgeStep, escapeStep, isFresh, isDone, isNormal, plain, payloadIn};
 
 pub enum DecodeState {
     LookingForMessageStart {
@@ -509,6 +509,77 @@ pub fn wrong_buffer(recorded: usize, lent: usize) -> bool
     }
 }
 
+// The state inside a frame with no 1b waiting.
+fn is_normal(s: DecodeState) -> bool
+    ensures { λ r. ⌜ r ≡ isNormal s ⌝ }
+{
+    match s {
+        DecodeState::LookingForMessageStart {
+            num_discarded_bytes: _,
+            num_init_seq_bytes: _,
+        } => false,
+        DecodeState::ParsingNormal => true,
+        DecodeState::ParsingEscChars(_) => false,
+        DecodeState::ParsingEscPayload(_) => false,
+        DecodeState::Done => false,
+    }
+}
+
+// A byte of a frame that is no 1b and has room, with record and buffer as they should be: what most bytes are.
+fn is_plain(d: Decoder, lent: usize, b: u8) -> bool
+    ensures { λ r. ⌜ r ≡ plain d lent b ⌝ }
+{
+    if b == Decoder::ESC {
+        return false;
+    }
+    if lent <= d.fill {
+        return false;
+    }
+    if d.fill < d.crc_idx {
+        return false;
+    }
+    if d.raw_msg_len < Decoder::START_LEN {
+        return false;
+    }
+    if lent != d.capacity {
+        return false;
+    }
+    if 1048576 < lent {
+        return false;
+    }
+    let s = d.state;
+    is_normal(s)
+}
+
+// Pushes a byte: the checks of record and buffer, then one step. A push of a slice calls this at the bytes that are not plain.
+pub fn push_any(d: Decoder, buf: &mut [u8], b: u8) -> Pushed
+    ensures { λ r. ⌜ leaves r (now (buf .exit)) ≡ pushRecord d (now (buf .entry)) b ⌝ }
+{
+    if bad_state(d) {
+        return Pushed {
+            decoder: d,
+            event: Event::BadState,
+        };
+    }
+    if wrong_buffer(d.capacity, buf.len()) {
+        return Pushed {
+            decoder: d,
+            event: Event::WrongBuffer,
+        };
+    }
+    let s = d.state;
+    match s {
+        DecodeState::LookingForMessageStart {
+            num_discarded_bytes,
+            num_init_seq_bytes,
+        } => { look(d, num_discarded_bytes, num_init_seq_bytes, b) }
+        DecodeState::ParsingNormal => normal(d, buf, b),
+        DecodeState::ParsingEscChars(n) => waiting(d, buf, n, b),
+        DecodeState::ParsingEscPayload(n) => escape(d, buf, n, b),
+        DecodeState::Done => look(Decoder::new(d.capacity), 0, 0, b),
+    }
+}
+
 // A search that has seen nothing.
 fn is_fresh(s: DecodeState) -> bool
     ensures { λ r. ⌜ r ≡ isFresh s ⌝ }
@@ -547,32 +618,23 @@ fn is_done(s: DecodeState) -> bool
 }
 
 impl Decoder {
-    // Pushes a byte: the checks of record and buffer, then one step.
+    // Pushes a byte: a plain one by the short way, any other by its state. The record is made anew on both ways, so that it can stay in registers.
     pub fn push_byte(self, buf: &mut [u8], b: u8) -> Pushed
         ensures { λ r. ⌜ leaves r (now (buf .exit)) ≡ pushRecord self (now (buf .entry)) b ⌝ }
     {
-        if bad_state(self) {
-            return Pushed {
-                decoder: self,
-                event: Event::BadState,
-            };
-        }
-        if wrong_buffer(self.capacity, buf.len()) {
-            return Pushed {
-                decoder: self,
-                event: Event::WrongBuffer,
-            };
-        }
+        let at = self.fill;
         let s = self.state;
-        match s {
-            DecodeState::LookingForMessageStart {
-                num_discarded_bytes,
-                num_init_seq_bytes,
-            } => { look(self, num_discarded_bytes, num_init_seq_bytes, b) }
-            DecodeState::ParsingNormal => normal(self, buf, b),
-            DecodeState::ParsingEscChars(n) => waiting(self, buf, n, b),
-            DecodeState::ParsingEscPayload(n) => escape(self, buf, n, b),
-            DecodeState::Done => look(Decoder::new(self.capacity), 0, 0, b),
+        if is_plain(self, buf.len(), b) {
+            buf[at] = b;
+            return quietly(stored_on(self, 1, DecodeState::ParsingNormal));
+        }
+        let p = push_any(in_state(self, s), buf, b);
+        let d = p.decoder;
+        let e = p.event;
+        let t = d.state;
+        Pushed {
+            decoder: in_state(d, t),
+            event: e,
         }
     }
 

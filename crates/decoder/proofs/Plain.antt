@@ -1,0 +1,85 @@
+-- The short way of a push: what its test says of record, buffer and byte, and that the step is then a store.
+use Prim.Native.Nat.{ℕ, _+_, _<_, _^_}
+use mathlib.Core.Path.{_≡_, refl}
+use mathlib.Core.List.{List, [], _∷_}
+use mathlib.Core.Bool.{Bool, true, false, cond}
+use native.Mathlib.Omega.{arith}
+use borrow.Author.Tests.{leb-false, ltb-false, eqb-true, le-ltb}
+use lib.ListN.{length}
+use lib.Seq.{sets}
+use lib.Dec.{ltb, leb, eqb}
+use Rattle.decoder.specs.Record.{badState, wrongBuffer, pushRecord}
+use Rattle.decoder.specs.Cut.{told, cut, quiet, grown, isNormal, plain, normalStep, stepOf}
+use Rattle.decoder.specs.declared.Decoder.{Decoder}
+use Rattle.decoder.specs.declared.DecodeState.{DecodeState}
+use Rattle.decoder.specs.declared.DecodeState.the-variants.{LookingForMessageStart, ParsingNormal, ParsingEscChars, ParsingEscPayload, Done}
+use Rattle.decoder.proofs.Tests.{lt-room}
+use Rattle.decoder.proofs.Tied.{push-step}
+
+pub record Plain (d : Decoder) (lent b : ℕ) : Type 0 where
+  pub byte : eqb b 0x1b ≡ false
+  pub room : d .fill < lent
+  pub index : ltb (d .fill) (d .«crc_idx») ≡ false
+  pub raw : ltb (d .«raw_msg_len») 8 ≡ false
+  pub lent-is : eqb lent (d .capacity) ≡ true
+  pub small : ltb 1048576 lent ≡ false
+  pub state : d .state ≡ ParsingNormal
+
+not-left : (t x : Bool) → cond t false x ≡ true → (t ≡ false) × (x ≡ true)
+not-left true x e = (cc, cc)
+not-left false x e = (refl, e)
+
+not-right : (t x : Bool) → cond t x false ≡ true → (t ≡ true) × (x ≡ true)
+not-right true x e = (refl, e)
+not-right false x e = (cc, cc)
+
+normal-is : (s : DecodeState) → isNormal s ≡ true → s ≡ ParsingNormal
+normal-is (LookingForMessageStart n noise) e = cc
+normal-is ParsingNormal e = refl
+normal-is (ParsingEscChars n) e = cc
+normal-is (ParsingEscPayload k) e = cc
+normal-is Done e = cc
+
+pub plain-says : (d : Decoder) (lent b : ℕ) → plain d lent b ≡ true → Plain d lent b
+unfolding plain
+plain-says d lent b e =
+    let p₁ = not-left (eqb b 0x1b) _ e in
+    let p₂ = not-left (leb lent (d .fill)) _ (p₁ .1) in
+    let p₃ = not-left (ltb (d .fill) (d .«crc_idx»)) _ (p₂ .1) in
+    let p₄ = not-left (ltb (d .«raw_msg_len») 8) _ (p₃ .1) in
+    let p₅ = not-right (eqb lent (d .capacity)) _ (p₄ .1) in
+    let p₆ = not-left (ltb 1048576 lent) _ (p₅ .1) in
+    record {
+      byte = p₁ .0;
+      room = leb-false lent (d .fill) (p₂ .0);
+      index = p₃ .0;
+      raw = p₄ .0;
+      lent-is = p₅ .0;
+      small = p₆ .0;
+      state = normal-is (d .state) (p₆ .1);
+    }
+
+plain-good : (d : Decoder) (lent b : ℕ) → Plain d lent b → badState d ≡ false
+unfolding badState
+plain-good d lent b p =
+    let c : lent ≡ d .capacity = eqb-true _ _ (p .lent-is) in
+    let f : ltb (d .capacity) (d .fill) ≡ false = le-ltb (d .capacity) (d .fill) (omega (arith, p .room, c)) in
+    rw (f, p .index, p .state, p .raw)
+
+plain-right : (d : Decoder) (lent b : ℕ) → Plain d lent b → wrongBuffer (d .capacity) lent ≡ false
+unfolding wrongBuffer
+plain-right d lent b p = rw (p .lent-is, p .small)
+
+-- the fill has room to grow
+pub plain-fits : (d : Decoder) (lent b : ℕ) → plain d lent b ≡ true → d .fill + 1 < 2 ^ 64
+plain-fits d lent b e =
+    let p = plain-says d lent b e in
+    omega (arith, p .room, ltb-false 1048576 lent (p .small))
+
+-- the law of the short way
+pub push-plain : (d : Decoder) (m : List ℕ) (b : ℕ) → plain d (length m) b ≡ true
+    → told (cut (quiet (grown d 1 ParsingNormal)) (sets m (d .fill) (b ∷ []))) ≡ pushRecord d m b
+unfolding stepOf normalStep
+push-plain d m b e =
+    let p = plain-says d (length m) b e in
+    push-step d m b ParsingNormal (cut (quiet (grown d 1 ParsingNormal)) (sets m (d .fill) (b ∷ []))) (plain-good d _ b p) (plain-right d _ b p) (p .state) (rw (p .byte, lt-room _ _ (p .room)))
