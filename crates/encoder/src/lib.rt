@@ -198,40 +198,38 @@ fn bad_count(state: EncoderState) -> bool
 fn step(state: EncoderState, place: usize, crc: u16, payload: &[u8]) -> Given
     ensures { λ r. ⌜ stepOf r ≡ stepFrom state place crc (now (payload .entry)) ⌝ }
 {
-    match state {
+    let run = match state {
         EncoderState::Init(n) => {
             if n < 8 {
                 let start = frame::START;
                 let next = n + 1;
-                give_byte(start[n as usize], EncoderState::Init(next), place, crc)
-            } else {
-                look(0, place, crc, payload)
+                return give_byte(start[n as usize], EncoderState::Init(next), place, crc);
             }
+            0
         }
         EncoderState::LookingForEscape(run) => {
             if run < 4 {
-                look(run, place, crc, payload)
+                run
             } else {
                 let counted = crc_x25::update(crc, &frame::ESCAPE);
-                give_byte(0x1b, EncoderState::HandlingEscape(1), place, counted)
+                return give_byte(0x1b, EncoderState::HandlingEscape(1), place, counted);
             }
         }
         EncoderState::HandlingEscape(n) => {
             if n < 4 {
                 let next = n + 1;
-                give_byte(0x1b, EncoderState::HandlingEscape(next), place, crc)
-            } else {
-                look(0, place, crc, payload)
+                return give_byte(0x1b, EncoderState::HandlingEscape(next), place, crc);
             }
+            0
         }
         EncoderState::End(n) => {
             if last_end(n) {
-                answered(Item::Finished, Encoder { state, place, crc })
-            } else {
-                give_end(n, place, crc)
+                return answered(Item::Finished, Encoder { state, place, crc });
             }
+            return give_end(n, place, crc);
         }
-    }
+    };
+    look(run, place, crc, payload)
 }
 
 impl Encoder {
