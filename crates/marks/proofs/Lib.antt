@@ -6,6 +6,7 @@ pub mod Soundness
 pub mod Completeness
 pub mod Bench
 pub mod Encoders
+pub mod Events
 pub mod Decided
 pub mod Fakes
 pub mod Marks

@@ -1,4 +1,4 @@
--- What a reader must believe: the fakes of document 01, each a small decoder or encoder, and which claim or row of the bench sheet is false of it.
+-- What a reader must believe: the fakes of document 01, each a small decoder, encoder or reader of messages, and which claim or row of the bench sheet is false of it.
 use mathlib.Core.Bool.{Bool, true, false, cond}
 use mathlib.Core.List.{List, [], _∷_}
 use Prim.Native.Nat.{ℕ, suc}
@@ -8,10 +8,12 @@ use Rattle.encoder.specs.Encoder.{finished}
 use Rattle.decoder.specs.Record.{Answer, nothing, payload, count, refused}
 use Rattle.decoder.specs.Run.{Op, push, finalize, reset}
 use Rattle.decoder.specs.declared.Decoder.{Decoder}
+use Rattle.streaming.specs.Next.{Said, event, starts, entry, ends, noEvent, failed}
 use Rattle.marks.specs.Decoders.{Gave, Machine, ours}
 use Rattle.marks.specs.Mark2.{Soundness, Completeness, OurSearch}
 use Rattle.marks.specs.Mark3.{Encode, Mark3}
 use Rattle.marks.specs.Encoders.{Caller, SameBytes}
+use Rattle.marks.specs.Events.{Reader, Numbers, ourReader, ReaderGives, ListsEntries}
 use Rattle.marks.specs.Bench.{Holds, b1, b3, b6}
 
 -- ours, but for what it answers
@@ -95,6 +97,30 @@ refusesToEncode P output = leaves (E.refused 1) output
 abbrev pub finishedAtOnce : Caller Bool
 finishedAtOnce = record { new = true; next = λ e P. record { answer = finished; encoder = e } }
 
+-- ours, but for what it says
+abbrev pub resaid : (Said → Said) → Reader (List ℕ) Numbers
+resaid f =
+    record {
+      bytes = ourReader .bytes;
+      new = ourReader .new;
+      next = λ s r. record { said = f (ourReader .next s r .said); reader = ourReader .next s r .reader };
+    }
+
+-- a reader without events
+abbrev pub silent : Reader (List ℕ) Numbers
+silent = resaid (λ x. noEvent)
+
+-- a list start and no entries
+abbrev pub entryless : Said → Said
+entryless (event (starts m)) = event (starts m)
+entryless (event (entry e)) = noEvent
+entryless (event (ends e)) = event (ends e)
+entryless noEvent = noEvent
+entryless (failed f) = failed f
+
+abbrev pub noEntries : Reader (List ℕ) Numbers
+noEntries = resaid entryless
+
 -- each of them falls
 pub record Fall : Type 0 where
   pub refuses-b3 : Holds refuses encodeTo b3 → ⊥
@@ -110,3 +136,6 @@ pub record Fall : Type 0 where
   pub once-mark3 : Mark3 once encodeTo → ⊥
   pub invents-b6 : Holds invents encodeTo b6 → ⊥
   pub invents-mark3 : Mark3 invents encodeTo → ⊥
+  pub silent-events : ReaderGives silent → ⊥
+  pub no-entries-events : ReaderGives noEntries → ⊥
+  pub no-entries-lists : ListsEntries noEntries → ⊥
