@@ -1,26 +1,24 @@
 -- Repeated calls give the events of the tables, and so a list start is followed by its entries and end, or by a refusal.
 use mathlib.Core.Path.{_≡_, refl, sym, ap, _∙_}
 use mathlib.Core.List.{List, [], _∷_}
-use mathlib.Core.Bool.{Bool, true, false, cond, false≢true}
+use mathlib.Core.Bool.{Bool, true, false, false≢true}
 use Prim.Native.Nat.{ℕ, zero, suc}
 use lib.ListN.{length}
 use lib.Dec.{ltb, leb}
 use denote.Ref.{RefT, now}
 use Rattle.frame.proofs.Cases.{by-test}
-use Rattle.tlf.specs.Read.{Read, got, refused, Refusal, eof}
+use Rattle.tlf.specs.Read.{Read, got, refused, eof}
 use Rattle.tlf.specs.declared.Span.{Span}
-use Rattle.common.specs.Fields.{ListEntry, entryAt}
-use Rattle.message.specs.Messages.{MessageStart, ListStart, ListEnd, Body, opened, closed, listed, startAt, listEndAt}
+use Rattle.common.specs.Fields.{entryAt}
+use Rattle.message.specs.Messages.{MessageStart, ListStart, Body, opened, closed, listed, startAt, listEndAt}
 use Rattle.trailer.specs.Trailer.{trailerAt}
-use Rattle.streaming.specs.Next.{Event, starts, entry, ends, Said, event, noEvent, failed, inputTooLong, nextAt}
-use Rattle.parser.specs.Reader.{readerOf, nextOf}
-use Rattle.parser.specs.declared.Parser.{Parser}
-use Rattle.events.specs.Events.{Answers, nth, answer, says, quiet, atStart, inside, entriesFrom, contentFrom, messagesFrom, eventsOf}
+use Rattle.streaming.specs.Next.{Event, starts, entry, ends, Said, event, noEvent, failed, inputTooLong}
+use Rattle.events.specs.Events.{Answers, nth, answer, says, atStart, inside, entriesFrom, contentFrom, messagesFrom, eventsOf}
 use Rattle.events.specs.Calls.{call}
 use Rattle.events.proofs.Calls.{calls-are-events}
 use Rattle.events.proofs.Lists.{Listing, stops, lists, ended, list-content}
 use Rattle.marks.specs.Events as E
-use Rattle.marks.specs.Events.{Reader, Numbers, ourReader, ourParser, saysAt, hears, ReaderGives, Follows, refuses, closes, ListsEntries}
+use Rattle.marks.specs.Events.{Reader, ourReader, ourParser, saysAt, ReaderGives, Follows, refuses, closes, ListsEntries}
 
 -- ---- our two readers are the calls of crate events
 

@@ -7,6 +7,8 @@ pub mod Completeness
 pub mod Bench
 pub mod Encoders
 pub mod Events
+pub mod Undone
+pub mod MessageViews
 pub mod Decided
 pub mod Fakes
 pub mod Marks
