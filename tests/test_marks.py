@@ -1,15 +1,16 @@
 """The marks, run: random histories of a decoder, then capacity + 5 zero bytes, then frames, through the built program smlreplay; what it answers is judged here by document 01's words, without the decoder's rules.
 
 Mark 1: a command is answered alike whatever the program did before it. Mark 2: a payload comes only at the last byte of a sound frame for it. Mark 3: behind the zero bytes one DiscardedBytes at the first frame's eighth
-byte, with the count of the bytes before that frame, each payload at its own last byte, and nothing else."""
-import os, random, subprocess, sys
+byte, with the count of the bytes before that frame, each payload at its own last byte, and nothing else. Events, on random messages, whole and bent: a list start with n is followed by n entries and the end, or by a refusal."""
+import os, random, re, subprocess, sys
 
 os.chdir(os.path.join(os.path.dirname(os.path.abspath(__file__)), ".."))
 sys.path.insert(0, "oracle")
 sys.dont_write_bytecode = True
+from generate import commands
 from sml import ESCAPE, START, crc, escaped, frame, hexed, run_smlreplay
 
-COUNT = 800
+COUNT, MESSAGES = 800, 1000
 CAPACITIES = list(range(18)) + [20, 23, 24, 31, 32, 40, 63, 64, 100, 128, 255, 256, 300, 512, 1000, 1024, 2048, 4095, 4096]
 SPECIAL = [0x1B, 0x1B, 0x1B, 0x1A, 0x01, 0x00]
 
@@ -131,11 +132,24 @@ def history(seed):
     return command(capacity, ops + [frame(p) for p in payloads]), ops, payloads
 
 
-def answers(commands):
-    run = subprocess.run(run_smlreplay(), input="".join(c + "\n" for c in commands).encode(), capture_output=True)
+def lists_whole(line):
+    """Is each list start of an answer to `events` followed by its entries and end, or a refusal?"""
+    said = line.split(" | ")
+    for k, s in enumerate(said):
+        if s.startswith("list "):
+            n, behind = int(re.search(r" n=(\d+)$", s).group(1)), said[k + 1:]
+            entries = next((j for j, e in enumerate(behind) if not e.startswith("entry ")), len(behind))
+            last = behind[entries] if entries < len(behind) else ""
+            if entries > n or not (last.startswith("err ") or entries == n and last.startswith("end ")):
+                return False
+    return True
+
+
+def answers(given):
+    run = subprocess.run(run_smlreplay(), input="".join(c + "\n" for c in given).encode(), capture_output=True)
     lines = run.stdout.decode().split("\n")
-    if run.returncode != 0 or len(lines) != len(commands) + 1:
-        sys.exit(f"test_marks: smlreplay ended with status {run.returncode} and {len(lines) - 1} answers to {len(commands)} commands")
+    if run.returncode != 0 or len(lines) != len(given) + 1:
+        sys.exit(f"test_marks: smlreplay ended with status {run.returncode} and {len(lines) - 1} answers to {len(given)} commands")
     return lines[:-1]
 
 
@@ -143,27 +157,32 @@ def main():
     if not os.path.isfile("target/bin/smlreplay"):
         sys.exit("test_marks: target/bin/smlreplay is not built")
     tried = [history(seed) for seed in range(COUNT)]
+    pushes = [c for c, _, _ in tried]
     encodes = [("encode " + hexed(p), frame(p).hex()) for _, _, payloads in tried for p in payloads]
-    commands = [c for c, _, _ in tried]
-    lines = answers(commands + commands[::-1] + [c for c, _ in encodes])
-    bad, payloads_heard = [], 0
+    messages = [c for c in commands(11, MESSAGES, "messages") if re.fullmatch("events [0-9a-f]+", c)]
+    lines = answers(pushes + pushes[::-1] + [c for c, _ in encodes] + messages)
+    bad, payloads_heard, lists = [], 0, 0
     for seed, (c, ops, payloads) in enumerate(tried):
         said = heard(lines[seed])
         payloads_heard += sum(a.startswith("payload") for a in said.values())
         if lines[2 * COUNT - 1 - seed] != lines[seed]:
-            bad.append((seed, "mark 1", "another answer behind other commands"))
+            bad.append(("mark 1, another answer behind other commands", c, lines[seed]))
         every = ops + [frame(p) for p in payloads]
         if unsound(every, said):
-            bad.append((seed, "mark 2", f"the payload at operation {unsound(every, said)} ends no sound frame"))
+            bad.append((f"mark 2, the payload at operation {unsound(every, said)} ends no sound frame", c, lines[seed]))
         last = len(single(ops))
         if payloads and {n: a for n, a in said.items() if n > last} != wanted(ops, said, payloads):
-            bad.append((seed, "mark 3", "behind the zero bytes not what is claimed"))
+            bad.append(("mark 3, behind the zero bytes not what is claimed", c, lines[seed]))
     for (c, f), line in zip(encodes, lines[2 * COUNT:]):
         if line != f:
-            bad.append((c, "encode", line))
-    for seed, mark, what in bad[:5]:
-        print(f"test_marks: {mark}, history {seed}: {what}: " + (tried[seed][0][:300] + " answers " + lines[seed][:300] if isinstance(seed, int) else ""))
-    print(f"test_marks: {COUNT} histories, {payloads_heard} payloads, {len(encodes)} of them behind the zero bytes, {len(bad)} faults")
+            bad.append(("encode", c, line))
+    for c, line in zip(messages, lines[2 * COUNT + len(encodes):]):
+        lists += sum(s.startswith("list ") for s in line.split(" | "))
+        if not lists_whole(line):
+            bad.append(("a list without its entries", c, line))
+    for what, c, line in bad[:5]:
+        print(f"test_marks: {what}: {c[:300]} answers {line[:300]}")
+    print(f"test_marks: {COUNT} histories, {payloads_heard} payloads, {len(encodes)} of them behind the zero bytes; {len(messages)} message inputs, {lists} list starts; {len(bad)} faults")
     return 1 if bad else 0
 
 

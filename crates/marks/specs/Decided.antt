@@ -98,7 +98,7 @@ pub record Beside (R D : Type 0) : Type 0 where
 abbrev pub Injective : {R A : Type 0} → (R → A) → Type 0
 Injective {R} view = (r r′ : R) → view r ≡ view r′ → r ≡ r′
 
--- every view that a contract cites
+-- every view that a contract cites; where memory or a record is lent to be changed, the view of the answer together with it
 pub record Views : Type 0 where
   pub byte : Injective byteRead
   pub span : Injective spanRead
@@ -144,7 +144,7 @@ pub record Views : Type 0 where
   pub event : Injective after
   pub event-in-place : Injective (λ (r : Beside Answer Parser). P.leaves (r .answer) (r .lent))
 
--- every public function, in the order of the crates; a part that is handed back is told by its content
+-- Every public function, crate by crate: over its parameters, what its `ensures` allows. A slice or record that is lent stands for what it holds at the call, and a part that is handed back for its content
 pub record Decided : Type 0 where
   -- crc_x25
   pub digest : One (λ (r : ℕ). r ≡ start)

@@ -12,7 +12,7 @@ use Rattle.parser.specs.Reader.{readerOf, nextOf}
 use Rattle.parser.specs.declared.Parser.{Parser}
 use Rattle.events.specs.Events.{answer, eventsOf}
 
--- what a call gave: what it says, an event, no event or a refusal; and the reader for the next call
+-- what a call gave: what it says (an event, no event or a refusal), and the reader for the next call
 pub record Told (S : Type 0) : Type 0 where
   pub said : Said
   pub reader : S
@@ -31,10 +31,11 @@ pub record Numbers : Type 0 where
   pub start : ℕ
   pub pending : ℕ
 
+-- what the definition of a call leaves of them, as such a call
 abbrev pub told : After → Told Numbers
 told a = record { said = a .said; reader = record { place = a .place; start = a .start; pending = a .pending } }
 
--- by the definition that the contracts of parse_next and next_from cite: the first call is from 0, 0, 0, each later one from the numbers that the one before gave
+-- by the definition that the contracts of parse_next and next_from cite: the first call has 0, 0, 0, each later one the numbers that the one before gave
 abbrev pub ourReader : Reader (List ℕ) Numbers
 ourReader =
     record {
@@ -43,7 +44,7 @@ ourReader =
       next = λ s r. told (nextAt s (r .place) (r .start) (r .pending));
     }
 
--- by the definitions that the contracts of Parser::new and Parser::next cite: the reader holds its input, lent as a reference, and nothing more is given to a call
+-- by the definitions that the contracts of Parser::new and Parser::next cite: the reader holds its input, a reference whose content is `now` of it, and a call gets nothing else
 abbrev pub ourParser : Reader (RefT (List ℕ)) Parser
 ourParser = record { bytes = now; new = readerOf; next = λ i p. record { said = nextOf p .said; reader = nextOf p .reader } }
 
@@ -58,17 +59,17 @@ saysAt R i r (suc k) = saysAt R i (R .next i r .reader) k
 abbrev pub hears : {I S : Type 0} → Reader I S → I → ℕ → Said
 hears R i k = saysAt R i (R .new i) k
 
--- for every input, call k says what the tables of the message rules say, for every k. `eventsOf` is made of these tables and knows of no reader
+-- For every input and every k, call k says what the message rules say. `eventsOf` (crate events) is made of their tables alone and knows of no reader: the answers of the first calls, and that of every later one
 abbrev pub ReaderGives : {I S : Type 0} → Reader I S → Type 0
 ReaderGives {I} R = (i : I) (k : ℕ) → hears R i k ≡ answer (eventsOf (R .bytes i)) k
 
--- from call k on, what is said: n entries and the end, or a refusal before that
+-- the calls from k on say n entries and then the end, or a refusal before that
 pub data Follows (says : ℕ → Said) : ℕ → ℕ → Type 0 where
   refuses : {n k : ℕ} (f : Refusal) → says k ≡ failed f → Follows says n k
   lists : {n k : ℕ} (e : ListEntry Span) → says k ≡ event (entry e) → Follows says n (suc k) → Follows says (suc n) k
   closes : {k : ℕ} (e : ListEnd Span) → says k ≡ event (ends e) → Follows says 0 k
 
--- for every input, where call k says the start of a list response with n entries, such an answer follows
+-- For every input: where call k says the start of a list response with n entries, the calls behind it say n entries and the end, or a refusal
 abbrev pub ListsEntries : {I S : Type 0} → Reader I S → Type 0
 ListsEntries {I} R =
     (i : I) (k : ℕ) (m : MessageStart Span) (b : ListStart Span) → hears R i k ≡ event (starts m) → m .body ≡ listed b

@@ -25,7 +25,7 @@ retold f =
       payloadOf = ours .payloadOf;
     }
 
--- refuses everything, as if every record were a bad one
+-- refuses everything, as if every record were a bad one (4)
 abbrev pub refuses : Machine Decoder
 refuses = record { new = ours .new; act = λ d m o. record { answer = refused 4 []; decoder = d; memory = m }; payloadOf = λ d m. [] }
 
@@ -65,12 +65,14 @@ pub record Spent : Type 0 where
   pub decoder : Decoder
   pub spent : Bool
 
+-- its answer: once it gave a payload, every later one is empty
 abbrev pub emptied : Bool → Answer → Answer
 emptied b nothing = nothing
 emptied b (payload bytes) = cond b (payload []) (payload bytes)
 emptied b (count k) = count k
 emptied b (refused k values) = refused k values
 
+-- whether it gave a payload, with this answer
 abbrev pub spends : Bool → Answer → Bool
 spends b nothing = b
 spends b (payload bytes) = true
@@ -121,7 +123,7 @@ entryless (failed f) = failed f
 abbrev pub noEntries : Reader (List ℕ) Numbers
 noEntries = resaid entryless
 
--- each of them falls
+-- each of them falls: a row of the bench sheet or a mark that is false of it
 pub record Fall : Type 0 where
   pub refuses-b3 : Holds refuses encodeTo b3 → ⊥
   pub refuses-mark3 : Mark3 refuses encodeTo → ⊥
