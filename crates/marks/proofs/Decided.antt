@@ -5,39 +5,24 @@ use mathlib.Core.Option.{Option, some, none}
 use Prim.Native.Nat.{ℕ}
 use lib.Dec.{eqb}
 use Rattle.tlf.specs.Refusals.{byteRead, spanRead, tlfRead, placeRead}
-use Rattle.tlf.specs.declared.ByteRead.{ByteRead}
 use Rattle.tlf.specs.declared.ByteRead.the-variants as ByteR
-use Rattle.tlf.specs.declared.SpanRead.{SpanRead}
 use Rattle.tlf.specs.declared.SpanRead.the-variants as SpanR
-use Rattle.tlf.specs.declared.TlfRead.{TlfRead}
 use Rattle.tlf.specs.declared.TlfRead.the-variants as TlfR
-use Rattle.tlf.specs.declared.PlaceRead.{PlaceRead}
 use Rattle.tlf.specs.declared.PlaceRead.the-variants as PlaceR
 use Rattle.num.specs.Answers.{u8Read, u16Read, u32Read, u64Read, i8Read, i16Read, i32Read, i64Read, boolRead}
-use Rattle.num.specs.declared.U8Read.{U8Read}
 use Rattle.num.specs.declared.U8Read.the-variants as U8R
-use Rattle.num.specs.declared.U16Read.{U16Read}
 use Rattle.num.specs.declared.U16Read.the-variants as U16R
-use Rattle.num.specs.declared.U32Read.{U32Read}
 use Rattle.num.specs.declared.U32Read.the-variants as U32R
-use Rattle.num.specs.declared.U64Read.{U64Read}
 use Rattle.num.specs.declared.U64Read.the-variants as U64R
-use Rattle.num.specs.declared.I8Read.{I8Read}
 use Rattle.num.specs.declared.I8Read.the-variants as I8R
-use Rattle.num.specs.declared.I16Read.{I16Read}
 use Rattle.num.specs.declared.I16Read.the-variants as I16R
-use Rattle.num.specs.declared.I32Read.{I32Read}
 use Rattle.num.specs.declared.I32Read.the-variants as I32R
-use Rattle.num.specs.declared.I64Read.{I64Read}
 use Rattle.num.specs.declared.I64Read.the-variants as I64R
-use Rattle.num.specs.declared.BoolRead.{BoolRead}
 use Rattle.num.specs.declared.BoolRead.the-variants as BoolR
-use Rattle.octet_string.specs.Answers.{spanCheck, optSpanRead}
+use Rattle.octet_string.specs.Answers.{spanCheck, optSpan, optSpanRead}
 use Rattle.octet_string.specs.declared.SpanCheck.{SpanCheck}
 use Rattle.octet_string.specs.declared.SpanCheck.the-variants.{Good, BadSpan}
-use Rattle.octet_string.specs.declared.OptSpan.{OptSpan}
 use Rattle.octet_string.specs.declared.OptSpan.the-variants.{Present, Absent}
-use Rattle.octet_string.specs.declared.OptSpanRead.{OptSpanRead}
 use Rattle.octet_string.specs.declared.OptSpanRead.the-variants as OptSpanR
 use Rattle.encoder.specs.Encode as E
 use Rattle.encoder.specs.Encoder as N
@@ -66,80 +51,8 @@ use Rattle.streaming.specs.declared.Answer.{Answer}
 use Rattle.parser.specs.Reader as P
 use Rattle.parser.specs.declared.Parser.{Parser}
 use Rattle.marks.specs.Decided.{With, Beside, Views, Decided}
-use Rattle.marks.proofs.Undone.{plain, injective, undone, fault-back, readFrom, fieldFrom}
+use Rattle.marks.proofs.Undone.{plain, injective, undone, itIs, itLost, reads, reads-plain, fieldFrom}
 use Rattle.marks.proofs.MessageViews.{time-one, status-one, value-one, optional-u8-one, optional-i8-one, optional-time-one, optional-status-one, open-one, close-one, entry-one, list-start-one, list-end-one, body-one, start-one, event-one, event-in-place-one, field-back}
-
--- ---- readings
-
-byte-back : (r : ByteRead) → readFrom ByteR.Is ByteR.Refused (byteRead r) ≡ r
-unfolding readFrom
-byte-back (ByteR.Is a next) = refl
-byte-back (ByteR.Refused f) = ap ByteR.Refused (fault-back f)
-
-span-back : (r : SpanRead) → readFrom SpanR.Is SpanR.Refused (spanRead r) ≡ r
-unfolding readFrom
-span-back (SpanR.Is a next) = refl
-span-back (SpanR.Refused f) = ap SpanR.Refused (fault-back f)
-
-tlf-back : (r : TlfRead) → readFrom TlfR.Is TlfR.Refused (tlfRead r) ≡ r
-unfolding readFrom
-tlf-back (TlfR.Is a next) = refl
-tlf-back (TlfR.Refused f) = ap TlfR.Refused (fault-back f)
-
-place-back : (r : PlaceRead) → readFrom (λ a next. PlaceR.Is next) PlaceR.Refused (placeRead r) ≡ r
-unfolding readFrom
-place-back (PlaceR.Is next) = refl
-place-back (PlaceR.Refused f) = ap PlaceR.Refused (fault-back f)
-
-u8-back : (r : U8Read) → readFrom U8R.Is U8R.Refused (u8Read r) ≡ r
-unfolding readFrom
-u8-back (U8R.Is a next) = refl
-u8-back (U8R.Refused f) = ap U8R.Refused (fault-back f)
-
-u16-back : (r : U16Read) → readFrom U16R.Is U16R.Refused (u16Read r) ≡ r
-unfolding readFrom
-u16-back (U16R.Is a next) = refl
-u16-back (U16R.Refused f) = ap U16R.Refused (fault-back f)
-
-u32-back : (r : U32Read) → readFrom U32R.Is U32R.Refused (u32Read r) ≡ r
-unfolding readFrom
-u32-back (U32R.Is a next) = refl
-u32-back (U32R.Refused f) = ap U32R.Refused (fault-back f)
-
-u64-back : (r : U64Read) → readFrom U64R.Is U64R.Refused (u64Read r) ≡ r
-unfolding readFrom
-u64-back (U64R.Is a next) = refl
-u64-back (U64R.Refused f) = ap U64R.Refused (fault-back f)
-
-i8-back : (r : I8Read) → readFrom I8R.Is I8R.Refused (i8Read r) ≡ r
-unfolding readFrom
-i8-back (I8R.Is a next) = refl
-i8-back (I8R.Refused f) = ap I8R.Refused (fault-back f)
-
-i16-back : (r : I16Read) → readFrom I16R.Is I16R.Refused (i16Read r) ≡ r
-unfolding readFrom
-i16-back (I16R.Is a next) = refl
-i16-back (I16R.Refused f) = ap I16R.Refused (fault-back f)
-
-i32-back : (r : I32Read) → readFrom I32R.Is I32R.Refused (i32Read r) ≡ r
-unfolding readFrom
-i32-back (I32R.Is a next) = refl
-i32-back (I32R.Refused f) = ap I32R.Refused (fault-back f)
-
-i64-back : (r : I64Read) → readFrom I64R.Is I64R.Refused (i64Read r) ≡ r
-unfolding readFrom
-i64-back (I64R.Is a next) = refl
-i64-back (I64R.Refused f) = ap I64R.Refused (fault-back f)
-
-bool-back : (r : BoolRead) → readFrom BoolR.Is BoolR.Refused (boolRead r) ≡ r
-unfolding readFrom
-bool-back (BoolR.Is a next) = refl
-bool-back (BoolR.Refused f) = ap BoolR.Refused (fault-back f)
-
-opt-back : (r : OptSpanRead) → readFrom (λ a next. OptSpanR.Is (fieldFrom Present Absent a) next) OptSpanR.Refused (optSpanRead r) ≡ r
-unfolding readFrom
-opt-back (OptSpanR.Is a next) = ap (λ (f : OptSpan). OptSpanR.Is f next) (field-back a)
-opt-back (OptSpanR.Refused f) = ap OptSpanR.Refused (fault-back f)
 
 checkFrom : Option ℕ → SpanCheck
 checkFrom none = Good
@@ -229,21 +142,21 @@ count-both r r′ h = λ i. record { answer = h i .number; memory = h i .memory 
 pub views : Views
 views =
     record {
-      byte = undone byteRead (readFrom ByteR.Is ByteR.Refused) byte-back;
-      span = undone spanRead (readFrom SpanR.Is SpanR.Refused) span-back;
-      tlf = undone tlfRead (readFrom TlfR.Is TlfR.Refused) tlf-back;
-      place = undone placeRead (readFrom (λ a next. PlaceR.Is next) PlaceR.Refused) place-back;
-      u8 = undone u8Read (readFrom U8R.Is U8R.Refused) u8-back;
-      u16 = undone u16Read (readFrom U16R.Is U16R.Refused) u16-back;
-      u32 = undone u32Read (readFrom U32R.Is U32R.Refused) u32-back;
-      u64 = undone u64Read (readFrom U64R.Is U64R.Refused) u64-back;
-      i8 = undone i8Read (readFrom I8R.Is I8R.Refused) i8-back;
-      i16 = undone i16Read (readFrom I16R.Is I16R.Refused) i16-back;
-      i32 = undone i32Read (readFrom I32R.Is I32R.Refused) i32-back;
-      i64 = undone i64Read (readFrom I64R.Is I64R.Refused) i64-back;
-      bool = undone boolRead (readFrom BoolR.Is BoolR.Refused) bool-back;
+      byte = reads-plain byteRead ByteR.Is ByteR.Refused (λ r. elim r [ ByteR.Is x next ↦ itIs x next | ByteR.Refused f ↦ itLost f ]);
+      span = reads-plain spanRead SpanR.Is SpanR.Refused (λ r. elim r [ SpanR.Is x next ↦ itIs x next | SpanR.Refused f ↦ itLost f ]);
+      tlf = reads-plain tlfRead TlfR.Is TlfR.Refused (λ r. elim r [ TlfR.Is x next ↦ itIs x next | TlfR.Refused f ↦ itLost f ]);
+      place = reads placeRead (λ (u : Unit {0}) next. PlaceR.Is next) PlaceR.Refused (λ u. u) (λ u. u) (λ u. refl) (λ r. elim r [ PlaceR.Is next ↦ itIs tt next | PlaceR.Refused f ↦ itLost f ]);
+      u8 = reads-plain u8Read U8R.Is U8R.Refused (λ r. elim r [ U8R.Is x next ↦ itIs x next | U8R.Refused f ↦ itLost f ]);
+      u16 = reads-plain u16Read U16R.Is U16R.Refused (λ r. elim r [ U16R.Is x next ↦ itIs x next | U16R.Refused f ↦ itLost f ]);
+      u32 = reads-plain u32Read U32R.Is U32R.Refused (λ r. elim r [ U32R.Is x next ↦ itIs x next | U32R.Refused f ↦ itLost f ]);
+      u64 = reads-plain u64Read U64R.Is U64R.Refused (λ r. elim r [ U64R.Is x next ↦ itIs x next | U64R.Refused f ↦ itLost f ]);
+      i8 = reads-plain i8Read I8R.Is I8R.Refused (λ r. elim r [ I8R.Is x next ↦ itIs x next | I8R.Refused f ↦ itLost f ]);
+      i16 = reads-plain i16Read I16R.Is I16R.Refused (λ r. elim r [ I16R.Is x next ↦ itIs x next | I16R.Refused f ↦ itLost f ]);
+      i32 = reads-plain i32Read I32R.Is I32R.Refused (λ r. elim r [ I32R.Is x next ↦ itIs x next | I32R.Refused f ↦ itLost f ]);
+      i64 = reads-plain i64Read I64R.Is I64R.Refused (λ r. elim r [ I64R.Is x next ↦ itIs x next | I64R.Refused f ↦ itLost f ]);
+      bool = reads-plain boolRead BoolR.Is BoolR.Refused (λ r. elim r [ BoolR.Is x next ↦ itIs x next | BoolR.Refused f ↦ itLost f ]);
       check = undone spanCheck checkFrom check-back;
-      optional-span = undone optSpanRead (readFrom (λ a next. OptSpanR.Is (fieldFrom Present Absent a) next) OptSpanR.Refused) opt-back;
+      optional-span = reads optSpanRead OptSpanR.Is OptSpanR.Refused optSpan (fieldFrom Present Absent) field-back (λ r. elim r [ OptSpanR.Is x next ↦ itIs x next | OptSpanR.Refused f ↦ itLost f ]);
       next = next-one;
       encoded = encode-one;
       pushed = push-both;

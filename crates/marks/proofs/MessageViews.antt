@@ -11,25 +11,18 @@ use Rattle.octet_string.specs.Answers.{optSpan}
 use Rattle.octet_string.specs.declared.OptSpan.{OptSpan}
 use Rattle.octet_string.specs.declared.OptSpan.the-variants.{Present, Absent}
 use Rattle.value.specs.Values.{Status, Value, truth, bytes, signed, unsigned, listTime}
-use Rattle.value.specs.Answers.{timeRead, status, statusRead, value, valueRead, optU8, optU8Read, optI8, optI8Read, optTime, optTimeRead, optStatus, optStatusRead}
+use Rattle.value.specs.Answers.{seconds, timeRead, status, statusRead, value, valueRead, optU8, optU8Read, optI8, optI8Read, optTime, optTimeRead, optStatus, optStatusRead}
 use Rattle.value.specs.declared.Time.{Time}
 use Rattle.value.specs.declared.Status as Statuses
 use Rattle.value.specs.declared.Status.the-variants as StatusC
 use Rattle.value.specs.declared.Value as Values
 use Rattle.value.specs.declared.Value.the-variants as ValueC
-use Rattle.value.specs.declared.TimeRead.{TimeRead}
 use Rattle.value.specs.declared.TimeRead.the-variants as TimeR
-use Rattle.value.specs.declared.StatusRead.{StatusRead}
 use Rattle.value.specs.declared.StatusRead.the-variants as StatusR
-use Rattle.value.specs.declared.ValueRead.{ValueRead}
 use Rattle.value.specs.declared.ValueRead.the-variants as ValueR
-use Rattle.value.specs.declared.OptU8Read.{OptU8Read}
 use Rattle.value.specs.declared.OptU8Read.the-variants as OptU8R
-use Rattle.value.specs.declared.OptI8Read.{OptI8Read}
 use Rattle.value.specs.declared.OptI8Read.the-variants as OptI8R
-use Rattle.value.specs.declared.OptTimeRead.{OptTimeRead}
 use Rattle.value.specs.declared.OptTimeRead.the-variants as OptTimeR
-use Rattle.value.specs.declared.OptStatusRead.{OptStatusRead}
 use Rattle.value.specs.declared.OptStatusRead.the-variants as OptStatusR
 use Rattle.value.specs.declared.OptU8.{OptU8}
 use Rattle.value.specs.declared.OptU8.the-variants as OptU8C
@@ -44,11 +37,8 @@ use Rattle.common.specs.Answers.{openResponse, openRead, closeResponse, closeRe
 use Rattle.common.specs.declared.OpenResponse as Opens
 use Rattle.common.specs.declared.CloseResponse as Closes
 use Rattle.common.specs.declared.ListEntry as Entries
-use Rattle.common.specs.declared.OpenRead.{OpenRead}
 use Rattle.common.specs.declared.OpenRead.the-variants as OpenR
-use Rattle.common.specs.declared.CloseRead.{CloseRead}
 use Rattle.common.specs.declared.CloseRead.the-variants as CloseR
-use Rattle.common.specs.declared.EntryRead.{EntryRead}
 use Rattle.common.specs.declared.EntryRead.the-variants as EntryR
 use Rattle.message.specs.Messages.{ListStart, ListEnd, Body, opened, closed, listed, MessageStart}
 use Rattle.message.specs.Answers.{listStart, listStartRead, listEnd, listEndRead, messageBody, bodyRead, messageStart, startRead}
@@ -57,13 +47,9 @@ use Rattle.message.specs.declared.GetListResponseEnd.{GetListResponseEnd}
 use Rattle.message.specs.declared.MessageBody.{MessageBody}
 use Rattle.message.specs.declared.MessageBody.the-variants as BodyC
 use Rattle.message.specs.declared.MessageStart as Starts
-use Rattle.message.specs.declared.ListStartRead.{ListStartRead}
 use Rattle.message.specs.declared.ListStartRead.the-variants as ListStartR
-use Rattle.message.specs.declared.ListEndRead.{ListEndRead}
 use Rattle.message.specs.declared.ListEndRead.the-variants as ListEndR
-use Rattle.message.specs.declared.BodyRead.{BodyRead}
 use Rattle.message.specs.declared.BodyRead.the-variants as BodyR
-use Rattle.message.specs.declared.StartRead.{StartRead}
 use Rattle.message.specs.declared.StartRead.the-variants as StartR
 use Rattle.streaming.specs.Next as N
 use Rattle.streaming.specs.Next.{starts, entry, ends, Said, event, noEvent, failed, After}
@@ -75,7 +61,7 @@ use Rattle.streaming.specs.declared.Answer.the-variants as AnswerC
 use Rattle.parser.specs.Reader.{Called, leaves}
 use Rattle.parser.specs.declared.Parser.{Parser}
 use Rattle.marks.specs.Decided.{Beside, Injective}
-use Rattle.marks.proofs.Undone.{undone, faultFrom, error-back, fault-back, readFrom, fieldFrom}
+use Rattle.marks.proofs.Undone.{undone, faultFrom, error-back, itIs, itLost, reads, fieldFrom}
 
 -- ---- optional fields
 
@@ -294,114 +280,45 @@ event-in-place-one r r′ h =
 
 -- ---- readings
 
-time-read : (r : TimeRead) → readFrom (λ a next. TimeR.Is (timeFrom a) next) TimeR.Refused (timeRead r) ≡ r
-unfolding readFrom timeFrom
-time-read (TimeR.Is x next) = refl
-time-read (TimeR.Refused f) = ap TimeR.Refused (fault-back f)
-
 pub time-one : Injective timeRead
-time-one = undone timeRead (readFrom (λ a next. TimeR.Is (timeFrom a) next) TimeR.Refused) time-read
-
-status-read : (r : StatusRead) → readFrom (λ a next. StatusR.Is (statusFrom a) next) StatusR.Refused (statusRead r) ≡ r
-unfolding readFrom
-status-read (StatusR.Is x next) = ap (λ (y : Statuses.Status). StatusR.Is y next) (status-back x)
-status-read (StatusR.Refused f) = ap StatusR.Refused (fault-back f)
+unfolding timeFrom
+time-one = reads timeRead TimeR.Is TimeR.Refused seconds timeFrom (λ x. refl) (λ r. elim r [ TimeR.Is x next ↦ itIs x next | TimeR.Refused f ↦ itLost f ])
 
 pub status-one : Injective statusRead
-status-one = undone statusRead (readFrom (λ a next. StatusR.Is (statusFrom a) next) StatusR.Refused) status-read
-
-value-read : (r : ValueRead) → readFrom (λ a next. ValueR.Is (valueFrom a) next) ValueR.Refused (valueRead r) ≡ r
-unfolding readFrom
-value-read (ValueR.Is x next) = ap (λ (y : Values.Value). ValueR.Is y next) (value-back x)
-value-read (ValueR.Refused f) = ap ValueR.Refused (fault-back f)
+status-one = reads statusRead StatusR.Is StatusR.Refused status statusFrom status-back (λ r. elim r [ StatusR.Is x next ↦ itIs x next | StatusR.Refused f ↦ itLost f ])
 
 pub value-one : Injective valueRead
-value-one = undone valueRead (readFrom (λ a next. ValueR.Is (valueFrom a) next) ValueR.Refused) value-read
-
-optional-u8-read : (r : OptU8Read) → readFrom (λ a next. OptU8R.Is (fieldFrom OptU8C.Present OptU8C.Absent a) next) OptU8R.Refused (optU8Read r) ≡ r
-unfolding readFrom
-optional-u8-read (OptU8R.Is x next) = ap (λ (y : OptU8). OptU8R.Is y next) (u8-back x)
-optional-u8-read (OptU8R.Refused f) = ap OptU8R.Refused (fault-back f)
+value-one = reads valueRead ValueR.Is ValueR.Refused value valueFrom value-back (λ r. elim r [ ValueR.Is x next ↦ itIs x next | ValueR.Refused f ↦ itLost f ])
 
 pub optional-u8-one : Injective optU8Read
-optional-u8-one = undone optU8Read (readFrom (λ a next. OptU8R.Is (fieldFrom OptU8C.Present OptU8C.Absent a) next) OptU8R.Refused) optional-u8-read
-
-optional-i8-read : (r : OptI8Read) → readFrom (λ a next. OptI8R.Is (fieldFrom OptI8C.Present OptI8C.Absent a) next) OptI8R.Refused (optI8Read r) ≡ r
-unfolding readFrom
-optional-i8-read (OptI8R.Is x next) = ap (λ (y : OptI8). OptI8R.Is y next) (i8-back x)
-optional-i8-read (OptI8R.Refused f) = ap OptI8R.Refused (fault-back f)
+optional-u8-one = reads optU8Read OptU8R.Is OptU8R.Refused optU8 (fieldFrom OptU8C.Present OptU8C.Absent) u8-back (λ r. elim r [ OptU8R.Is x next ↦ itIs x next | OptU8R.Refused f ↦ itLost f ])
 
 pub optional-i8-one : Injective optI8Read
-optional-i8-one = undone optI8Read (readFrom (λ a next. OptI8R.Is (fieldFrom OptI8C.Present OptI8C.Absent a) next) OptI8R.Refused) optional-i8-read
-
-optional-time-read : (r : OptTimeRead) → readFrom (λ a next. OptTimeR.Is (fieldFrom (λ n. OptTimeC.Present (timeFrom n)) OptTimeC.Absent a) next) OptTimeR.Refused (optTimeRead r) ≡ r
-unfolding readFrom
-optional-time-read (OptTimeR.Is x next) = ap (λ (y : OptTime). OptTimeR.Is y next) (time-back x)
-optional-time-read (OptTimeR.Refused f) = ap OptTimeR.Refused (fault-back f)
+optional-i8-one = reads optI8Read OptI8R.Is OptI8R.Refused optI8 (fieldFrom OptI8C.Present OptI8C.Absent) i8-back (λ r. elim r [ OptI8R.Is x next ↦ itIs x next | OptI8R.Refused f ↦ itLost f ])
 
 pub optional-time-one : Injective optTimeRead
-optional-time-one = undone optTimeRead (readFrom (λ a next. OptTimeR.Is (fieldFrom (λ n. OptTimeC.Present (timeFrom n)) OptTimeC.Absent a) next) OptTimeR.Refused) optional-time-read
-
-optional-status-read : (r : OptStatusRead) → readFrom (λ a next. OptStatusR.Is (fieldFrom (λ x. OptStatusC.Present (statusFrom x)) OptStatusC.Absent a) next) OptStatusR.Refused (optStatusRead r) ≡ r
-unfolding readFrom
-optional-status-read (OptStatusR.Is x next) = ap (λ (y : OptStatus). OptStatusR.Is y next) (opt-status-back x)
-optional-status-read (OptStatusR.Refused f) = ap OptStatusR.Refused (fault-back f)
+optional-time-one = reads optTimeRead OptTimeR.Is OptTimeR.Refused optTime (fieldFrom (λ n. OptTimeC.Present (timeFrom n)) OptTimeC.Absent) time-back (λ r. elim r [ OptTimeR.Is x next ↦ itIs x next | OptTimeR.Refused f ↦ itLost f ])
 
 pub optional-status-one : Injective optStatusRead
-optional-status-one = undone optStatusRead (readFrom (λ a next. OptStatusR.Is (fieldFrom (λ x. OptStatusC.Present (statusFrom x)) OptStatusC.Absent a) next) OptStatusR.Refused) optional-status-read
-
-open-read : (r : OpenRead) → readFrom (λ a next. OpenR.Is (openFrom a) next) OpenR.Refused (openRead r) ≡ r
-unfolding readFrom
-open-read (OpenR.Is x next) = ap (λ (y : Opens.OpenResponse). OpenR.Is y next) (open-back x)
-open-read (OpenR.Refused f) = ap OpenR.Refused (fault-back f)
+optional-status-one = reads optStatusRead OptStatusR.Is OptStatusR.Refused optStatus (fieldFrom (λ x. OptStatusC.Present (statusFrom x)) OptStatusC.Absent) opt-status-back (λ r. elim r [ OptStatusR.Is x next ↦ itIs x next | OptStatusR.Refused f ↦ itLost f ])
 
 pub open-one : Injective openRead
-open-one = undone openRead (readFrom (λ a next. OpenR.Is (openFrom a) next) OpenR.Refused) open-read
-
-close-read : (r : CloseRead) → readFrom (λ a next. CloseR.Is (closeFrom a) next) CloseR.Refused (closeRead r) ≡ r
-unfolding readFrom
-close-read (CloseR.Is x next) = ap (λ (y : Closes.CloseResponse). CloseR.Is y next) (close-back x)
-close-read (CloseR.Refused f) = ap CloseR.Refused (fault-back f)
+open-one = reads openRead OpenR.Is OpenR.Refused openResponse openFrom open-back (λ r. elim r [ OpenR.Is x next ↦ itIs x next | OpenR.Refused f ↦ itLost f ])
 
 pub close-one : Injective closeRead
-close-one = undone closeRead (readFrom (λ a next. CloseR.Is (closeFrom a) next) CloseR.Refused) close-read
-
-entry-read : (r : EntryRead) → readFrom (λ a next. EntryR.Is (entryFrom a) next) EntryR.Refused (entryRead r) ≡ r
-unfolding readFrom
-entry-read (EntryR.Is x next) = ap (λ (y : Entries.ListEntry). EntryR.Is y next) (entry-back x)
-entry-read (EntryR.Refused f) = ap EntryR.Refused (fault-back f)
+close-one = reads closeRead CloseR.Is CloseR.Refused closeResponse closeFrom close-back (λ r. elim r [ CloseR.Is x next ↦ itIs x next | CloseR.Refused f ↦ itLost f ])
 
 pub entry-one : Injective entryRead
-entry-one = undone entryRead (readFrom (λ a next. EntryR.Is (entryFrom a) next) EntryR.Refused) entry-read
-
-list-start-read : (r : ListStartRead) → readFrom (λ a next. ListStartR.Is (listStartFrom a) next) ListStartR.Refused (listStartRead r) ≡ r
-unfolding readFrom
-list-start-read (ListStartR.Is x next) = ap (λ (y : GetListResponseStart). ListStartR.Is y next) (list-start-back x)
-list-start-read (ListStartR.Refused f) = ap ListStartR.Refused (fault-back f)
+entry-one = reads entryRead EntryR.Is EntryR.Refused listEntry entryFrom entry-back (λ r. elim r [ EntryR.Is x next ↦ itIs x next | EntryR.Refused f ↦ itLost f ])
 
 pub list-start-one : Injective listStartRead
-list-start-one = undone listStartRead (readFrom (λ a next. ListStartR.Is (listStartFrom a) next) ListStartR.Refused) list-start-read
-
-list-end-read : (r : ListEndRead) → readFrom (λ a next. ListEndR.Is (listEndFrom a) next) ListEndR.Refused (listEndRead r) ≡ r
-unfolding readFrom
-list-end-read (ListEndR.Is x next) = ap (λ (y : GetListResponseEnd). ListEndR.Is y next) (list-end-back x)
-list-end-read (ListEndR.Refused f) = ap ListEndR.Refused (fault-back f)
+list-start-one = reads listStartRead ListStartR.Is ListStartR.Refused listStart listStartFrom list-start-back (λ r. elim r [ ListStartR.Is x next ↦ itIs x next | ListStartR.Refused f ↦ itLost f ])
 
 pub list-end-one : Injective listEndRead
-list-end-one = undone listEndRead (readFrom (λ a next. ListEndR.Is (listEndFrom a) next) ListEndR.Refused) list-end-read
-
-body-read : (r : BodyRead) → readFrom (λ a next. BodyR.Is (bodyFrom a) next) BodyR.Refused (bodyRead r) ≡ r
-unfolding readFrom
-body-read (BodyR.Is x next) = ap (λ (y : MessageBody). BodyR.Is y next) (body-back x)
-body-read (BodyR.Refused f) = ap BodyR.Refused (fault-back f)
+list-end-one = reads listEndRead ListEndR.Is ListEndR.Refused listEnd listEndFrom list-end-back (λ r. elim r [ ListEndR.Is x next ↦ itIs x next | ListEndR.Refused f ↦ itLost f ])
 
 pub body-one : Injective bodyRead
-body-one = undone bodyRead (readFrom (λ a next. BodyR.Is (bodyFrom a) next) BodyR.Refused) body-read
-
-start-read : (r : StartRead) → readFrom (λ a next. StartR.Is (startFrom a) next) StartR.Refused (startRead r) ≡ r
-unfolding readFrom
-start-read (StartR.Is x next) = ap (λ (y : Starts.MessageStart). StartR.Is y next) (start-back x)
-start-read (StartR.Refused f) = ap StartR.Refused (fault-back f)
+body-one = reads bodyRead BodyR.Is BodyR.Refused messageBody bodyFrom body-back (λ r. elim r [ BodyR.Is x next ↦ itIs x next | BodyR.Refused f ↦ itLost f ])
 
 pub start-one : Injective startRead
-start-one = undone startRead (readFrom (λ a next. StartR.Is (startFrom a) next) StartR.Refused) start-read
+start-one = reads startRead StartR.Is StartR.Refused messageStart startFrom start-back (λ r. elim r [ StartR.Is x next ↦ itIs x next | StartR.Refused f ↦ itLost f ])
