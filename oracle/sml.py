@@ -1,5 +1,5 @@
-"""What the scripts here share: frames by document 01's rules, and the capacities that the oracle knows."""
-import os, re
+"""What the scripts here share: frames by document 01's rules, the capacities that the oracle knows, and how smlreplay is run."""
+import os, platform, re, shutil
 
 HERE = os.path.dirname(os.path.abspath(__file__))
 START, ESCAPE = bytes.fromhex("1b1b1b1b01010101"), bytes.fromhex("1b1b1b1b")
@@ -51,3 +51,11 @@ def capacities():
 
 # kinds of `leaf` that smlreplay knows
 KINDS = ["u8", "u16", "u32", "u64", "i8", "i16", "i32", "i64", "bool", "oct", "opt_oct"]
+
+
+def run_smlreplay():
+    """The words that run the program as `rt` does: under the toolchain's loader, and its emulator where it has one."""
+    kit = os.environ.get("RATTLE_HOME") or os.path.dirname(os.path.dirname(os.path.realpath(shutil.which("rt"))))
+    tools = os.path.join(kit, "on", platform.machine(), "toolchain")
+    emulator = os.path.join(tools, "bin/qemu-x86_64")
+    return [emulator] * os.access(emulator, os.X_OK) + [os.path.join(tools, "lib/ld-linux-x86-64.so.2"), "--library-path", os.path.join(tools, "lib"), "target/bin/smlreplay"]

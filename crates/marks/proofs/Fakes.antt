@@ -1,7 +1,7 @@
 -- Each fake falls: one small run, computed, is not what the claim says.
-use mathlib.Core.Path.{_≡_, refl, ap}
+use mathlib.Core.Path.{_≡_, refl, ap, sym, _∙_}
 use mathlib.Core.Bool.{Bool, true, false, cond, false≢true}
-use mathlib.Core.List.{List, [], _∷_, _++_, map}
+use mathlib.Core.List.{List, [], _∷_, map}
 use Prim.Native.Nat.{ℕ, zero, suc, _+_, _≤_, _<_}
 use native.Mathlib.Omega.{arith}
 use lib.ListN.{length, getD, take, replicate}
@@ -15,12 +15,24 @@ use Rattle.encoder.specs.Encoder as N
 use Rattle.decoder.specs.Push.{Setup, searching, store, same, finish, judge, step, finalized}
 use Rattle.decoder.specs.Record.{Answer, nothing, payload, count, refused, wrote, badState, wrongBuffer, pushed, pushRecord, finalizeRecord, newRecord, hasPayload, payloadRecord}
 use Rattle.decoder.specs.Run.{push, act}
+use Rattle.tlf.specs.Read.{then, guard, need, byteAt, spanAt}
+use Rattle.tlf.specs.Lengths.{tlfAt, lengthFrom, lessOwn, listOfAt}
+use Rattle.num.specs.Numbers.{number, bytesAt, rawFrom, rawAt, unsignedAt, signedOf, signedAt}
+use Rattle.octet_string.specs.Strings.{octetsAt}
+use Rattle.octet_string.specs.Optional.{absentAt, optional}
+use Rattle.value.specs.Values.{timeAt, statusOf, statusAt, signedValue, unsignedValue, listTypeAt, valueOf, valueAt}
+use Rattle.common.specs.Fields.{entryAt}
+use Rattle.message.specs.Messages.{listStartAt, contentAt, bodyAt, startAt}
+use Rattle.streaming.specs.Next.{Said, event, starts, entry, ends, noEvent, failed, onward, beginAt, entryNext, stepAt, nextAt}
+use Rattle.events.specs.Events.{nth, answer, says, atStart, inside, entriesFrom, contentFrom, messagesFrom, eventsOf}
 use Rattle.marks.specs.Decoders.{answers, behind, countFrom, ours}
 use Rattle.marks.specs.Mark2.{PushesBytes, Soundness, Completeness, OurSearch}
 use Rattle.marks.specs.Mark3.{Job, framesFor, restSays, Mark3, Suits}
 use Rattle.marks.specs.Encoders.{calls, SameBytes}
 use Rattle.marks.specs.Bench.{Outcome, encoded, events, field, string, signed, unsigned, saidFrom, Holds, payload1, frame1, b1, b3, b6}
-use Rattle.marks.specs.Fakes.{refuses, constant, idle, invents, once, writesNothing, refusesToEncode, finishedAtOnce, Fall}
+use Rattle.marks.specs.Events as Ev
+use Rattle.marks.specs.Events.{saysAt, ReaderGives, Follows, ListsEntries}
+use Rattle.marks.specs.Fakes.{refuses, constant, idle, invents, once, writesNothing, refusesToEncode, finishedAtOnce, silent, noEntries, Fall}
 use Rattle.marks.proofs.Completeness.{new-searches}
 
 -- a number for an answer, in which the fakes differ from what is claimed
@@ -175,6 +187,39 @@ finished-at-once h =
     let z : _≡_ {A = ℕ} 0 1 = ap isByte e in
     omega arith
 
+-- ---- message events
+
+-- a list response with one entry
+abbrev message : List ℕ
+message = 0x76 ∷ 0x02 ∷ 0x07 ∷ 0x62 ∷ 0x00 ∷ 0x62 ∷ 0x00 ∷ 0x72 ∷ 0x63 ∷ 0x07 ∷ 0x01 ∷ 0x77 ∷ 0x01 ∷ 0x02 ∷ 0x01 ∷ 0x01 ∷ 0x01 ∷ 0x71 ∷ 0x77 ∷ 0x02 ∷ 0x05 ∷ 0x01 ∷ 0x01 ∷ 0x01 ∷ 0x01 ∷ 0x62 ∷ 0x01 ∷ 0x01 ∷ 0x01 ∷ 0x01 ∷ 0x63 ∷ 0x51 ∷ 0x62 ∷ 0x00 ∷ []
+
+-- a number for what a call says
+saidCode : Said → ℕ
+saidCode (event (starts m)) = 1
+saidCode (event (entry e)) = 2
+saidCode (event (ends e)) = 3
+saidCode noEvent = 0
+saidCode (failed f) = 4
+
+silent-events : ReaderGives silent → ⊥
+unfolding then guard need byteAt spanAt tlfAt lengthFrom lessOwn listOfAt number bytesAt rawFrom rawAt unsignedAt signedOf signedAt octetsAt absentAt optional timeAt statusOf statusAt signedValue unsignedValue listTypeAt valueOf valueAt entryAt listStartAt contentAt bodyAt startAt saidCode saysAt nth answer says atStart messagesFrom eventsOf
+silent-events h = let z : _≡_ {A = ℕ} 0 1 = ap saidCode (h message 0) in omega arith
+
+no-entries-events : ReaderGives noEntries → ⊥
+unfolding then guard need byteAt spanAt tlfAt lengthFrom lessOwn listOfAt number bytesAt rawFrom rawAt unsignedAt signedOf signedAt octetsAt absentAt optional timeAt statusOf statusAt signedValue unsignedValue listTypeAt valueOf valueAt entryAt listStartAt contentAt bodyAt startAt saidCode saysAt nth answer says atStart inside entriesFrom contentFrom messagesFrom eventsOf onward beginAt entryNext stepAt nextAt
+no-entries-events h = let z : _≡_ {A = ℕ} 0 2 = ap saidCode (h message 1) in omega arith
+
+-- no list goes on with `no event`
+no-list : (f : ℕ → Said) {n k : ℕ} → f k ≡ noEvent → Follows f n k → ⊥
+unfolding saidCode
+no-list f e (Ev.refuses x h) = let z : _≡_ {A = ℕ} 0 4 = ap saidCode (sym e ∙ h) in omega arith
+no-list f e (Ev.lists x h more) = let z : _≡_ {A = ℕ} 0 2 = ap saidCode (sym e ∙ h) in omega arith
+no-list f e (Ev.closes x h) = let z : _≡_ {A = ℕ} 0 3 = ap saidCode (sym e ∙ h) in omega arith
+
+no-entries-lists : ListsEntries noEntries → ⊥
+unfolding then guard need byteAt spanAt tlfAt lengthFrom lessOwn listOfAt number bytesAt rawFrom rawAt unsignedAt signedOf signedAt octetsAt absentAt optional timeAt statusOf statusAt signedValue unsignedValue listTypeAt valueOf valueAt entryAt listStartAt contentAt bodyAt startAt saysAt onward beginAt entryNext stepAt nextAt
+no-entries-lists h = no-list _ refl (h message 0 _ _ refl refl)
+
 pub fall : Fall
 fall =
     record {
@@ -191,4 +236,7 @@ fall =
       once-mark3 = once-mark3;
       invents-b6 = invents-b6;
       invents-mark3 = invents-mark3;
+      silent-events = silent-events;
+      no-entries-events = no-entries-events;
+      no-entries-lists = no-entries-lists;
     }

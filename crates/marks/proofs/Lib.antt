@@ -6,6 +6,9 @@ pub mod Soundness
 pub mod Completeness
 pub mod Bench
 pub mod Encoders
+pub mod Events
+pub mod Undone
+pub mod MessageViews
 pub mod Decided
 pub mod Fakes
 pub mod Marks

@@ -5,6 +5,7 @@ use Rattle.marks.proofs.Soundness.{soundness}
 use Rattle.marks.proofs.Completeness.{completeness, new-searches}
 use Rattle.marks.proofs.Encoders.{same-bytes}
 use Rattle.marks.proofs.Recovery.{mark3}
+use Rattle.marks.proofs.Events.{reader-gives, parser-gives, reader-lists, parser-lists}
 use Rattle.marks.proofs.Bench.{bench}
 use Rattle.marks.proofs.Fakes.{fall}
 
@@ -18,6 +19,10 @@ marks =
       new-searches = new-searches;
       same-bytes = same-bytes;
       mark3 = mark3;
+      reader-gives = reader-gives;
+      parser-gives = parser-gives;
+      reader-lists = reader-lists;
+      parser-lists = parser-lists;
       bench = bench;
       fall = fall;
     }

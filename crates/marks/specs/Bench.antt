@@ -46,6 +46,7 @@ pub data Outcome : Type 0 where
 abbrev pub said : ℕ → Answer → Said
 said n a = record { at = n; answer = a }
 
+-- all answers but `nothing`, the first being that of operation n
 unfoldable pub saidFrom : ℕ → List Answer → List Said
 saidFrom n [] = []
 saidFrom n (nothing ∷ more) = saidFrom (suc n) more
@@ -53,6 +54,7 @@ saidFrom n (payload bytes ∷ more) = said n (payload bytes) ∷ saidFrom (suc n
 saidFrom n (count k ∷ more) = said n (count k) ∷ saidFrom (suc n) more
 saidFrom n (refused k values ∷ more) = said n (refused k values) ∷ saidFrom (suc n) more
 
+-- what comes out of a decoder, an encode and the definitions of the length and number rules
 abbrev pub outcome : {S : Type 0} → Machine S → Encode → Input → Outcome
 outcome M enc (encode P n) = encoded (enc P (replicate n 0xff))
 outcome M enc (decode C bytes) = events (saidFrom 1 (answers M (M .new (record { capacity = C })) (replicate C 0x00) (map push bytes ++ finalize ∷ [])))

@@ -3,15 +3,18 @@ use mathlib.Core.Path.{_≡_}
 use mathlib.Core.Bool.{Bool}
 use mathlib.Core.List.{List}
 use Prim.Native.Nat.{ℕ}
+use denote.Ref.{RefT}
 use Rattle.crc_x25.specs.Crc.{start, byteStep, register, finalXor, crcOf}
 use Rattle.tlf.specs.Read.{byteAt, spanAt}
-use Rattle.tlf.specs.Refusals.{byteRead, spanRead, tlfRead}
-use Rattle.tlf.specs.Lengths.{isList, isBoolean, tlfAt}
+use Rattle.tlf.specs.Refusals.{byteRead, spanRead, tlfRead, placeRead}
+use Rattle.tlf.specs.Lengths.{isList, isBoolean, tlfAt, isListOf, listOfAt}
 use Rattle.tlf.specs.declared.Ty.{Ty}
 use Rattle.tlf.specs.declared.Span.{Span}
 use Rattle.tlf.specs.declared.ByteRead.{ByteRead}
 use Rattle.tlf.specs.declared.SpanRead.{SpanRead}
 use Rattle.tlf.specs.declared.TlfRead.{TlfRead}
+use Rattle.tlf.specs.declared.PlaceRead.{PlaceRead}
+use Rattle.tlf.specs.declared.TypeLengthField.{TypeLengthField}
 use Rattle.num.specs.Numbers.{unsignedAt, signedAt, boolAt}
 use Rattle.num.specs.Answers.{u8Read, u16Read, u32Read, u64Read, i8Read, i16Read, i32Read, i64Read, boolRead}
 use Rattle.num.specs.declared.U8Read.{U8Read}
@@ -32,15 +35,50 @@ use Rattle.encoder.specs.Encode as E
 use Rattle.encoder.specs.Encode.{encodeTo}
 use Rattle.encoder.specs.Encoder as N
 use Rattle.encoder.specs.Encoder.{stepOf, nextStep}
+use Rattle.encoder.specs.declared.Item.{Item}
 use Rattle.encoder.specs.declared.Encoded.{Encoded}
 use Rattle.encoder.specs.declared.Encoder.{Encoder}
 use Rattle.encoder.specs.declared.Given.{Given}
-use Rattle.decoder.specs.Record.{leaves, leavesFinal, leavesReset, answerAsked, newRecord, pushRecord, finalizeRecord, resetRecord, askRecord, payloadRecord}
+use Rattle.decoder.specs.Push.{starts}
+use Rattle.decoder.specs.Record.{leaves, leavesFinal, leavesReset, answerAsked, newRecord, pushRecord, finalizeRecord, resetRecord, askRecord, payloadRecord, badState, wrongBuffer}
+use Rattle.decoder.specs.declared.Event.{Event}
 use Rattle.decoder.specs.declared.Decoder.{Decoder}
 use Rattle.decoder.specs.declared.Pushed.{Pushed}
 use Rattle.decoder.specs.declared.Finalized.{Finalized}
 use Rattle.decoder.specs.declared.Resetted.{Resetted}
 use Rattle.decoder.specs.declared.Asked.{Asked}
+use Rattle.slice.specs.Slice as S
+use Rattle.slice.specs.Slice.{sliceRecord}
+use Rattle.slice.specs.declared.Sliced.{Sliced}
+use Rattle.bench.specs.Bench.{counted, payloads, encoded, streamed}
+use Rattle.value.specs.Values.{timeAt, statusAt, valueAt}
+use Rattle.value.specs.Answers.{timeRead, statusRead, valueRead, optU8Read, optI8Read, optTimeRead, optStatusRead}
+use Rattle.value.specs.declared.TimeRead.{TimeRead}
+use Rattle.value.specs.declared.StatusRead.{StatusRead}
+use Rattle.value.specs.declared.ValueRead.{ValueRead}
+use Rattle.value.specs.declared.OptU8Read.{OptU8Read}
+use Rattle.value.specs.declared.OptI8Read.{OptI8Read}
+use Rattle.value.specs.declared.OptTimeRead.{OptTimeRead}
+use Rattle.value.specs.declared.OptStatusRead.{OptStatusRead}
+use Rattle.common.specs.Fields.{openAt, closeAt, entryAt, messageEndAt}
+use Rattle.common.specs.Answers.{openRead, closeRead, entryRead}
+use Rattle.common.specs.declared.OpenRead.{OpenRead}
+use Rattle.common.specs.declared.CloseRead.{CloseRead}
+use Rattle.common.specs.declared.EntryRead.{EntryRead}
+use Rattle.message.specs.Messages.{listStartAt, listEndAt, bodyAt, startAt}
+use Rattle.message.specs.Answers.{listStartRead, listEndRead, bodyRead, startRead}
+use Rattle.message.specs.declared.ListStartRead.{ListStartRead}
+use Rattle.message.specs.declared.ListEndRead.{ListEndRead}
+use Rattle.message.specs.declared.BodyRead.{BodyRead}
+use Rattle.message.specs.declared.StartRead.{StartRead}
+use Rattle.trailer.specs.Trailer.{trailerAt}
+use Rattle.streaming.specs.Next.{nextAt}
+use Rattle.streaming.specs.Answers.{after}
+use Rattle.streaming.specs.declared.Answer.{Answer}
+use Rattle.streaming.specs.declared.Next.{Next}
+use Rattle.parser.specs.Reader as P
+use Rattle.parser.specs.Reader.{readerOf, nextOf}
+use Rattle.parser.specs.declared.Parser.{Parser}
 
 -- any two outcomes that a description allows are equal
 abbrev pub One : {R : Type 0} → (R → Type 0) → Type 0
@@ -51,15 +89,21 @@ pub record With (R : Type 0) : Type 0 where
   pub answer : R
   pub memory : List ℕ
 
+-- an answer, and what a record that was lent to be changed in place is then
+pub record Beside (R D : Type 0) : Type 0 where
+  pub answer : R
+  pub lent : D
+
 -- a view gives document 01's number and values for each case of an answer; it loses nothing where two answers that look the same in it are the same
 abbrev pub Injective : {R A : Type 0} → (R → A) → Type 0
 Injective {R} view = (r r′ : R) → view r ≡ view r′ → r ≡ r′
 
--- every view that a contract cites
+-- every view that a contract cites; where memory or a record is lent to be changed, the view of the answer together with it
 pub record Views : Type 0 where
   pub byte : Injective byteRead
   pub span : Injective spanRead
   pub tlf : Injective tlfRead
+  pub place : Injective placeRead
   pub u8 : Injective u8Read
   pub u16 : Injective u16Read
   pub u32 : Injective u32Read
@@ -77,8 +121,30 @@ pub record Views : Type 0 where
   pub finalized : Injective leavesFinal
   pub resetted : Injective leavesReset
   pub asked : Injective answerAsked
+  pub pushed-in-place : Injective (λ (r : With (Beside Event Decoder)). leaves (record { decoder = r .answer .lent; event = r .answer .answer }) (r .memory))
+  pub finalized-in-place : Injective (λ (r : Beside Event Decoder). leavesFinal (record { decoder = r .lent; event = r .answer }))
+  pub resetted-in-place : Injective (λ (r : Beside ℕ Decoder). leavesReset (record { decoder = r .lent; count = r .answer }))
+  pub next-in-place : Injective (λ (r : Beside Item Encoder). stepOf (record { answer = r .answer; encoder = r .lent }))
+  pub sliced : Injective (λ (r : With Sliced). S.leaves (r .answer) (r .memory))
+  pub number : Injective (λ (r : With ℕ). counted (r .answer) (r .memory))
+  pub time : Injective timeRead
+  pub status : Injective statusRead
+  pub value : Injective valueRead
+  pub optional-u8 : Injective optU8Read
+  pub optional-i8 : Injective optI8Read
+  pub optional-time : Injective optTimeRead
+  pub optional-status : Injective optStatusRead
+  pub open-response : Injective openRead
+  pub close-response : Injective closeRead
+  pub list-entry : Injective entryRead
+  pub list-start : Injective listStartRead
+  pub list-end : Injective listEndRead
+  pub message-body : Injective bodyRead
+  pub message-start : Injective startRead
+  pub event : Injective after
+  pub event-in-place : Injective (λ (r : Beside Answer Parser). P.leaves (r .answer) (r .lent))
 
--- every public function, in the order of the crates; a part that is handed back is told by its content
+-- Every public function, crate by crate: over its parameters, what its `ensures` allows. A slice or record that is lent stands for what it holds at the call, and a part that is handed back for its content
 pub record Decided : Type 0 where
   -- crc_x25
   pub digest : One (λ (r : ℕ). r ≡ start)
@@ -92,6 +158,8 @@ pub record Decided : Type 0 where
   pub is-list : (self : Ty) → One (λ (r : Bool). r ≡ isList self)
   pub is-boolean : (self : Ty) → One (λ (r : Bool). r ≡ isBoolean self)
   pub tlf-parse : (input : List ℕ) (at : ℕ) → One (λ (r : TlfRead). tlfRead r ≡ tlfAt input at)
+  pub is-list-of : (self : TypeLengthField) (n : ℕ) → One (λ (r : Bool). r ≡ isListOf n self)
+  pub parse-list-of : (input : List ℕ) (at n : ℕ) → One (λ (r : PlaceRead). placeRead r ≡ listOfAt n input at)
   -- num
   pub parse-u8 : (input : List ℕ) (at : ℕ) → One (λ (r : U8Read). u8Read r ≡ unsignedAt 1 input at)
   pub parse-u16 : (input : List ℕ) (at : ℕ) → One (λ (r : U16Read). u16Read r ≡ unsignedAt 2 input at)
@@ -114,8 +182,54 @@ pub record Decided : Type 0 where
   pub encode : (payload out : List ℕ) → One (λ (r : With Encoded). E.leaves (E.answerOf (r .answer)) (r .memory) ≡ encodeTo payload out)
   -- decoder
   pub decoder-new : (capacity : ℕ) → One (λ (r : Decoder). r ≡ newRecord capacity)
+  pub matching : (n b : ℕ) → One (λ (r : Bool). r ≡ starts n b)
+  pub bad-state : (d : Decoder) → One (λ (r : Bool). r ≡ badState d)
+  pub wrong-buffer : (recorded lent : ℕ) → One (λ (r : Bool). r ≡ wrongBuffer recorded lent)
   pub push-byte : (self : Decoder) (buf : List ℕ) (b : ℕ) → One (λ (r : With Pushed). leaves (r .answer) (r .memory) ≡ pushRecord self buf b)
   pub decoder-finalize : (self : Decoder) → One (λ (r : Finalized). leavesFinal r ≡ finalizeRecord self)
   pub reset : (self : Decoder) → One (λ (r : Resetted). leavesReset r ≡ resetRecord self)
   pub ask-payload : (self : Decoder) (buf : List ℕ) → One (λ (r : Asked). answerAsked r ≡ askRecord self buf)
   pub payload : (self : Decoder) (buf : List ℕ) → One (λ (r : List ℕ). r ≡ payloadRecord self buf)
+  -- transport: d and e are the records at the call
+  pub transport-push : (d : Decoder) (buf : List ℕ) (b : ℕ) → One (λ (r : With (Beside Event Decoder)). leaves (record { decoder = r .answer .lent; event = r .answer .answer }) (r .memory) ≡ pushRecord d buf b)
+  pub transport-finalize : (d : Decoder) → One (λ (r : Beside Event Decoder). leavesFinal (record { decoder = r .lent; event = r .answer }) ≡ finalizeRecord d)
+  pub transport-reset : (d : Decoder) → One (λ (r : Beside ℕ Decoder). leavesReset (record { decoder = r .lent; count = r .answer }) ≡ resetRecord d)
+  pub push-lent : (d : Decoder) (buf : List ℕ) (b : ℕ) → One (λ (r : With Pushed). leaves (r .answer) (r .memory) ≡ pushRecord d buf b)
+  pub finalize-lent : (d : Decoder) → One (λ (r : Finalized). leavesFinal r ≡ finalizeRecord d)
+  pub reset-lent : (d : Decoder) → One (λ (r : Resetted). leavesReset r ≡ resetRecord d)
+  pub transport-next : (e : Encoder) (payload : List ℕ) → One (λ (r : Beside Item Encoder). stepOf (record { answer = r .answer; encoder = r .lent }) ≡ nextStep e payload)
+  pub next-lent : (e : Encoder) (payload : List ℕ) → One (λ (r : Given). stepOf r ≡ nextStep e payload)
+  -- slice
+  pub push-slice : (d : Decoder) (buf chunk : List ℕ) → One (λ (r : With Sliced). S.leaves (r .answer) (r .memory) ≡ sliceRecord d buf chunk)
+  -- bench
+  pub bench-push : (src buf : List ℕ) → One (λ (r : With ℕ). counted (r .answer) (r .memory) ≡ payloads src buf)
+  pub bench-push-slice : (src buf : List ℕ) → One (λ (r : With ℕ). counted (r .answer) (r .memory) ≡ payloads src buf)
+  pub bench-encode : (payload out : List ℕ) → One (λ (r : With ℕ). counted (r .answer) (r .memory) ≡ encoded payload out)
+  pub bench-stream : (payload : List ℕ) → One (λ (r : ℕ). r ≡ streamed payload)
+  pub bench-crc : (src : List ℕ) → One (λ (r : ℕ). r ≡ crcOf src)
+  -- value
+  pub parse-time : (input : List ℕ) (at : ℕ) → One (λ (r : TimeRead). timeRead r ≡ timeAt input at)
+  pub parse-status : (input : List ℕ) (at : ℕ) → One (λ (r : StatusRead). statusRead r ≡ statusAt input at)
+  pub parse-value : (input : List ℕ) (at : ℕ) → One (λ (r : ValueRead). valueRead r ≡ valueAt input at)
+  pub parse-opt-u8 : (input : List ℕ) (at : ℕ) → One (λ (r : OptU8Read). optU8Read r ≡ optional (unsignedAt 1) input at)
+  pub parse-opt-i8 : (input : List ℕ) (at : ℕ) → One (λ (r : OptI8Read). optI8Read r ≡ optional (signedAt 1) input at)
+  pub parse-opt-time : (input : List ℕ) (at : ℕ) → One (λ (r : OptTimeRead). optTimeRead r ≡ optional timeAt input at)
+  pub parse-opt-status : (input : List ℕ) (at : ℕ) → One (λ (r : OptStatusRead). optStatusRead r ≡ optional statusAt input at)
+  -- common
+  pub parse-open-response : (input : List ℕ) (at : ℕ) → One (λ (r : OpenRead). openRead r ≡ openAt input at)
+  pub parse-close-response : (input : List ℕ) (at : ℕ) → One (λ (r : CloseRead). closeRead r ≡ closeAt input at)
+  pub parse-list-entry : (input : List ℕ) (at : ℕ) → One (λ (r : EntryRead). entryRead r ≡ entryAt input at)
+  pub parse-message-end : (input : List ℕ) (at : ℕ) → One (λ (r : PlaceRead). placeRead r ≡ messageEndAt input at)
+  -- message
+  pub parse-list-start : (input : List ℕ) (at : ℕ) → One (λ (r : ListStartRead). listStartRead r ≡ listStartAt input at)
+  pub parse-list-end : (input : List ℕ) (at : ℕ) → One (λ (r : ListEndRead). listEndRead r ≡ listEndAt input at)
+  pub parse-message-body : (input : List ℕ) (at : ℕ) → One (λ (r : BodyRead). bodyRead r ≡ bodyAt input at)
+  pub parse-message-start : (input : List ℕ) (at : ℕ) → One (λ (r : StartRead). startRead r ≡ startAt input at)
+  -- trailer
+  pub parse-trailer : (input : List ℕ) (start at : ℕ) → One (λ (r : PlaceRead). placeRead r ≡ trailerAt input start at)
+  -- streaming
+  pub parse-next : (input : List ℕ) (at start pending : ℕ) → One (λ (r : Next). after r ≡ nextAt input at start pending)
+  -- parser: the input is held as it was lent, a reference; self is the reader at the call
+  pub parser-new : (input : RefT (List ℕ)) → One (λ (r : Parser). r ≡ readerOf input)
+  pub parser-next : (self : Parser) → One (λ (r : Beside Answer Parser). P.leaves (r .answer) (r .lent) ≡ nextOf self)
+  pub next-from : (input : List ℕ) (at start pending : ℕ) → One (λ (r : Next). after r ≡ nextAt input at start pending)

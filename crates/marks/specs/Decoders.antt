@@ -20,16 +20,17 @@ pub record Machine (S : Type 0) : Type 0 where
   pub act : S → List ℕ → Op → Gave S
   pub payloadOf : S → List ℕ → List ℕ
 
--- ours, by the definitions that the contracts of new, push_byte, finalize, reset and payload cite
+-- what the definition of an operation leaves of our record and the memory, as such a call
 abbrev pub gave : After → Gave Decoder
 gave a = record { answer = a .answer; decoder = a .decoder; memory = a .memory }
 
+-- ours, by the definitions that the contracts of new, push_byte, finalize, reset and payload cite; `R.act` of crate decoder takes the one that an operation names
 abbrev pub ours : Machine Decoder
 ours = record { new = λ C. newRecord (C .capacity); act = λ d m o. gave (R.act d m o); payloadOf = payloadRecord }
 
 -- ---- in use
 
--- an answer for each operation
+-- an answer for each operation, each with the decoder and the memory that the one before left
 unfoldable pub answers : {S : Type 0} → Machine S → S → List ℕ → List Op → List Answer
 answers M d m [] = []
 answers M d m (o ∷ os) =
@@ -45,7 +46,7 @@ behind M d m (p ∷ os) o =
 
 -- ---- what was pushed, told by the operations and their answers alone
 
--- the bytes pushed since the last payload, refusal, finalize or reset, with the n before
+-- how many bytes were pushed since the last payload, refusal, finalize or reset, with n before these operations; the list `more` has their answers
 unfoldable pub countFrom : ℕ → List Op → List Answer → ℕ
 countFrom n [] more = n
 countFrom n (o ∷ os) [] = n
@@ -71,6 +72,7 @@ bytesFrom h (push b ∷ os) (refused k values ∷ more) = bytesFrom (h ++ b ∷ 
 bytesFrom h (finalize ∷ os) (a ∷ more) = bytesFrom [] os more
 bytesFrom h (reset ∷ os) (a ∷ more) = bytesFrom [] os more
 
+-- or else since the start
 abbrev pub bytesSince : List Op → List Answer → List ℕ
 bytesSince os more = bytesFrom [] os more
 

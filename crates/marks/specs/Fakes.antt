@@ -1,4 +1,4 @@
--- What a reader must believe: the fakes of document 01, each a small decoder or encoder, and which claim or row of the bench sheet is false of it.
+-- What a reader must believe: the fakes of document 01, each a small decoder, encoder or reader of messages, and which claim or row of the bench sheet is false of it.
 use mathlib.Core.Bool.{Bool, true, false, cond}
 use mathlib.Core.List.{List, [], _∷_}
 use Prim.Native.Nat.{ℕ, suc}
@@ -8,10 +8,12 @@ use Rattle.encoder.specs.Encoder.{finished}
 use Rattle.decoder.specs.Record.{Answer, nothing, payload, count, refused}
 use Rattle.decoder.specs.Run.{Op, push, finalize, reset}
 use Rattle.decoder.specs.declared.Decoder.{Decoder}
+use Rattle.streaming.specs.Next.{Said, event, starts, entry, ends, noEvent, failed}
 use Rattle.marks.specs.Decoders.{Gave, Machine, ours}
 use Rattle.marks.specs.Mark2.{Soundness, Completeness, OurSearch}
 use Rattle.marks.specs.Mark3.{Encode, Mark3}
 use Rattle.marks.specs.Encoders.{Caller, SameBytes}
+use Rattle.marks.specs.Events.{Reader, Numbers, ourReader, ReaderGives, ListsEntries}
 use Rattle.marks.specs.Bench.{Holds, b1, b3, b6}
 
 -- ours, but for what it answers
@@ -23,7 +25,7 @@ retold f =
       payloadOf = ours .payloadOf;
     }
 
--- refuses everything, as if every record were a bad one
+-- refuses everything, as if every record were a bad one (4)
 abbrev pub refuses : Machine Decoder
 refuses = record { new = ours .new; act = λ d m o. record { answer = refused 4 []; decoder = d; memory = m }; payloadOf = λ d m. [] }
 
@@ -63,12 +65,14 @@ pub record Spent : Type 0 where
   pub decoder : Decoder
   pub spent : Bool
 
+-- its answer: once it gave a payload, every later one is empty
 abbrev pub emptied : Bool → Answer → Answer
 emptied b nothing = nothing
 emptied b (payload bytes) = cond b (payload []) (payload bytes)
 emptied b (count k) = count k
 emptied b (refused k values) = refused k values
 
+-- whether it gave a payload, with this answer
 abbrev pub spends : Bool → Answer → Bool
 spends b nothing = b
 spends b (payload bytes) = true
@@ -95,7 +99,31 @@ refusesToEncode P output = leaves (E.refused 1) output
 abbrev pub finishedAtOnce : Caller Bool
 finishedAtOnce = record { new = true; next = λ e P. record { answer = finished; encoder = e } }
 
--- each of them falls
+-- ours, but for what it says
+abbrev pub resaid : (Said → Said) → Reader (List ℕ) Numbers
+resaid f =
+    record {
+      bytes = ourReader .bytes;
+      new = ourReader .new;
+      next = λ s r. record { said = f (ourReader .next s r .said); reader = ourReader .next s r .reader };
+    }
+
+-- a reader without events
+abbrev pub silent : Reader (List ℕ) Numbers
+silent = resaid (λ x. noEvent)
+
+-- a list start and no entries
+abbrev pub entryless : Said → Said
+entryless (event (starts m)) = event (starts m)
+entryless (event (entry e)) = noEvent
+entryless (event (ends e)) = event (ends e)
+entryless noEvent = noEvent
+entryless (failed f) = failed f
+
+abbrev pub noEntries : Reader (List ℕ) Numbers
+noEntries = resaid entryless
+
+-- each of them falls: a row of the bench sheet or a mark that is false of it
 pub record Fall : Type 0 where
   pub refuses-b3 : Holds refuses encodeTo b3 → ⊥
   pub refuses-mark3 : Mark3 refuses encodeTo → ⊥
@@ -110,3 +138,6 @@ pub record Fall : Type 0 where
   pub once-mark3 : Mark3 once encodeTo → ⊥
   pub invents-b6 : Holds invents encodeTo b6 → ⊥
   pub invents-mark3 : Mark3 invents encodeTo → ⊥
+  pub silent-events : ReaderGives silent → ⊥
+  pub no-entries-events : ReaderGives noEntries → ⊥
+  pub no-entries-lists : ListsEntries noEntries → ⊥

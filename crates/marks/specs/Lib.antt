@@ -2,6 +2,7 @@ pub mod Decoders
 pub mod Mark2
 pub mod Mark3
 pub mod Encoders
+pub mod Events
 pub mod Bench
 pub mod Decided
 pub mod Fakes

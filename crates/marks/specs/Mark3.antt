@@ -26,6 +26,7 @@ Suits C j =
     (length (j .payload) + missing (length (j .payload)) + 4 ≤ C .capacity)
     × (length (frameOf (j .payload)) ≤ length (j .output))
 
+-- each of several jobs does
 abbrev pub AllSuit : Setup → List Job → Type 0
 AllSuit C [] = Unit {0}
 AllSuit C (j ∷ js) = Suits C j × AllSuit C js
@@ -35,6 +36,7 @@ abbrev pub part : E.Answer → List ℕ → List ℕ
 part (length-is n) output = take n output
 part (E.refused k) output = []
 
+-- those that it wrote for a job
 abbrev pub wroteFor : Encode → Job → List ℕ
 wroteFor encode j =
     let l = encode (j .payload) (j .output) in
@@ -45,7 +47,7 @@ unfoldable pub framesFor : Encode → List Job → List ℕ
 framesFor encode [] = []
 framesFor encode (j ∷ js) = wroteFor encode j ++ framesFor encode js
 
--- what they answer behind a payload
+-- what the pushes of these bytes answer behind a payload: each frame its own payload, with no count of discarded bytes
 unfoldable pub restSays : Encode → List Job → List Answer
 restSays encode [] = []
 restSays encode (j ∷ js) = frameSays nothing (wroteFor encode j) (j .payload) ++ restSays encode js

@@ -10,6 +10,7 @@ use Rattle.marks.specs.Decoders.{ours}
 use Rattle.marks.specs.Mark2.{Soundness, Completeness, OurSearch}
 use Rattle.marks.specs.Mark3.{Mark3}
 use Rattle.marks.specs.Encoders.{ourEncoder, SameBytes}
+use Rattle.marks.specs.Events.{ourReader, ourParser, ReaderGives, ListsEntries}
 use Rattle.marks.specs.Bench.{Bench}
 use Rattle.marks.specs.Fakes.{Fall}
 
@@ -25,6 +26,11 @@ pub record Marks : Type 0 where
   pub same-bytes : SameBytes ourEncoder encodeTo
   -- mark 3: behind zero bytes every frame is heard
   pub mark3 : Mark3 ours encodeTo
+  -- message events: those of the tables, call by call, and of a list as many entries as its start says, or a refusal
+  pub reader-gives : ReaderGives ourReader
+  pub parser-gives : ReaderGives ourParser
+  pub reader-lists : ListsEntries ourReader
+  pub parser-lists : ListsEntries ourParser
   -- B1 to B14
   pub bench : Bench ours encodeTo
   -- and what they are false of

@@ -1,0 +1,159 @@
+-- Repeated calls give the events of the tables, and so a list start is followed by its entries and end, or by a refusal.
+use mathlib.Core.Path.{_≡_, refl, sym, ap, _∙_}
+use mathlib.Core.List.{List, [], _∷_}
+use mathlib.Core.Bool.{Bool, true, false, false≢true}
+use Prim.Native.Nat.{ℕ, zero, suc}
+use lib.ListN.{length}
+use lib.Dec.{ltb, leb}
+use denote.Ref.{RefT, now}
+use Rattle.frame.proofs.Cases.{by-test}
+use Rattle.tlf.specs.Read.{Read, got, refused, eof}
+use Rattle.tlf.specs.declared.Span.{Span}
+use Rattle.common.specs.Fields.{entryAt}
+use Rattle.message.specs.Messages.{MessageStart, ListStart, Body, opened, closed, listed, startAt, listEndAt}
+use Rattle.trailer.specs.Trailer.{trailerAt}
+use Rattle.streaming.specs.Next.{Event, starts, entry, ends, Said, event, noEvent, failed, inputTooLong}
+use Rattle.events.specs.Events.{Answers, nth, answer, says, atStart, inside, entriesFrom, contentFrom, messagesFrom, eventsOf}
+use Rattle.events.specs.Calls.{call}
+use Rattle.events.proofs.Calls.{calls-are-events}
+use Rattle.events.proofs.Lists.{Listing, stops, lists, ended, list-content}
+use Rattle.marks.specs.Events as E
+use Rattle.marks.specs.Events.{Reader, ourReader, ourParser, saysAt, ReaderGives, Follows, refuses, closes, ListsEntries}
+
+-- ---- our two readers are the calls of crate events
+
+reader-calls : (s : List ℕ) (at start pending k : ℕ) → saysAt ourReader s (record { place = at; start = start; pending = pending }) k ≡ call k s at start pending
+unfolding saysAt call
+reader-calls s at start pending zero = refl
+reader-calls s at start pending (suc k) = reader-calls s _ _ _ k
+
+parser-calls : (i : RefT (List ℕ)) (at start pending k : ℕ)
+    → saysAt ourParser i (record { input = i; place = at; «message_start» = start; pending = pending }) k ≡ call k (now i) at start pending
+unfolding saysAt call
+parser-calls i at start pending zero = refl
+parser-calls i at start pending (suc k) = parser-calls i _ _ _ k
+
+pub reader-gives : ReaderGives ourReader
+reader-gives s k = reader-calls s 0 0 0 k ∙ calls-are-events s k
+
+pub parser-gives : ReaderGives ourParser
+parser-gives i k = parser-calls i 0 0 0 k ∙ calls-are-events (now i) k
+
+-- ---- lists, in what the tables say
+
+-- what is said one call later
+follows-later : (a : Answers) (e : Event Span) {n k : ℕ} → Follows (answer a) n k → Follows (answer (says e a)) n (suc k)
+unfolding answer says nth
+follows-later a e (refuses f h) = refuses f h
+follows-later a e (E.lists x h more) = E.lists x h (follows-later a e more)
+follows-later a e (closes x h) = closes x h
+
+-- entries and the end, from the first answer on
+listing-follows : {n : ℕ} {a : Answers} → Listing n a → Follows (answer a) n 0
+unfolding answer says nth
+listing-follows (stops f x) = refuses f refl
+listing-follows (lists e {a = a} more) = E.lists e refl (follows-later a (entry e) (listing-follows more))
+listing-follows (ended e a) = closes e refl
+
+-- every list start in the answers is followed so
+pub record Listed (a : Answers) : Type 0 where
+  pub listed′ : (k : ℕ) (m : MessageStart Span) (b : ListStart Span) → answer a k ≡ event (starts m) → m .body ≡ listed b → Follows (answer a) (b .count) (suc k)
+
+-- a message start that an answer is
+isStart : Said → Bool
+isStart (event (starts m)) = true
+isStart (event (entry e)) = false
+isStart (event (ends e)) = false
+isStart noEvent = false
+isStart (failed f) = false
+
+-- the start that an answer is, or else m
+startIn : MessageStart Span → Said → MessageStart Span
+startIn m (event (starts x)) = x
+startIn m (event (entry e)) = m
+startIn m (event (ends e)) = m
+startIn m noEvent = m
+startIn m (failed f) = m
+
+no-start : {x : Said} {m : MessageStart Span} {P : Type 0} → isStart x ≡ false → x ≡ event (starts m) → P
+unfolding isStart
+no-start h e = absurd (false≢true (sym h ∙ ap isStart e))
+
+listed-then : (x y : Said) → isStart x ≡ false → isStart y ≡ false → Listed (record { first = x ∷ []; later = y })
+unfolding answer nth
+listed-then x y h g = record { listed′ = by }
+  where
+    by : (k : ℕ) (m : MessageStart Span) (b : ListStart Span) → answer (record { first = x ∷ []; later = y }) k ≡ event (starts m) → m .body ≡ listed b
+        → Follows (answer (record { first = x ∷ []; later = y })) (b .count) (suc k)
+    by zero m b e f = no-start h e
+    by (suc k) m b e f = no-start g e
+
+listed-ever : (y : Said) → isStart y ≡ false → Listed (record { first = []; later = y })
+unfolding answer nth
+listed-ever y g = record { listed′ = λ k m b e f. no-start g e }
+
+listed-says : (v : Event Span) (a : Answers) → isStart (event v) ≡ false → Listed a → Listed (says v a)
+unfolding answer nth says
+listed-says v a h g = record { listed′ = by }
+  where
+    by : (k : ℕ) (m : MessageStart Span) (b : ListStart Span) → answer (says v a) k ≡ event (starts m) → m .body ≡ listed b → Follows (answer (says v a)) (b .count) (suc k)
+    by zero m b e f = no-start h e
+    by (suc k) m b e f = follows-later a v (g .listed′ k m b e f)
+
+listed-starts : (x : MessageStart Span) (a : Answers) → ((b : ListStart Span) → x .body ≡ listed b → Follows (answer a) (b .count) 0) → Listed a → Listed (says (starts x) a)
+unfolding answer nth says startIn
+listed-starts x a h g = record { listed′ = by }
+  where
+    by : (k : ℕ) (m : MessageStart Span) (b : ListStart Span) → answer (says (starts x) a) k ≡ event (starts m) → m .body ≡ listed b → Follows (answer (says (starts x) a)) (b .count) (suc k)
+    by zero m b e f = follows-later a (starts x) (h b (ap (λ (s : Said). startIn x s .body) e ∙ f))
+    by (suc k) m b e f = follows-later a (starts x) (g .listed′ k m b e f)
+
+listed-inside : {A : Type 0} (end : ℕ) (r : Read A) (k : A → ℕ → Answers) → ((x : A) (n : ℕ) → Listed (k x n)) → Listed (inside end r k)
+unfolding inside isStart
+listed-inside end (got x n) k h = h x n
+listed-inside end (refused f) k h = listed-then (failed f) (failed (eof end)) refl refl
+
+listed-at-start : {A : Type 0} (r : Read A) (k : A → ℕ → Answers) → ((x : A) (n : ℕ) → Listed (k x n)) → Listed (atStart r k)
+unfolding atStart isStart
+listed-at-start (got x n) k h = h x n
+listed-at-start (refused f) k h = listed-then (failed f) noEvent refl refl
+
+listed-entries : (c : ℕ) (s : List ℕ) (at : ℕ) (k : ℕ → Answers) → ((n : ℕ) → Listed (k n)) → Listed (entriesFrom c s at k)
+unfolding entriesFrom isStart
+listed-entries zero s at k h = h at
+listed-entries (suc c) s at k h = listed-inside (length s) (entryAt s at) _ (λ e n. listed-says (entry e) _ refl (listed-entries c s n k h))
+
+listed-content : (b : Body Span) (s : List ℕ) (at : ℕ) (k : ℕ → Answers) → ((n : ℕ) → Listed (k n)) → Listed (contentFrom b s at k)
+unfolding contentFrom isStart
+listed-content (opened b) s at k h = h at
+listed-content (closed b) s at k h = h at
+listed-content (listed b) s at k h = listed-entries (b .count) s at _ (λ n. listed-inside (length s) (listEndAt s n) _ (λ e m. listed-says (ends e) _ refl (h m)))
+
+listed-messages : (many : ℕ) (s : List ℕ) (at : ℕ) → Listed (messagesFrom many s at)
+unfolding messagesFrom isStart
+listed-messages zero s at = listed-ever noEvent refl
+listed-messages (suc many) s at =
+    by-test Listed (leb (length s) at) _ _ (λ e. listed-ever noEvent refl)
+    (λ e. listed-at-start (startAt s at) _
+    (λ m n. listed-starts m _ (λ b f. rw f (listing-follows (list-content b s n _)))
+    (listed-content (m .body) s n _ (λ n₂. listed-inside (length s) (trailerAt s at n₂) _ (λ t n₃. listed-messages many s n₃)))))
+
+tables-list : (s : List ℕ) → Listed (eventsOf s)
+unfolding eventsOf isStart
+tables-list s = by-test Listed (ltb 1048576 (length s)) _ _ (λ e. listed-ever (failed inputTooLong) refl) (λ e. listed-messages (suc (length s)) s 0)
+
+-- ---- and so of every reader that says what they say
+
+follows-alike : {f g : ℕ → Said} {n k : ℕ} → ((j : ℕ) → f j ≡ g j) → Follows g n k → Follows f n k
+follows-alike h (refuses x e) = refuses x (h _ ∙ e)
+follows-alike h (E.lists x e more) = E.lists x (h _ ∙ e) (follows-alike h more)
+follows-alike h (closes x e) = closes x (h _ ∙ e)
+
+lists-entries : {I S : Type 0} (R : Reader I S) → ReaderGives R → ListsEntries R
+lists-entries R h i k m b e f = follows-alike (h i) (tables-list (R .bytes i) .listed′ k m b (sym (h i k) ∙ e) f)
+
+pub reader-lists : ListsEntries ourReader
+reader-lists = lists-entries ourReader reader-gives
+
+pub parser-lists : ListsEntries ourParser
+parser-lists = lists-entries ourParser parser-gives

@@ -1,0 +1,89 @@
+-- A view that can be undone loses nothing, and a description by such a view allows one outcome; what every reading's view is undone by.
+use mathlib.Core.Path.{_≡_, refl, sym, ap, _∙_}
+use mathlib.Core.Bool.{cond}
+use mathlib.Core.Option.{Option, some, none}
+use Prim.Native.Nat.{ℕ}
+use lib.Dec.{eqb}
+use Rattle.tlf.specs.Read.{Read, got, refused, Refusal}
+use Rattle.tlf.specs.Refusals.{refusalOf, faultOf}
+use Rattle.tlf.specs.declared.TlfParseError.{TlfParseError}
+use Rattle.tlf.specs.declared.TlfParseError.the-variants.{TlfLengthOverflow, TlfReserved, TlfLengthUnderflow, TlfNextByteTypeMismatch, TlfInvalidTy}
+use Rattle.tlf.specs.declared.ParseError.{ParseError}
+use Rattle.tlf.specs.declared.ParseError.the-variants.{UnexpectedEOF, InvalidTlf, TlfMismatch, CrcMismatch, MsgEndMismatch, UnexpectedVariant}
+use Rattle.tlf.specs.declared.Fault.{Fault}
+use Rattle.marks.specs.Decided.{One, Injective}
+
+-- ---- the argument, once
+
+-- a description that names the outcome itself
+pub plain : {R : Type 0} (s : R) → One (λ (r : R). r ≡ s)
+plain s r r′ e e′ = e ∙ sym e′
+
+-- a view that loses nothing
+pub injective : {R A : Type 0} (view : R → A) → Injective view → (s : A) → One (λ (r : R). view r ≡ s)
+injective view h s r r′ e e′ = h r r′ (e ∙ sym e′)
+
+-- a view that can be undone loses nothing
+pub undone : {R A : Type 0} (view : R → A) (back : A → R) → ((r : R) → back (view r) ≡ r) → Injective view
+undone view back h r r′ e = sym (h r) ∙ ap back e ∙ h r′
+
+-- ---- refusals
+
+kindFrom : ℕ → TlfParseError
+kindFrom k = cond (eqb k 1) TlfLengthOverflow (cond (eqb k 2) TlfReserved (cond (eqb k 3) TlfLengthUnderflow (cond (eqb k 4) TlfNextByteTypeMismatch TlfInvalidTy)))
+
+errorFrom : ℕ → ℕ → ParseError
+errorFrom n k =
+    cond (eqb n 10) UnexpectedEOF
+    (cond (eqb n 11) (InvalidTlf (kindFrom k)) (cond (eqb n 12) TlfMismatch (cond (eqb n 13) UnexpectedVariant (cond (eqb n 14) CrcMismatch MsgEndMismatch))))
+
+pub faultFrom : Refusal → Fault
+faultFrom r = record { error = errorFrom (r .number) (r .kind); place = r .place }
+
+pub error-back : (e : ParseError) (p : ℕ) → faultFrom (refusalOf e p) ≡ record { error = e; place = p }
+unfolding faultFrom errorFrom kindFrom
+error-back UnexpectedEOF p = refl
+error-back (InvalidTlf TlfLengthOverflow) p = refl
+error-back (InvalidTlf TlfReserved) p = refl
+error-back (InvalidTlf TlfLengthUnderflow) p = refl
+error-back (InvalidTlf TlfNextByteTypeMismatch) p = refl
+error-back (InvalidTlf TlfInvalidTy) p = refl
+error-back TlfMismatch p = refl
+error-back UnexpectedVariant p = refl
+error-back CrcMismatch p = refl
+error-back MsgEndMismatch p = refl
+
+pub fault-back : (f : Fault) → faultFrom (faultOf f) ≡ f
+fault-back f = error-back (f .error) (f .place)
+
+-- ---- readings
+
+-- what a reading was told as: its value and place, or its fault
+readFrom : {R A : Type 0} → (A → ℕ → R) → (Fault → R) → Read A → R
+readFrom told lost (got a next) = told a next
+readFrom told lost (refused f) = lost (faultFrom f)
+
+-- an answer of a reading, and what it is told as: a value, which is told by `to`, and the place behind it; or a fault
+pub data Reads {R T A : Type 0} (is : T → ℕ → R) (lost : Fault → R) (to : T → A) : R → Read A → Type 0 where
+  itIs : (x : T) (next : ℕ) → Reads is lost to (is x next) (got (to x) next)
+  itLost : (f : Fault) → Reads is lost to (lost f) (refused (faultOf f))
+
+read-back : {R T A : Type 0} (is : T → ℕ → R) (lost : Fault → R) (to : T → A) (from : A → T) → ((x : T) → from (to x) ≡ x)
+    → (r : R) (v : Read A) → Reads is lost to r v → readFrom (λ a next. is (from a) next) lost v ≡ r
+unfolding readFrom
+read-back {T = T} is lost to from back r v (itIs x next) = ap (λ (y : T). is y next) (back x)
+read-back is lost to from back r v (itLost f) = ap lost (fault-back f)
+
+-- the view of a reading loses nothing where that of its value can be undone
+pub reads : {R T A : Type 0} (view : R → Read A) (is : T → ℕ → R) (lost : Fault → R) (to : T → A) (from : A → T) → ((x : T) → from (to x) ≡ x)
+    → ((r : R) → Reads is lost to r (view r)) → Injective view
+reads view is lost to from back h = undone view (readFrom (λ a next. is (from a) next) lost) (λ r. read-back is lost to from back r (view r) (h r))
+
+-- and where its value is told as it is
+pub reads-plain : {R A : Type 0} (view : R → Read A) (is : A → ℕ → R) (lost : Fault → R) → ((r : R) → Reads is lost (λ (x : A). x) r (view r)) → Injective view
+reads-plain view is lost h = reads view is lost (λ x. x) (λ x. x) (λ x. refl) h
+
+-- an optional field
+unfoldable pub fieldFrom : {F A : Type 0} → (A → F) → F → Option A → F
+fieldFrom present absent (some a) = present a
+fieldFrom present absent none = absent

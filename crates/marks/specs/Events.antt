@@ -1,0 +1,76 @@
+-- What a reader must believe: message events. Repeated calls of a reader, whichever reader it is, give the events that the tables define; a list start with n is followed by n entries and the end, or by a refusal.
+use mathlib.Core.Path.{_≡_}
+use mathlib.Core.List.{List}
+use Prim.Native.Nat.{ℕ, zero, suc}
+use denote.Ref.{RefT, now}
+use Rattle.tlf.specs.Read.{Refusal}
+use Rattle.tlf.specs.declared.Span.{Span}
+use Rattle.common.specs.Fields.{ListEntry}
+use Rattle.message.specs.Messages.{MessageStart, ListStart, ListEnd, listed}
+use Rattle.streaming.specs.Next.{starts, entry, ends, Said, event, failed, After, nextAt}
+use Rattle.parser.specs.Reader.{readerOf, nextOf}
+use Rattle.parser.specs.declared.Parser.{Parser}
+use Rattle.events.specs.Events.{answer, eventsOf}
+
+-- what a call gave: what it says (an event, no event or a refusal), and the reader for the next call
+pub record Told (S : Type 0) : Type 0 where
+  pub said : Said
+  pub reader : S
+
+-- a reader that keeps an S, of an input that is lent as an I: the bytes of such an input, a new reader of it, and what a call gives
+pub record Reader (I S : Type 0) : Type 0 where
+  pub bytes : I → List ℕ
+  pub new : I → S
+  pub next : I → S → Told S
+
+-- ---- ours
+
+-- the three numbers that parse_next is called with: the place in the input, where the message there began, and what of it is pending
+pub record Numbers : Type 0 where
+  pub place : ℕ
+  pub start : ℕ
+  pub pending : ℕ
+
+-- what the definition of a call leaves of them, as such a call
+abbrev pub told : After → Told Numbers
+told a = record { said = a .said; reader = record { place = a .place; start = a .start; pending = a .pending } }
+
+-- by the definition that the contracts of parse_next and next_from cite: the first call has 0, 0, 0, each later one the numbers that the one before gave
+abbrev pub ourReader : Reader (List ℕ) Numbers
+ourReader =
+    record {
+      bytes = λ s. s;
+      new = λ s. record { place = 0; start = 0; pending = 0 };
+      next = λ s r. told (nextAt s (r .place) (r .start) (r .pending));
+    }
+
+-- by the definitions that the contracts of Parser::new and Parser::next cite: the reader holds its input, a reference whose content is `now` of it, and a call gets nothing else
+abbrev pub ourParser : Reader (RefT (List ℕ)) Parser
+ourParser = record { bytes = now; new = readerOf; next = λ i p. record { said = nextOf p .said; reader = nextOf p .reader } }
+
+-- ---- in use
+
+-- what call k says, counted from 0, of the reader r
+unfoldable pub saysAt : {I S : Type 0} → Reader I S → I → S → ℕ → Said
+saysAt R i r zero = R .next i r .said
+saysAt R i r (suc k) = saysAt R i (R .next i r .reader) k
+
+-- what call k says of a new reader
+abbrev pub hears : {I S : Type 0} → Reader I S → I → ℕ → Said
+hears R i k = saysAt R i (R .new i) k
+
+-- For every input and every k, call k says what the message rules say. `eventsOf` (crate events) is made of their tables alone and knows of no reader: the answers of the first calls, and that of every later one
+abbrev pub ReaderGives : {I S : Type 0} → Reader I S → Type 0
+ReaderGives {I} R = (i : I) (k : ℕ) → hears R i k ≡ answer (eventsOf (R .bytes i)) k
+
+-- the calls from k on say n entries and then the end, or a refusal before that
+pub data Follows (says : ℕ → Said) : ℕ → ℕ → Type 0 where
+  refuses : {n k : ℕ} (f : Refusal) → says k ≡ failed f → Follows says n k
+  lists : {n k : ℕ} (e : ListEntry Span) → says k ≡ event (entry e) → Follows says n (suc k) → Follows says (suc n) k
+  closes : {k : ℕ} (e : ListEnd Span) → says k ≡ event (ends e) → Follows says 0 k
+
+-- For every input: where call k says the start of a list response with n entries, the calls behind it say n entries and the end, or a refusal
+abbrev pub ListsEntries : {I S : Type 0} → Reader I S → Type 0
+ListsEntries {I} R =
+    (i : I) (k : ℕ) (m : MessageStart Span) (b : ListStart Span) → hears R i k ≡ event (starts m) → m .body ≡ listed b
+    → Follows (hears R i) (b .count) (suc k)
