@@ -224,6 +224,7 @@ decided =
       bad-state = λ d. plain _;
       wrong-buffer = λ recorded lent. plain _;
       push-byte = λ self buf b. injective (λ (r : With Pushed). leaves (r .answer) (r .memory)) (views .pushed) _;
+      push-any = λ d buf b. injective (λ (r : With Pushed). leaves (r .answer) (r .memory)) (views .pushed) _;
       decoder-finalize = λ self. injective leavesFinal (views .finalized) _;
       reset = λ self. injective leavesReset (views .resetted) _;
       ask-payload = λ self buf. injective answerAsked (views .asked) _;

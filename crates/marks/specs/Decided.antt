@@ -186,6 +186,7 @@ pub record Decided : Type 0 where
   pub bad-state : (d : Decoder) → One (λ (r : Bool). r ≡ badState d)
   pub wrong-buffer : (recorded lent : ℕ) → One (λ (r : Bool). r ≡ wrongBuffer recorded lent)
   pub push-byte : (self : Decoder) (buf : List ℕ) (b : ℕ) → One (λ (r : With Pushed). leaves (r .answer) (r .memory) ≡ pushRecord self buf b)
+  pub push-any : (d : Decoder) (buf : List ℕ) (b : ℕ) → One (λ (r : With Pushed). leaves (r .answer) (r .memory) ≡ pushRecord d buf b)
   pub decoder-finalize : (self : Decoder) → One (λ (r : Finalized). leavesFinal r ≡ finalizeRecord self)
   pub reset : (self : Decoder) → One (λ (r : Resetted). leavesReset r ≡ resetRecord self)
   pub ask-payload : (self : Decoder) (buf : List ℕ) → One (λ (r : Asked). answerAsked r ≡ askRecord self buf)
