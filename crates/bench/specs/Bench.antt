@@ -1,7 +1,7 @@
--- What a reader must believe: what the functions for counting answer, by the definitions that the contracts of push, encode, Encoder and CRC cite.
-use mathlib.Core.Bool.{cond}
+-- What a reader must believe: what the functions for counting answer, by the definitions that the contracts of push, encode, Encoder, reader and CRC cite.
+use mathlib.Core.Bool.{Bool, true, false, cond}
 use mathlib.Core.List.{List, [], _∷_}
-use Prim.Native.Nat.{ℕ, _+_}
+use Prim.Native.Nat.{ℕ, zero, suc, _+_}
 use lib.ListN.{length}
 use lib.Dec.{leb}
 use Rattle.frame.specs.Frame.{frameOf}
@@ -10,6 +10,8 @@ use Rattle.decoder.specs.Record.{nothing, payload, count, After, pushRecord, ne
 use Rattle.decoder.specs.declared.Decoder.{Decoder}
 use Rattle.encoder.specs.Encode as E
 use Rattle.encoder.specs.Encode.{limit, length-is, encodeTo}
+use Rattle.streaming.specs.Next as N
+use Rattle.streaming.specs.Next.{Said, event, noEvent, failed, nextAt}
 
 -- a number, with the lent memory as it is then
 pub record Counted : Type 0 where
@@ -55,3 +57,21 @@ sum (b ∷ bs) = b + sum bs
 -- the sum of the frame's bytes, or 0 for a payload over the limit
 abbrev pub streamed : List ℕ → ℕ
 streamed bytes = cond (leb (length bytes) limit) (sum (frameOf bytes)) 0
+
+-- ---- the events of a reader
+
+abbrev pub isEvent : Said → Bool
+isEvent (event e) = true
+isEvent noEvent = false
+isEvent (failed f) = false
+
+-- the events of k calls, up to the first that brings none
+unfoldable pub eventsFrom : ℕ → List ℕ → ℕ → ℕ → ℕ → ℕ
+eventsFrom zero input at start pending = 0
+eventsFrom (suc k) input at start pending =
+    let a : N.After = nextAt input at start pending in
+    cond (isEvent (a .said)) (suc (eventsFrom k input (a .place) (a .start) (a .pending))) 0
+
+-- from a new reader; an event takes a byte at least, so there are no more of them than bytes
+abbrev pub events : List ℕ → ℕ
+events input = eventsFrom (length input) input 0 0 0

@@ -9,13 +9,15 @@ ghost use Rattle.decoder.specs.Record as D;
 ghost use Rattle.encoder.specs.Encode as E;
 ghost use Rattle.encoder.specs.Encode.{limit};
 ghost use Rattle.encoder.specs.Encoder.{nextOf};
-ghost use Rattle.bench.specs.Bench.{counted, one, payloads, lengthIn, encoded, sum, streamed};
+ghost use Rattle.streaming.specs.Answers.{said};
+ghost use Rattle.bench.specs.Bench.{counted, one, payloads, lengthIn, encoded, sum, streamed, isEvent, events};
 ghost use Rattle.bench.specs.Given.{isByte, given};
 use decoder::Decoder;
 use decoder::Event;
 use encoder::Encoded;
 use encoder::Encoder;
 use encoder::Item;
+use streaming::Answer;
 
 // 1 for a payload, 0 for all else.
 fn one_payload(e: Event) -> u64
@@ -151,6 +153,41 @@ pub extern "C" fn bench_stream(payload: &[u8]) -> u64
         return 0;
     }
     sum_given(payload)
+}
+
+fn is_event(answer: Answer) -> bool
+    ensures { λ r. ⌜ r ≡ isEvent (said answer) ⌝ }
+{
+    match answer {
+        Answer::Event(_) => true,
+        Answer::NoEvent => false,
+        Answer::Refused(_) => false,
+        Answer::InputTooLong => false,
+        Answer::BadState => false,
+    }
+}
+
+// The events of `input`, up to the first call that brings none.
+#[no_mangle]
+pub extern "C" fn bench_events(input: &[u8]) -> u64
+    ensures { λ r. ⌜ r ≡ events (now (input .entry)) ⌝ }
+{
+    let mut place = 0;
+    let mut start = 0;
+    let mut pending: u64 = 0;
+    let mut n = 0;
+    while n < input.len() {
+        let r = streaming::parse_next(input, place, start, pending);
+        let answer = r.answer;
+        if !is_event(answer) {
+            return n as u64;
+        }
+        place = r.place;
+        start = r.start;
+        pending = r.pending;
+        n += 1;
+    }
+    n as u64
 }
 
 // The check value of `src`.
