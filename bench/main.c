@@ -1,4 +1,5 @@
-/* Calls one exported function on standard input: main FUNCTION CALLS REPEAT CAPACITY. The input is repeated REPEAT times. */
+/* Calls one exported function on standard input: main FUNCTION CALLS REPEAT CAPACITY. The input is repeated REPEAT times.
+   Prints the last call's number and the nanoseconds of all calls. */
 typedef unsigned long size_t;
 typedef unsigned long u64;
 typedef unsigned char u8;
@@ -7,11 +8,14 @@ long read(int, void *, size_t);
 int atoi(const char *);
 int strcmp(const char *, const char *);
 int dprintf(int, const char *, ...);
+struct timespec { long sec, nsec; };
+int clock_gettime(int, struct timespec *);
 
 extern u64 bench_push(const u8 *, size_t, u8 *, size_t);
 extern u64 bench_push_slice(const u8 *, size_t, u8 *, size_t);
 extern u64 bench_encode(const u8 *, size_t, u8 *, size_t);
 extern u64 bench_stream(const u8 *, size_t);
+extern u64 bench_events(const u8 *, size_t);
 extern u64 bench_crc(const u8 *, size_t);
 
 static u8 in[1 << 20], out[1 << 22];
@@ -21,6 +25,7 @@ static u64 call(const char *f, size_t n, size_t cap) {
     if (!strcmp(f, "bench_push_slice")) return bench_push_slice(in, n, out, cap);
     if (!strcmp(f, "bench_encode")) return bench_encode(in, n, out, cap);
     if (!strcmp(f, "bench_stream")) return bench_stream(in, n);
+    if (!strcmp(f, "bench_events")) return bench_events(in, n);
     if (!strcmp(f, "bench_crc")) return bench_crc(in, n);
     return ~0ul;
 }
@@ -34,7 +39,10 @@ int main(int argc, char **argv) {
     for (int r = atoi(argv[3]); r > 1; r--)
         for (size_t i = 0; i < once; i++) in[n++] = in[i];
     u64 last = 0;
+    struct timespec began, ended;
+    clock_gettime(1, &began);
     for (int i = atoi(argv[2]); i > 0; i--) last = call(argv[1], n, atoi(argv[4]));
-    dprintf(1, "%lu\n", last);
+    clock_gettime(1, &ended);
+    dprintf(1, "%lu %ld\n", last, (ended.sec - began.sec) * 1000000000 + ended.nsec - began.nsec);
     return 0;
 }
