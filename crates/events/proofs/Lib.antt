@@ -9,3 +9,4 @@ pub mod Parts
 pub mod Vectors
 pub mod Cuts
 pub mod Meanings
+pub mod Tried
