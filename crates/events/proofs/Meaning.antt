@@ -72,7 +72,7 @@ status-wide : (m : Option Status) → each (λ (n : ℕ). record { width = 8; nu
 status-wide (some a) = refl
 status-wide none = refl
 
-pub entry-alike : (s t : List ℕ) (x y : ListEntry Span) → entryMeans s x ≡ entryMeans t y → EntryAlike s t x y
+entry-alike : (s t : List ℕ) (x y : ListEntry Span) → entryMeans s x ≡ entryMeans t y → EntryAlike s t x y
 entry-alike s t x y e =
     record {
       name = ap (λ (a : ListEntry (List ℕ)). a .name) e;
@@ -84,13 +84,77 @@ entry-alike s t x y e =
       signature = ap (λ (a : ListEntry (List ℕ)). a .signature) e;
     }
 
-pub entry-one : (s t : List ℕ) (x y : ListEntry Span) → EntryAlike s t x y → entryMeans s x ≡ entryMeans t y
+entry-one : (s t : List ℕ) (x y : ListEntry Span) → EntryAlike s t x y → entryMeans s x ≡ entryMeans t y
 entry-one s t x y h =
     let st : each statusMeans (x .status) ≡ each statusMeans (y .status) = sym (status-wide (x .status)) ∙ ap (each (λ (n : ℕ). record { width = 8; number = n })) (h .status) ∙ status-wide (y .status) in
     rw (h .name, st, h .time, h .unit, h .scaler, value-means s t (x .value) (y .value) (h .value), h .signature)
 
--- the events of an input that have a meaning: of its kind, with its fields
-abbrev pub EventSays : List ℕ → Event (List ℕ) → Event Span → Type 0
+-- two bodies alike: of one kind, with the same fields
+abbrev pub BodyAlike : List ℕ → List ℕ → Body Span → Body Span → Type 0
+BodyAlike s t (opened a) y = Made opened (λ u b. openMeans u b ≡ openMeans s a) t y
+BodyAlike s t (closed a) y = Made closed (λ u b. closeMeans u b ≡ closeMeans s a) t y
+BodyAlike s t (listed a) y = Made listed (λ u b. listStartMeans u b ≡ listStartMeans s a) t y
+
+-- the bodies of an input that have a meaning
+abbrev BodySays : List ℕ → Body (List ℕ) → Body Span → Type 0
+BodySays t (opened m) y = Made opened (λ u b. openMeans u b ≡ m) t y
+BodySays t (closed m) y = Made closed (λ u b. closeMeans u b ≡ m) t y
+BodySays t (listed m) y = Made listed (λ u b. listStartMeans u b ≡ m) t y
+
+body-own : (t : List ℕ) (y : Body Span) → BodySays t (bodyMeans t y) y
+body-own t (opened b) = record { of = b; is = refl; has = refl }
+body-own t (closed b) = record { of = b; is = refl; has = refl }
+body-own t (listed b) = record { of = b; is = refl; has = refl }
+
+body-says : (s t : List ℕ) (x y : Body Span) → BodySays t (bodyMeans s x) y → BodyAlike s t x y
+body-says s t (opened a) y h = h
+body-says s t (closed a) y h = h
+body-says s t (listed a) y h = h
+
+body-alike : (s t : List ℕ) (x y : Body Span) → bodyMeans s x ≡ bodyMeans t y → BodyAlike s t x y
+body-alike s t x y e = body-says s t x y (rw e (body-own t y))
+
+body-one : (s t : List ℕ) (x y : Body Span) → BodyAlike s t x y → bodyMeans s x ≡ bodyMeans t y
+body-one s t (opened a) y h = ap opened (sym (h .has)) ∙ ap (bodyMeans t) (sym (h .is))
+body-one s t (closed a) y h = ap closed (sym (h .has)) ∙ ap (bodyMeans t) (sym (h .is))
+body-one s t (listed a) y h = ap listed (sym (h .has)) ∙ ap (bodyMeans t) (sym (h .is))
+
+pub record StartAlike (s t : List ℕ) (x y : MessageStart Span) : Type 0 where
+  pub transactionId : partOf s (x .transactionId) ≡ partOf t (y .transactionId)
+  pub groupNo : x .groupNo ≡ y .groupNo
+  pub abortOnError : x .abortOnError ≡ y .abortOnError
+  pub body : BodyAlike s t (x .body) (y .body)
+
+start-alike : (s t : List ℕ) (x y : MessageStart Span) → startMeans s x ≡ startMeans t y → StartAlike s t x y
+start-alike s t x y e =
+    record {
+      transactionId = ap (λ (a : MessageStart (List ℕ)). a .transactionId) e;
+      groupNo = ap (λ (a : MessageStart (List ℕ)). a .groupNo) e;
+      abortOnError = ap (λ (a : MessageStart (List ℕ)). a .abortOnError) e;
+      body = body-alike s t (x .body) (y .body) (ap (λ (a : MessageStart (List ℕ)). a .body) e);
+    }
+
+start-one : (s t : List ℕ) (x y : MessageStart Span) → StartAlike s t x y → startMeans s x ≡ startMeans t y
+start-one s t x y h = rw (h .transactionId, h .groupNo, h .abortOnError, body-one s t (x .body) (y .body) (h .body))
+
+pub record EndAlike (s t : List ℕ) (x y : ListEnd Span) : Type 0 where
+  pub signature : each (partOf s) (x .signature) ≡ each (partOf t) (y .signature)
+  pub time : x .time ≡ y .time
+
+end-alike : (s t : List ℕ) (x y : ListEnd Span) → listEndMeans s x ≡ listEndMeans t y → EndAlike s t x y
+end-alike s t x y e = record { signature = ap (λ (a : ListEnd (List ℕ)). a .signature) e; time = ap (λ (a : ListEnd (List ℕ)). a .time) e }
+
+end-one : (s t : List ℕ) (x y : ListEnd Span) → EndAlike s t x y → listEndMeans s x ≡ listEndMeans t y
+end-one s t x y h = rw (h .signature, h .time)
+
+-- two events alike: of one kind, and alike field by field
+abbrev pub EventAlike : List ℕ → List ℕ → Event Span → Event Span → Type 0
+EventAlike s t (starts a) y = Made starts (λ u b. StartAlike s u a b) t y
+EventAlike s t (entry a) y = Made entry (λ u b. EntryAlike s u a b) t y
+EventAlike s t (ends a) y = Made ends (λ u b. EndAlike s u a b) t y
+
+-- the events of an input that have a meaning
+abbrev EventSays : List ℕ → Event (List ℕ) → Event Span → Type 0
 EventSays t (starts m) y = Made starts (λ u a. startMeans u a ≡ m) t y
 EventSays t (entry m) y = Made entry (λ u a. entryMeans u a ≡ m) t y
 EventSays t (ends m) y = Made ends (λ u a. listEndMeans u a ≡ m) t y
@@ -101,26 +165,18 @@ event-own t (starts a) = record { of = a; is = refl; has = refl }
 event-own t (entry a) = record { of = a; is = refl; has = refl }
 event-own t (ends a) = record { of = a; is = refl; has = refl }
 
--- events of one meaning are of one kind, and so are their fields
-pub event-says : (s t : List ℕ) (x y : Event Span) → meaning s x ≡ meaning t y → EventSays t (meaning s x) y
-event-says s t x y e = rw e (event-own t y)
-
-pub event-means : (s t : List ℕ) (x y : Event Span) → EventSays t (meaning s x) y → meaning s x ≡ meaning t y
+event-says : (s t : List ℕ) (x y : Event Span) → EventSays t (meaning s x) y → EventAlike s t x y
 unfolding meaning
-event-means s t (starts a) y h = ap starts (sym (h .has)) ∙ ap (meaning t) (sym (h .is))
-event-means s t (entry a) y h = ap entry (sym (h .has)) ∙ ap (meaning t) (sym (h .is))
-event-means s t (ends a) y h = ap ends (sym (h .has)) ∙ ap (meaning t) (sym (h .is))
+event-says s t (starts a) y h = record { of = h .of; is = h .is; has = start-alike s t a (h .of) (sym (h .has)) }
+event-says s t (entry a) y h = record { of = h .of; is = h .is; has = entry-alike s t a (h .of) (sym (h .has)) }
+event-says s t (ends a) y h = record { of = h .of; is = h .is; has = end-alike s t a (h .of) (sym (h .has)) }
 
--- two entries have one meaning exactly if they are alike
-pub entries-mean : (s t : List ℕ) (x y : ListEntry Span) → EntryAlike s t x y → meaning s (entry x) ≡ meaning t (entry y)
+-- two events have one meaning exactly if they are alike
+pub events-alike : (s t : List ℕ) (x y : Event Span) → meaning s x ≡ meaning t y → EventAlike s t x y
+events-alike s t x y e = event-says s t x y (rw e (event-own t y))
+
+pub events-mean : (s t : List ℕ) (x y : Event Span) → EventAlike s t x y → meaning s x ≡ meaning t y
 unfolding meaning
-entries-mean s t x y h = ap entry (entry-one s t x y h)
-
-abbrev theEntry : ListEntry (List ℕ) → Event (List ℕ) → ListEntry (List ℕ)
-theEntry other (starts m) = other
-theEntry other (entry e) = e
-theEntry other (ends e) = other
-
-pub entries-alike : (s t : List ℕ) (x y : ListEntry Span) → meaning s (entry x) ≡ meaning t (entry y) → EntryAlike s t x y
-unfolding meaning
-entries-alike s t x y e = entry-alike s t x y (ap (theEntry (entryMeans s x)) e)
+events-mean s t (starts a) y h = ap starts (start-one s t a (h .of) (h .has)) ∙ ap (meaning t) (sym (h .is))
+events-mean s t (entry a) y h = ap entry (entry-one s t a (h .of) (h .has)) ∙ ap (meaning t) (sym (h .is))
+events-mean s t (ends a) y h = ap ends (end-one s t a (h .of) (h .has)) ∙ ap (meaning t) (sym (h .is))

@@ -66,6 +66,22 @@ rest-take b l h = rw (h .bytes) (take-append-seam b l)
 pub rest-place : {s : List ℕ} {p n : ℕ} (b : List ℕ) {l : List ℕ} → Rest s p (b ++ l) → Rest s n l → n ≡ p + length b
 rest-place b {l} h k = omega (arith, rest-length h, rest-length k, length-append b l)
 
+-- behind the bytes pre
+pub rest-at : (pre l : List ℕ) → Rest (pre ++ l) (length pre) l
+rest-at pre l = record { inside = omega (arith, length-append pre l); bytes = drop-append-seam pre l }
+
+-- the same said by places: behind any bytes, and whatever follows, b is read, and the place behind it is b's length further
+pub record ReadsAt {A : Type 0} (read : List ℕ → ℕ → Read A) (P : List ℕ → A → Type 0) (pre b l : List ℕ) : Type 0 where
+  pub value : A
+  pub is : read (pre ++ (b ++ l)) (length pre) ≡ got value (length pre + length b)
+  pub has : P (pre ++ (b ++ l)) value
+
+pub reads-at : {A : Type 0} {read : List ℕ → ℕ → Read A} {P : List ℕ → A → Type 0} {b : List ℕ} → Reads read P b → (pre l : List ℕ) → ReadsAt read P pre b l
+reads-at {b = b} r pre l =
+    let h = rest-at pre (b ++ l) in
+    let g = r .reads l h in
+    record { value = g .value; is = rw (← rest-place b h (g .left)) (g .is); has = g .has }
+
 pub gets-got : {A : Type 0} {P : A → Type 0} {s l : List ℕ} {a : A} {n : ℕ} → P a → Rest s n l → Gets P s l (got a n)
 gets-got {a = a} {n = n} h k = record { value = a; next = n; is = refl; has = h; left = k }
 
