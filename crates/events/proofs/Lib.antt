@@ -3,5 +3,10 @@ pub mod Calls
 pub mod Places
 pub mod Lists
 pub mod Whole
+pub mod Gets
+pub mod Meaning
+pub mod Parts
 pub mod Vectors
 pub mod Cuts
+pub mod Meanings
+pub mod Tried

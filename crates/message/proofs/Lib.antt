@@ -1,1 +1,2 @@
 pub mod Messages
+pub mod Gets

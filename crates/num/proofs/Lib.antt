@@ -1,3 +1,4 @@
 pub mod Numbers
 pub mod Ahead
+pub mod Gets
 pub mod Bench

@@ -1,4 +1,5 @@
 pub mod Strings
 pub mod Optional
 pub mod Within
+pub mod Gets
 pub mod Bench

@@ -10,7 +10,7 @@ use lib.Dec.{ltb, eqb}
 use borrow.Author.Tests.{ltb-true, lt-ltb, eq-eqb, ne-eqb}
 use Rattle.tlf.specs.Read.{Read, got, then}
 use Rattle.tlf.proofs.Read.{Ok, ok-got, ok-then, ok-cond, Ahead, and-left, and-right}
-use Rattle.tlf.proofs.Rest.{Rest, Gets, gets-then, gets-got, rest-length, rest-byte, rest-next}
+use Rattle.tlf.proofs.Rest.{Rest, Gets, Made, gets-got, gets-made, rest-length, rest-byte, rest-next}
 use Rattle.octet_string.specs.Optional.{absentAt, optional}
 
 -- an absent field's byte stands in the input
@@ -40,10 +40,10 @@ absent-gets read {s} {p} l h =
     rw (lt-ltb p (length s) (omega (arith, rest-length h)), eq-eqb (getD s p 0) 0x01 (rest-byte h)) (gets-got refl (rest-next h))
 
 -- anything else is the field's own reading
-pub present-gets : {A : Type 0} {P : A → Type 0} (read : List ℕ → ℕ → Read A) {s : List ℕ} {p b : ℕ} (k l : List ℕ)
-    → Rest s p (b ∷ k) → (b ≡ 0x01 → ⊥) → Gets P s l (read s p)
-    → Gets (λ (m : Option A). OfField (λ a n. P a) m 0) s l (optional read s p)
+pub present-gets : {A : Type 0} {P : List ℕ → A → Type 0} (read : List ℕ → ℕ → Read A) {s : List ℕ} {p b : ℕ} (k l : List ℕ)
+    → Rest s p (b ∷ k) → (b ≡ 0x01 → ⊥) → Gets (P s) s l (read s p)
+    → Gets (Made some P s) s l (optional read s p)
 unfolding optional absentAt
 present-gets read {s} {p} {b} k l h ne g =
     rw (lt-ltb p (length s) (omega (arith, rest-length h)), ne-eqb (getD s p 0) 0x01 (λ e. ne (sym (rest-byte h) ∙ e)))
-    (gets-then _ _ g (λ a n q r. gets-got q r))
+    (gets-made some _ g)

@@ -2,4 +2,5 @@ pub mod Read
 pub mod Rest
 pub mod Lengths
 pub mod Found
+pub mod Gets
 pub mod Bench

@@ -11,7 +11,7 @@ use lib.ListN.{length, getD, take, drop, length-append, length-drop}
 use lib.Seq.{drop-drop, drop-append-seam, take-append-seam, getD-drop}
 use Rattle.tlf.specs.Read.{Read, got, refused, Refusal, then, guard, need, byteAt, spanAt}
 use Rattle.tlf.specs.declared.Span.{Span}
-use Rattle.tlf.proofs.Read.{Ahead}
+use Rattle.tlf.proofs.Read.{Ok, ok-at, Ahead}
 
 -- the input's bytes from p on are l
 pub record Rest (s : List ℕ) (p : ℕ) (l : List ℕ) : Type 0 where
@@ -25,6 +25,20 @@ pub record Gets {A : Type 0} (P : A → Type 0) (s l : List ℕ) (r : Read A) : 
   pub is : r ≡ got value next
   pub has : P value
   pub left : Rest s next l
+
+-- the bytes b, wherever they stand, are read as a value that has P, and what follows them is left; P may look into the input, where strings are parts of it
+pub record Reads {A : Type 0} (read : List ℕ → ℕ → Read A) (P : List ℕ → A → Type 0) (b : List ℕ) : Type 0 where
+  pub reads : {s : List ℕ} {p : ℕ} (l : List ℕ) → Rest s p (b ++ l) → Gets (P s) s l (read s p)
+
+-- the value is x, whatever the input
+abbrev pub Is : {A : Type 0} → A → List ℕ → A → Type 0
+Is x s a = a ≡ x
+
+-- f of something that has P
+pub record Made {A B : Type 0} (f : A → B) (P : List ℕ → A → Type 0) (s : List ℕ) (b : B) : Type 0 where
+  pub of : A
+  pub is : b ≡ f of
+  pub has : P s of
 
 -- behind any reading that is known to end within the input, what is left are the input's bytes from that place on
 pub rest-behind : {s : List ℕ} {at next : ℕ} → Ahead s at next → Rest s next (drop next s)
@@ -52,6 +66,22 @@ rest-take b l h = rw (h .bytes) (take-append-seam b l)
 pub rest-place : {s : List ℕ} {p n : ℕ} (b : List ℕ) {l : List ℕ} → Rest s p (b ++ l) → Rest s n l → n ≡ p + length b
 rest-place b {l} h k = omega (arith, rest-length h, rest-length k, length-append b l)
 
+-- behind the bytes pre
+pub rest-at : (pre l : List ℕ) → Rest (pre ++ l) (length pre) l
+rest-at pre l = record { inside = omega (arith, length-append pre l); bytes = drop-append-seam pre l }
+
+-- the same said by places: behind any bytes, and whatever follows, b is read, and the place behind it is b's length further
+pub record ReadsAt {A : Type 0} (read : List ℕ → ℕ → Read A) (P : List ℕ → A → Type 0) (pre b l : List ℕ) : Type 0 where
+  pub value : A
+  pub is : read (pre ++ (b ++ l)) (length pre) ≡ got value (length pre + length b)
+  pub has : P (pre ++ (b ++ l)) value
+
+pub reads-at : {A : Type 0} {read : List ℕ → ℕ → Read A} {P : List ℕ → A → Type 0} {b : List ℕ} → Reads read P b → (pre l : List ℕ) → ReadsAt read P pre b l
+reads-at {b = b} r pre l =
+    let h = rest-at pre (b ++ l) in
+    let g = r .reads l h in
+    record { value = g .value; is = rw (← rest-place b h (g .left)) (g .is); has = g .has }
+
 pub gets-got : {A : Type 0} {P : A → Type 0} {s l : List ℕ} {a : A} {n : ℕ} → P a → Rest s n l → Gets P s l (got a n)
 gets-got {a = a} {n = n} h k = record { value = a; next = n; is = refl; has = h; left = k }
 
@@ -72,6 +102,14 @@ gets-guard t f r e g = rw e g
 
 pub gets-weak : {A : Type 0} {P Q : A → Type 0} {s l : List ℕ} {r : Read A} → ((a : A) → P a → Q a) → Gets P s l r → Gets Q s l r
 gets-weak f g = record { value = g .value; next = g .next; is = g .is; has = f (g .value) (g .has); left = g .left }
+
+-- what holds of everything that a reading finds, too
+pub gets-ok : {A : Type 0} {P R : A → Type 0} {Q : A → ℕ → Type 0} {s l : List ℕ} {r : Read A} → Ok Q r → ((a : A) (n : ℕ) → Q a n → P a → R a) → Gets P s l r → Gets R s l r
+gets-ok h f g = record { value = g .value; next = g .next; is = g .is; has = f (g .value) (g .next) (ok-at (sym (g .is)) h) (g .has); left = g .left }
+
+-- a reading whose value f wraps
+pub gets-made : {A B : Type 0} (f : A → B) {P : List ℕ → A → Type 0} {s l : List ℕ} (r : Read A) → Gets (P s) s l r → Gets (Made f P s) s l (then r λ a n. got (f a) n)
+gets-made f r g = gets-then _ _ g (λ a n h k. gets-got (record { of = a; is = refl; has = h }) k)
 
 pub gets-need : {A B : Type 0} {P : B → Type 0} {s l : List ℕ} (a : A) (m : Option A) (f : Refusal) (k : A → Read B) → m ≡ some a → Gets P s l (k a) → Gets P s l (need m f k)
 unfolding need

@@ -21,6 +21,4 @@ crcFrom s start at = crcOf (take (at - start) (drop start s))
 unfoldable pub trailerAt : List ℕ → ℕ → ℕ → Read (Unit {0})
 trailerAt s start at =
     then (unsignedAt 2 s at) λ crc n₁.
-    then (messageEndAt s n₁) λ end n₂.
-    guard (eqb crc (swapped (crcFrom s start at))) (crcMismatch at)
-    (got tt n₂)
+    then (messageEndAt s n₁) λ end n₂. guard (eqb crc (swapped (crcFrom s start at))) (crcMismatch at) (got tt n₂)

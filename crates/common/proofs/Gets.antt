@@ -1,0 +1,103 @@
+-- What the bytes of open, close, list entry and the end byte are read as, and what they leave: one line a field, in the order of the definition.
+use mathlib.Core.Path.{_≡_, refl}
+use mathlib.Core.List.{List, [], _∷_, _++_, append-assoc}
+use mathlib.Core.Option.{Option}
+use Prim.Native.Nat.{ℕ}
+use lib.IntN.{ℤ}
+use Rattle.tlf.specs.Read.{Read}
+use Rattle.tlf.specs.Lengths.{listOfAt}
+use Rattle.tlf.specs.declared.Span.{Span}
+use Rattle.tlf.proofs.Rest.{Rest, Gets, Reads, Is, gets-is, gets-then, gets-guard, gets-got, byte-gets}
+use Rattle.num.specs.Numbers.{unsignedAt, signedAt}
+use Rattle.octet_string.specs.Strings.{octetsAt}
+use Rattle.octet_string.specs.Optional.{optional}
+use Rattle.value.specs.Values.{Status, Value, timeAt, statusAt, valueAt}
+use Rattle.common.specs.Fields.{OpenResponse, CloseResponse, ListEntry, openAt, closeAt, entryAt, messageEndAt}
+
+-- each field has its own property
+pub record OpenHas (P₁ P₂ : List ℕ → Option Span → Type 0) (P₃ P₄ : List ℕ → Span → Type 0) (P₅ P₆ : List ℕ → Option ℕ → Type 0) (s : List ℕ) (x : OpenResponse Span) : Type 0 where
+  pub codepage : P₁ s (x .codepage)
+  pub clientId : P₂ s (x .clientId)
+  pub fileId : P₃ s (x .fileId)
+  pub serverId : P₄ s (x .serverId)
+  pub time : P₅ s (x .time)
+  pub version : P₆ s (x .version)
+
+pub open-reads : {P₁ P₂ : List ℕ → Option Span → Type 0} {P₃ P₄ : List ℕ → Span → Type 0} {P₅ P₆ : List ℕ → Option ℕ → Type 0} {b₀ b₁ b₂ b₃ b₄ b₅ b₆ : List ℕ}
+    → Reads (listOfAt 6) (Is tt) b₀
+    → Reads (optional octetsAt) P₁ b₁
+    → Reads (optional octetsAt) P₂ b₂
+    → Reads octetsAt P₃ b₃
+    → Reads octetsAt P₄ b₄
+    → Reads (optional timeAt) P₅ b₅
+    → Reads (optional (unsignedAt 1)) P₆ b₆
+    → Reads openAt (OpenHas P₁ P₂ P₃ P₄ P₅ P₆) (b₀ ++ b₁ ++ b₂ ++ b₃ ++ b₄ ++ b₅ ++ b₆)
+unfolding openAt
+open-reads r₀ r₁ r₂ r₃ r₄ r₅ r₆ =
+    record {
+      reads = λ l h.
+          gets-is _ _ (r₀ .reads _ (simp append-assoc at h)) (λ n₀ k₀.
+          gets-then _ _ (r₁ .reads _ k₀) (λ a₁ n₁ h₁ k₁.
+          gets-then _ _ (r₂ .reads _ k₁) (λ a₂ n₂ h₂ k₂.
+          gets-then _ _ (r₃ .reads _ k₂) (λ a₃ n₃ h₃ k₃.
+          gets-then _ _ (r₄ .reads _ k₃) (λ a₄ n₄ h₄ k₄.
+          gets-then _ _ (r₅ .reads _ k₄) (λ a₅ n₅ h₅ k₅.
+          gets-then _ _ (r₆ .reads l k₅) (λ a₆ n₆ h₆ k₆.
+          gets-got (record { codepage = h₁; clientId = h₂; fileId = h₃; serverId = h₄; time = h₅; version = h₆ }) k₆)))))));
+    }
+
+pub record CloseHas (P₁ : List ℕ → Option Span → Type 0) (s : List ℕ) (x : CloseResponse Span) : Type 0 where
+  pub signature : P₁ s (x .signature)
+
+pub close-reads : {P₁ : List ℕ → Option Span → Type 0} {b₀ b₁ : List ℕ}
+    → Reads (listOfAt 1) (Is tt) b₀
+    → Reads (optional octetsAt) P₁ b₁
+    → Reads closeAt (CloseHas P₁) (b₀ ++ b₁)
+unfolding closeAt
+close-reads r₀ r₁ =
+    record {
+      reads = λ l h.
+          gets-is _ _ (r₀ .reads _ (simp append-assoc at h)) (λ n₀ k₀.
+          gets-then _ _ (r₁ .reads l k₀) (λ a₁ n₁ h₁ k₁.
+          gets-got (record { signature = h₁ }) k₁));
+    }
+
+pub record EntryHas (P₁ : List ℕ → Span → Type 0) (P₂ : List ℕ → Option Status → Type 0) (P₃ P₄ : List ℕ → Option ℕ → Type 0) (P₅ : List ℕ → Option ℤ → Type 0)
+    (P₆ : List ℕ → Value Span → Type 0) (P₇ : List ℕ → Option Span → Type 0) (s : List ℕ) (x : ListEntry Span) : Type 0 where
+  pub name : P₁ s (x .name)
+  pub status : P₂ s (x .status)
+  pub time : P₃ s (x .time)
+  pub unit : P₄ s (x .unit)
+  pub scaler : P₅ s (x .scaler)
+  pub value : P₆ s (x .value)
+  pub signature : P₇ s (x .signature)
+
+pub entry-reads : {P₁ : List ℕ → Span → Type 0} {P₂ : List ℕ → Option Status → Type 0} {P₃ P₄ : List ℕ → Option ℕ → Type 0} {P₅ : List ℕ → Option ℤ → Type 0}
+    {P₆ : List ℕ → Value Span → Type 0} {P₇ : List ℕ → Option Span → Type 0} {b₀ b₁ b₂ b₃ b₄ b₅ b₆ b₇ : List ℕ}
+    → Reads (listOfAt 7) (Is tt) b₀
+    → Reads octetsAt P₁ b₁
+    → Reads (optional statusAt) P₂ b₂
+    → Reads (optional timeAt) P₃ b₃
+    → Reads (optional (unsignedAt 1)) P₄ b₄
+    → Reads (optional (signedAt 1)) P₅ b₅
+    → Reads valueAt P₆ b₆
+    → Reads (optional octetsAt) P₇ b₇
+    → Reads entryAt (EntryHas P₁ P₂ P₃ P₄ P₅ P₆ P₇) (b₀ ++ b₁ ++ b₂ ++ b₃ ++ b₄ ++ b₅ ++ b₆ ++ b₇)
+unfolding entryAt
+entry-reads r₀ r₁ r₂ r₃ r₄ r₅ r₆ r₇ =
+    record {
+      reads = λ l h.
+          gets-is _ _ (r₀ .reads _ (simp append-assoc at h)) (λ n₀ k₀.
+          gets-then _ _ (r₁ .reads _ k₀) (λ a₁ n₁ h₁ k₁.
+          gets-then _ _ (r₂ .reads _ k₁) (λ a₂ n₂ h₂ k₂.
+          gets-then _ _ (r₃ .reads _ k₂) (λ a₃ n₃ h₃ k₃.
+          gets-then _ _ (r₄ .reads _ k₃) (λ a₄ n₄ h₄ k₄.
+          gets-then _ _ (r₅ .reads _ k₄) (λ a₅ n₅ h₅ k₅.
+          gets-then _ _ (r₆ .reads _ k₅) (λ a₆ n₆ h₆ k₆.
+          gets-then _ _ (r₇ .reads l k₆) (λ a₇ n₇ h₇ k₇.
+          gets-got (record { name = h₁; status = h₂; time = h₃; unit = h₄; scaler = h₅; value = h₆; signature = h₇ }) k₇))))))));
+    }
+
+pub message-end-reads : Reads messageEndAt (Is tt) (0x00 ∷ [])
+unfolding messageEndAt
+message-end-reads = record { reads = λ l h. gets-is _ _ (byte-gets h) (λ n k. gets-guard _ _ _ refl (gets-got refl k)) }

@@ -1,0 +1,182 @@
+-- Meaning forgets the width of a number and the place of a string, and nothing else: two events have one meaning exactly if they are of one kind, with the same bytes in their strings and the same numbers.
+use mathlib.Core.Path.{_≡_, refl, sym, ap, _∙_}
+use mathlib.Core.List.{List}
+use mathlib.Core.Bool.{Bool}
+use mathlib.Core.Option.{Option, some, none}
+use Prim.Native.Nat.{ℕ}
+use lib.IntN.{ℤ}
+use Rattle.tlf.specs.declared.Span.{Span}
+use Rattle.tlf.proofs.Rest.{Made, Is}
+use Rattle.octet_string.specs.Strings.{partOf}
+use Rattle.octet_string.proofs.Gets.{Part}
+use Rattle.value.specs.Values.{Status, Value, truth, bytes, signed, unsigned, listTime}
+use Rattle.common.specs.Fields.{OpenResponse, CloseResponse, ListEntry}
+use Rattle.message.specs.Messages.{ListStart, ListEnd, Body, opened, closed, listed, MessageStart}
+use Rattle.streaming.specs.Next.{Event, starts, entry, ends}
+use Rattle.events.specs.Meaning.{each, statusMeans, valueMeans, entryMeans, openMeans, closeMeans, listStartMeans, listEndMeans, bodyMeans, startMeans, meaning}
+
+-- any width will do
+abbrev AnyWidth : List ℕ → ℕ → Type 0
+AnyWidth s width = Unit {0}
+
+-- two widths of one number: one meaning
+pub status-width : (w v n : ℕ) → statusMeans (record { width = w; number = n }) ≡ statusMeans (record { width = v; number = n })
+status-width w v n = refl
+
+pub signed-width : (s t : List ℕ) (w v : ℕ) (z : ℤ) → valueMeans s (signed w z) ≡ valueMeans t (signed v z)
+signed-width s t w v z = refl
+
+pub unsigned-width : (s t : List ℕ) (w v n : ℕ) → valueMeans s (unsigned w n) ≡ valueMeans t (unsigned v n)
+unsigned-width s t w v n = refl
+
+-- the values of an input that have a meaning: of its kind, with its bytes wherever they stand, its number at any width
+abbrev pub ValueSays : List ℕ → Value (List ℕ) → Value Span → Type 0
+ValueSays t (truth b) y = y ≡ truth b
+ValueSays t (bytes x) y = Made bytes (Part x) t y
+ValueSays t (signed w z) y = Made (λ v. signed v z) AnyWidth t y
+ValueSays t (unsigned w n) y = Made (λ v. unsigned v n) AnyWidth t y
+ValueSays t (listTime n) y = y ≡ listTime n
+
+value-own : (t : List ℕ) (y : Value Span) → ValueSays t (valueMeans t y) y
+value-own t (truth b) = refl
+value-own t (bytes p) = record { of = p; is = refl; has = refl }
+value-own t (signed w z) = record { of = w; is = refl; has = tt }
+value-own t (unsigned w n) = record { of = w; is = refl; has = tt }
+value-own t (listTime n) = refl
+
+pub value-says : (s t : List ℕ) (x y : Value Span) → valueMeans s x ≡ valueMeans t y → ValueSays t (valueMeans s x) y
+value-says s t x y e = rw e (value-own t y)
+
+pub value-means : (s t : List ℕ) (x y : Value Span) → ValueSays t (valueMeans s x) y → valueMeans s x ≡ valueMeans t y
+value-means s t (truth b) y h = ap (valueMeans t) (sym h)
+value-means s t (bytes p) y h = ap bytes (sym (h .has)) ∙ ap (valueMeans t) (sym (h .is))
+value-means s t (signed w z) y h = ap (valueMeans t) (sym (h .is))
+value-means s t (unsigned w n) y h = ap (valueMeans t) (sym (h .is))
+value-means s t (listTime n) y h = ap (valueMeans t) (sym h)
+
+-- two entries alike: the same bytes, the same numbers, and values of one kind
+pub record EntryAlike (s t : List ℕ) (x y : ListEntry Span) : Type 0 where
+  pub name : partOf s (x .name) ≡ partOf t (y .name)
+  pub status : each (λ (a : Status). a .number) (x .status) ≡ each (λ (a : Status). a .number) (y .status)
+  pub time : x .time ≡ y .time
+  pub unit : x .unit ≡ y .unit
+  pub scaler : x .scaler ≡ y .scaler
+  pub value : ValueSays t (valueMeans s (x .value)) (y .value)
+  pub signature : each (partOf s) (x .signature) ≡ each (partOf t) (y .signature)
+
+status-number : (m : Option Status) → each (λ (a : Status). a .number) (each statusMeans m) ≡ each (λ (a : Status). a .number) m
+status-number (some a) = refl
+status-number none = refl
+
+status-wide : (m : Option Status) → each (λ (n : ℕ). record { width = 8; number = n }) (each (λ (a : Status). a .number) m) ≡ each statusMeans m
+status-wide (some a) = refl
+status-wide none = refl
+
+entry-alike : (s t : List ℕ) (x y : ListEntry Span) → entryMeans s x ≡ entryMeans t y → EntryAlike s t x y
+entry-alike s t x y e =
+    record {
+      name = ap (λ (a : ListEntry (List ℕ)). a .name) e;
+      status = sym (status-number (x .status)) ∙ ap (λ (a : ListEntry (List ℕ)). each (λ (b : Status). b .number) (a .status)) e ∙ status-number (y .status);
+      time = ap (λ (a : ListEntry (List ℕ)). a .time) e;
+      unit = ap (λ (a : ListEntry (List ℕ)). a .unit) e;
+      scaler = ap (λ (a : ListEntry (List ℕ)). a .scaler) e;
+      value = value-says s t (x .value) (y .value) (ap (λ (a : ListEntry (List ℕ)). a .value) e);
+      signature = ap (λ (a : ListEntry (List ℕ)). a .signature) e;
+    }
+
+entry-one : (s t : List ℕ) (x y : ListEntry Span) → EntryAlike s t x y → entryMeans s x ≡ entryMeans t y
+entry-one s t x y h =
+    let st : each statusMeans (x .status) ≡ each statusMeans (y .status) = sym (status-wide (x .status)) ∙ ap (each (λ (n : ℕ). record { width = 8; number = n })) (h .status) ∙ status-wide (y .status) in
+    rw (h .name, st, h .time, h .unit, h .scaler, value-means s t (x .value) (y .value) (h .value), h .signature)
+
+-- two bodies alike: of one kind, with the same fields
+abbrev pub BodyAlike : List ℕ → List ℕ → Body Span → Body Span → Type 0
+BodyAlike s t (opened a) y = Made opened (λ u b. openMeans u b ≡ openMeans s a) t y
+BodyAlike s t (closed a) y = Made closed (λ u b. closeMeans u b ≡ closeMeans s a) t y
+BodyAlike s t (listed a) y = Made listed (λ u b. listStartMeans u b ≡ listStartMeans s a) t y
+
+-- the bodies of an input that have a meaning
+abbrev BodySays : List ℕ → Body (List ℕ) → Body Span → Type 0
+BodySays t (opened m) y = Made opened (λ u b. openMeans u b ≡ m) t y
+BodySays t (closed m) y = Made closed (λ u b. closeMeans u b ≡ m) t y
+BodySays t (listed m) y = Made listed (λ u b. listStartMeans u b ≡ m) t y
+
+body-own : (t : List ℕ) (y : Body Span) → BodySays t (bodyMeans t y) y
+body-own t (opened b) = record { of = b; is = refl; has = refl }
+body-own t (closed b) = record { of = b; is = refl; has = refl }
+body-own t (listed b) = record { of = b; is = refl; has = refl }
+
+body-says : (s t : List ℕ) (x y : Body Span) → BodySays t (bodyMeans s x) y → BodyAlike s t x y
+body-says s t (opened a) y h = h
+body-says s t (closed a) y h = h
+body-says s t (listed a) y h = h
+
+body-alike : (s t : List ℕ) (x y : Body Span) → bodyMeans s x ≡ bodyMeans t y → BodyAlike s t x y
+body-alike s t x y e = body-says s t x y (rw e (body-own t y))
+
+body-one : (s t : List ℕ) (x y : Body Span) → BodyAlike s t x y → bodyMeans s x ≡ bodyMeans t y
+body-one s t (opened a) y h = ap opened (sym (h .has)) ∙ ap (bodyMeans t) (sym (h .is))
+body-one s t (closed a) y h = ap closed (sym (h .has)) ∙ ap (bodyMeans t) (sym (h .is))
+body-one s t (listed a) y h = ap listed (sym (h .has)) ∙ ap (bodyMeans t) (sym (h .is))
+
+pub record StartAlike (s t : List ℕ) (x y : MessageStart Span) : Type 0 where
+  pub transactionId : partOf s (x .transactionId) ≡ partOf t (y .transactionId)
+  pub groupNo : x .groupNo ≡ y .groupNo
+  pub abortOnError : x .abortOnError ≡ y .abortOnError
+  pub body : BodyAlike s t (x .body) (y .body)
+
+start-alike : (s t : List ℕ) (x y : MessageStart Span) → startMeans s x ≡ startMeans t y → StartAlike s t x y
+start-alike s t x y e =
+    record {
+      transactionId = ap (λ (a : MessageStart (List ℕ)). a .transactionId) e;
+      groupNo = ap (λ (a : MessageStart (List ℕ)). a .groupNo) e;
+      abortOnError = ap (λ (a : MessageStart (List ℕ)). a .abortOnError) e;
+      body = body-alike s t (x .body) (y .body) (ap (λ (a : MessageStart (List ℕ)). a .body) e);
+    }
+
+start-one : (s t : List ℕ) (x y : MessageStart Span) → StartAlike s t x y → startMeans s x ≡ startMeans t y
+start-one s t x y h = rw (h .transactionId, h .groupNo, h .abortOnError, body-one s t (x .body) (y .body) (h .body))
+
+pub record EndAlike (s t : List ℕ) (x y : ListEnd Span) : Type 0 where
+  pub signature : each (partOf s) (x .signature) ≡ each (partOf t) (y .signature)
+  pub time : x .time ≡ y .time
+
+end-alike : (s t : List ℕ) (x y : ListEnd Span) → listEndMeans s x ≡ listEndMeans t y → EndAlike s t x y
+end-alike s t x y e = record { signature = ap (λ (a : ListEnd (List ℕ)). a .signature) e; time = ap (λ (a : ListEnd (List ℕ)). a .time) e }
+
+end-one : (s t : List ℕ) (x y : ListEnd Span) → EndAlike s t x y → listEndMeans s x ≡ listEndMeans t y
+end-one s t x y h = rw (h .signature, h .time)
+
+-- two events alike: of one kind, and alike field by field
+abbrev pub EventAlike : List ℕ → List ℕ → Event Span → Event Span → Type 0
+EventAlike s t (starts a) y = Made starts (λ u b. StartAlike s u a b) t y
+EventAlike s t (entry a) y = Made entry (λ u b. EntryAlike s u a b) t y
+EventAlike s t (ends a) y = Made ends (λ u b. EndAlike s u a b) t y
+
+-- the events of an input that have a meaning
+abbrev EventSays : List ℕ → Event (List ℕ) → Event Span → Type 0
+EventSays t (starts m) y = Made starts (λ u a. startMeans u a ≡ m) t y
+EventSays t (entry m) y = Made entry (λ u a. entryMeans u a ≡ m) t y
+EventSays t (ends m) y = Made ends (λ u a. listEndMeans u a ≡ m) t y
+
+event-own : (t : List ℕ) (y : Event Span) → EventSays t (meaning t y) y
+unfolding meaning
+event-own t (starts a) = record { of = a; is = refl; has = refl }
+event-own t (entry a) = record { of = a; is = refl; has = refl }
+event-own t (ends a) = record { of = a; is = refl; has = refl }
+
+event-says : (s t : List ℕ) (x y : Event Span) → EventSays t (meaning s x) y → EventAlike s t x y
+unfolding meaning
+event-says s t (starts a) y h = record { of = h .of; is = h .is; has = start-alike s t a (h .of) (sym (h .has)) }
+event-says s t (entry a) y h = record { of = h .of; is = h .is; has = entry-alike s t a (h .of) (sym (h .has)) }
+event-says s t (ends a) y h = record { of = h .of; is = h .is; has = end-alike s t a (h .of) (sym (h .has)) }
+
+-- two events have one meaning exactly if they are alike
+pub events-alike : (s t : List ℕ) (x y : Event Span) → meaning s x ≡ meaning t y → EventAlike s t x y
+events-alike s t x y e = event-says s t x y (rw e (event-own t y))
+
+pub events-mean : (s t : List ℕ) (x y : Event Span) → EventAlike s t x y → meaning s x ≡ meaning t y
+unfolding meaning
+events-mean s t (starts a) y h = ap starts (start-one s t a (h .of) (h .has)) ∙ ap (meaning t) (sym (h .is))
+events-mean s t (entry a) y h = ap entry (entry-one s t a (h .of) (h .has)) ∙ ap (meaning t) (sym (h .is))
+events-mean s t (ends a) y h = ap ends (end-one s t a (h .of) (h .has)) ∙ ap (meaning t) (sym (h .is))

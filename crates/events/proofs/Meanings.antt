@@ -1,0 +1,48 @@
+-- The meaning of an open, a list and a close response, written out; and one entry in two forms, with one meaning.
+use mathlib.Core.Path.{_≡_, refl}
+use mathlib.Core.List.{List, [], _∷_}
+use mathlib.Core.Option.{some, none}
+use Prim.Native.Nat.{ℕ}
+use lib.IntN.{pos, negsuc}
+use Rattle.crc_x25.specs.Crc.{reflect, polynomial, bitStep, bitSteps, byteStep, register, finalXor, crcOf}
+use Rattle.tlf.specs.Read.{Read, got, then, guard, need, byteAt, spanAt}
+use Rattle.tlf.specs.Lengths.{tlfAt, lengthFrom, lessOwn, listOfAt}
+use Rattle.num.specs.Numbers.{number, bytesAt, rawFrom, rawAt, unsignedAt, signedOf, signedAt, boolFrom, boolAt}
+use Rattle.octet_string.specs.Strings.{octetsAt, isWithin, partOf}
+use Rattle.octet_string.specs.Optional.{absentAt, optional}
+use Rattle.value.specs.Values.{bytes, signed, unsigned, timeAt, statusOf, statusAt, signedValue, unsignedValue, listTypeAt, valueOf, valueAt}
+use Rattle.common.specs.Fields.{openAt, closeAt, entryAt, messageEndAt}
+use Rattle.message.specs.Messages.{opened, closed, listed, listStartAt, listEndAt, contentAt, bodyAt, startAt}
+use Rattle.trailer.specs.Trailer.{crcFrom, trailerAt}
+use Rattle.streaming.specs.Next.{Event, starts, entry, ends, Said, event, noEvent, failed}
+use Rattle.events.specs.Events.{says, atStart, inside, entriesFrom, contentFrom, messagesFrom, eventsOf}
+use Rattle.events.specs.Meaning.{meaning}
+use Rattle.events.proofs.Cuts.{openMessage, listMessage, closeMessage}
+
+-- the meanings of the events that the calls answer on an input
+unfoldable pub meaningsIn : List ℕ → List Said → List (Event (List ℕ))
+meaningsIn s [] = []
+meaningsIn s (event e ∷ xs) = meaning s e ∷ meaningsIn s xs
+meaningsIn s (noEvent ∷ xs) = meaningsIn s xs
+meaningsIn s (failed f ∷ xs) = meaningsIn s xs
+
+unfoldable pub meaningsOf : List ℕ → List (Event (List ℕ))
+meaningsOf s = meaningsIn s (eventsOf s .first)
+
+-- the meaning of the entry at an input's start
+unfoldable pub entryOf : List ℕ → Read (Event (List ℕ))
+entryOf s = then (entryAt s 0) λ e n. got (meaning s (entry e)) n
+
+abbrev seven : Event (List ℕ)
+seven = entry (record { name = 9 ∷ []; status = some (record { width = 8; number = 5 }); time = none; unit = none; scaler = none; value = unsigned 8 7; signature = none })
+
+pub record Meanings : Type 0 where
+  pub open-means : meaningsOf openMessage ≡ starts (record { transactionId = 1 ∷ []; groupNo = 1; abortOnError = 2; body = opened (record { codepage = some (10 ∷ 11 ∷ []); clientId = some (12 ∷ []); fileId = 13 ∷ 14 ∷ []; serverId = 15 ∷ []; time = some 42; version = some 1 }) }) ∷ []
+  pub list-means : meaningsOf listMessage ≡ starts (record { transactionId = 7 ∷ []; groupNo = 0; abortOnError = 0; body = listed (record { clientId = some (1 ∷ []); serverId = 2 ∷ 3 ∷ []; name = some (4 ∷ []); time = some 43; count = 2 }) }) ∷ entry (record { name = 5 ∷ []; status = some (record { width = 8; number = 384 }); time = some 256; unit = some 30; scaler = some (negsuc 0); value = bytes (6 ∷ 7 ∷ []); signature = some (8 ∷ []) }) ∷ entry (record { name = 9 ∷ []; status = some (record { width = 8; number = 5 }); time = none; unit = none; scaler = none; value = signed 8 (negsuc 65534); signature = none }) ∷ ends (record { signature = some (10 ∷ []); time = some 9 }) ∷ []
+  pub close-means : meaningsOf closeMessage ≡ starts (record { transactionId = 0xdd ∷ 0x43 ∷ []; groupNo = 0; abortOnError = 0; body = closed (record { signature = none }) }) ∷ []
+  pub short-form : entryOf (0x77 ∷ 0x02 ∷ 0x09 ∷ 0x62 ∷ 0x05 ∷ 0x01 ∷ 0x01 ∷ 0x01 ∷ 0x62 ∷ 0x07 ∷ 0x01 ∷ []) ≡ got seven 11
+  pub long-form : entryOf (0x77 ∷ 0x80 ∷ 0x03 ∷ 0x09 ∷ 0x63 ∷ 0x00 ∷ 0x05 ∷ 0x01 ∷ 0x01 ∷ 0x01 ∷ 0x65 ∷ 0x00 ∷ 0x00 ∷ 0x00 ∷ 0x07 ∷ 0x01 ∷ []) ≡ got seven 16
+
+pub meanings : Meanings
+unfolding then guard need byteAt spanAt tlfAt lengthFrom lessOwn listOfAt number bytesAt rawFrom rawAt unsignedAt signedOf signedAt boolFrom boolAt octetsAt isWithin partOf absentAt optional timeAt statusOf statusAt signedValue unsignedValue listTypeAt valueOf valueAt openAt closeAt entryAt messageEndAt listStartAt listEndAt contentAt bodyAt startAt reflect polynomial bitStep bitSteps byteStep register finalXor crcOf crcFrom trailerAt says atStart inside entriesFrom contentFrom messagesFrom eventsOf meaning meaningsIn meaningsOf entryOf
+meanings = record { open-means = refl; list-means = refl; close-means = refl; short-form = refl; long-form = refl }
