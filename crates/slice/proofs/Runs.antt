@@ -1,15 +1,15 @@
 -- One byte more of a stretch that says nothing.
-use Prim.Native.Nat.{ℕ, zero, suc, _+_, _-_, _<_, _≤_, min}
+use Prim.Native.Nat.{ℕ, suc, _+_, _-_, _<_, _≤_}
 use mathlib.Core.List.{List, [], _∷_}
 use mathlib.Core.Path.{_≡_, refl, sym, ap, _∙_, subst}
 use mathlib.Core.Bool.{Bool, true, false, cond, not}
 use native.Mathlib.Omega.{arith}
 use native.Mathlib.Nat.{add-zero}
 use native.Mathlib.Numerals.{add-one}
-use borrow.Author.Tests.{le-ltb, lt-ltb, le-leb, eq-eqb, ne-eqb, eqb-true, eqb-false, ltb-false}
-use lib.Dec.{ltb, leb, eqb, T}
-use lib.ListN.{length, set, length-set, drop, getD, drop-of-length-le}
-use lib.Seq.{drop-cons, sets}
+use borrow.Author.Tests.{le-ltb, lt-ltb, le-leb, eq-eqb, ne-eqb, eqb-false}
+use lib.Dec.{ltb, eqb, T}
+use lib.ListN.{length, set, drop, getD, drop-of-length-le}
+use lib.Seq.{drop-cons}
 use Rattle.decoder.specs.declared.DecodeState.{DecodeState}
 use Rattle.decoder.specs.declared.DecodeState.the-variants.{LookingForMessageStart, ParsingNormal, ParsingEscChars, ParsingEscPayload, Done}
 use Rattle.decoder.specs.declared.Decoder.{Decoder}
@@ -17,8 +17,8 @@ use Rattle.decoder.specs.declared.Event.{Event}
 use Rattle.decoder.specs.declared.Event.the-variants.{Nothing, Payload, DiscardedBytes, InvalidEsc, OutOfMemory, InvalidMessage, BadState, WrongBuffer}
 use Rattle.decoder.specs.declared.Pushed.{Pushed}
 use Rattle.decoder.specs.Push.{stopped, starts, searching}
-use Rattle.decoder.specs.Record.{Answer, nothing, answerOf, After, after, leaves, pushRecord, badIn, badState, wrongBuffer, newRecord}
-use Rattle.decoder.specs.Cut.{cut, told, quiet, grown, code, stepOf, normalStep, waitStep, escapeStep}
+use Rattle.decoder.specs.Record.{nothing, answerOf, After, after, leaves, pushRecord, badIn, badState, wrongBuffer, newRecord}
+use Rattle.decoder.specs.Cut.{told, grown, stepOf, normalStep, waitStep, escapeStep}
 use Rattle.decoder.proofs.Faithful.{Fit}
 use Rattle.decoder.proofs.Tied.{tied, push-step}
 use Rattle.decoder.proofs.Runs.{new-fit}

@@ -1,8 +1,7 @@
 -- Bytes that a search skips: those that are no 1b while nothing is matched, and fives of 1b behind four matched ones.
 use Prim.Native.Nat.{ℕ, zero, suc, _+_, _-_, _*_, _/_, _%_, _<_, _≤_}
 use mathlib.Core.List.{List}
-use mathlib.Core.Path.{_≡_, refl, sym, ap, _∙_, subst}
-use mathlib.Core.Logic.{⊎-elim}
+use mathlib.Core.Path.{_≡_, refl, _∙_, subst}
 use mathlib.Core.Bool.{Bool, true, false, cond}
 use native.Mathlib.Omega.{arith}
 use native.Mathlib.Nat.{add-zero}
@@ -36,9 +35,6 @@ among-four P a k all p0 p1 p2 p3 =
 
 pub among-five : (P : ℕ → Type 0) (a k : ℕ) → ((i : ℕ) → a ≤ i → i < k → P i) → P k → P (k + 1) → P (k + 2) → P (k + 3) → P (k + 4) → (i : ℕ) → a ≤ i → i < k + 5 → P i
 among-five P a k all p0 p1 p2 p3 p4 = among-next P a (k + 4) (k + 5) (omega arith) (among-four P a k all p0 p1 p2 p3) p4
-
-pub among-none : (P : ℕ → Type 0) (a i : ℕ) → a ≤ i → i < a → P i
-among-none P a i le lt = absurd (omega arith)
 
 -- ---- a search
 
