@@ -1,3 +1,4 @@
 pub mod Runs
+pub mod Skips
 pub mod Taken
 pub mod Bench

@@ -1,15 +1,15 @@
 -- One byte more of a stretch that says nothing.
-use Prim.Native.Nat.{ℕ, zero, suc, _+_, _-_, _<_, _≤_, min}
+use Prim.Native.Nat.{ℕ, suc, _+_, _-_, _<_, _≤_}
 use mathlib.Core.List.{List, [], _∷_}
 use mathlib.Core.Path.{_≡_, refl, sym, ap, _∙_, subst}
 use mathlib.Core.Bool.{Bool, true, false, cond, not}
 use native.Mathlib.Omega.{arith}
 use native.Mathlib.Nat.{add-zero}
 use native.Mathlib.Numerals.{add-one}
-use borrow.Author.Tests.{le-ltb, lt-ltb, le-leb, eq-eqb, ne-eqb, eqb-true, eqb-false, ltb-false}
-use lib.Dec.{ltb, leb, eqb, T}
-use lib.ListN.{length, set, length-set, drop, getD, drop-of-length-le}
-use lib.Seq.{drop-cons, sets}
+use borrow.Author.Tests.{le-ltb, lt-ltb, le-leb, eq-eqb, ne-eqb, eqb-false}
+use lib.Dec.{ltb, eqb, T}
+use lib.ListN.{length, set, drop, getD, drop-of-length-le}
+use lib.Seq.{drop-cons}
 use Rattle.decoder.specs.declared.DecodeState.{DecodeState}
 use Rattle.decoder.specs.declared.DecodeState.the-variants.{LookingForMessageStart, ParsingNormal, ParsingEscChars, ParsingEscPayload, Done}
 use Rattle.decoder.specs.declared.Decoder.{Decoder}
@@ -17,8 +17,8 @@ use Rattle.decoder.specs.declared.Event.{Event}
 use Rattle.decoder.specs.declared.Event.the-variants.{Nothing, Payload, DiscardedBytes, InvalidEsc, OutOfMemory, InvalidMessage, BadState, WrongBuffer}
 use Rattle.decoder.specs.declared.Pushed.{Pushed}
 use Rattle.decoder.specs.Push.{stopped, starts, searching}
-use Rattle.decoder.specs.Record.{Answer, nothing, answerOf, After, after, leaves, pushRecord, badIn, badState, wrongBuffer, newRecord}
-use Rattle.decoder.specs.Cut.{cut, told, quiet, grown, code, stepOf, normalStep, waitStep, escapeStep}
+use Rattle.decoder.specs.Record.{nothing, answerOf, After, after, leaves, pushRecord, badIn, badState, wrongBuffer, newRecord}
+use Rattle.decoder.specs.Cut.{told, grown, stepOf, normalStep, waitStep, escapeStep}
 use Rattle.decoder.proofs.Faithful.{Fit}
 use Rattle.decoder.proofs.Tied.{tied, push-step}
 use Rattle.decoder.proofs.Runs.{new-fit}
@@ -117,33 +117,6 @@ plain-next d m s i k ix raw l small h hs n =
     let p = sym (tied g m (getD s (i + k) 0) (fit g m (omega arith) (omega arith) l small b))
     ∙ plain-byte g (d .fill + k) m (getD s (i + k) 0) refl (omega arith) n in
     more d k (k + 1) k ParsingNormal ParsingNormal m _ s i hs (rw (← f) p)
-
--- four ordinary bytes
-pub plain-four : (d : Decoder) (m s : List ℕ) (i k : ℕ) → d .«crc_idx» ≤ d .fill → 8 ≤ d .«raw_msg_len» → length m ≡ d .capacity → d .capacity ≤ 1048576
-    → d .fill + k + 3 < length m → i + k + 3 < length s
-    → (getD s (i + k) 0 ≡ 0x1b → ⊥) → (getD s (i + (k + 1)) 0 ≡ 0x1b → ⊥) → (getD s (i + (k + 2)) 0 ≡ 0x1b → ⊥) → (getD s (i + (k + 3)) 0 ≡ 0x1b → ⊥)
-    → pushesFrom (i + (k + 4)) (moved d (k + 4) (k + 4) ParsingNormal)
-    (set (set (set (set m (d .fill + k) (getD s (i + k) 0)) (d .fill + (k + 1)) (getD s (i + (k + 1)) 0)) (d .fill + (k + 2)) (getD s (i + (k + 2)) 0)) (d .fill + (k + 3)) (getD s (i + (k + 3)) 0))
-    (drop (i + (k + 4)) s)
-    ≡ pushesFrom (i + k) (moved d k k ParsingNormal) m (drop (i + k) s)
-plain-four d m s i k ix raw l small h hs n0 n1 n2 n3 =
-    let f : ℕ = d .fill in
-    let m1 : List ℕ = set m (d .fill + k) (getD s (i + k) 0) in
-    let m2 : List ℕ = set m1 (d .fill + (k + 1)) (getD s (i + (k + 1)) 0) in
-    let m3 : List ℕ = set m2 (d .fill + (k + 2)) (getD s (i + (k + 2)) 0) in
-    let l1 : length m1 ≡ length m = length-set m _ _ in
-    let l2 : length m2 ≡ length m = length-set m1 _ _ ∙ l1 in
-    let l3 : length m3 ≡ length m = length-set m2 _ _ ∙ l2 in
-    let e2 : k + 1 + 1 ≡ k + 2 = omega arith in
-    let e3 : k + 2 + 1 ≡ k + 3 = omega arith in
-    let e4 : k + 3 + 1 ≡ k + 4 = omega arith in
-    subst (λ (z : ℕ). pushesFrom (i + z) (moved d z z ParsingNormal) (set m3 (d .fill + (k + 3)) (getD s (i + (k + 3)) 0)) (drop (i + z) s) ≡ pushesFrom (i + (k + 3)) (moved d (k + 3) (k + 3) ParsingNormal) m3 (drop (i + (k + 3)) s)) e4
-    (plain-next d m3 s i (k + 3) ix raw (l3 ∙ l) small (omega (arith, l3, h)) (omega arith) n3)
-    ∙ subst (λ (z : ℕ). pushesFrom (i + z) (moved d z z ParsingNormal) m3 (drop (i + z) s) ≡ pushesFrom (i + (k + 2)) (moved d (k + 2) (k + 2) ParsingNormal) m2 (drop (i + (k + 2)) s)) e3
-    (plain-next d m2 s i (k + 2) ix raw (l2 ∙ l) small (omega (arith, l2, h)) (omega arith) n2)
-    ∙ subst (λ (z : ℕ). pushesFrom (i + z) (moved d z z ParsingNormal) m2 (drop (i + z) s) ≡ pushesFrom (i + (k + 1)) (moved d (k + 1) (k + 1) ParsingNormal) m1 (drop (i + (k + 1)) s)) e2
-    (plain-next d m1 s i (k + 1) ix raw (l1 ∙ l) small (omega (arith, l1, h)) (omega arith) n1)
-    ∙ plain-next d m s i k ix raw l small (omega arith) (omega arith) n0
 
 pub first-goes : (d : Decoder) (t : DecodeState) (m s : List ℕ) (i : ℕ) → d .«raw_msg_len» ≤ 4294967295 → Goes (moved d 0 0 t) (i + 0) m i (inState d t) m s
 first-goes d t m s i h = rw (add-zero i) (ap (λ (x : Decoder). pushesFrom i x m (drop i s)) (at-first d t h))

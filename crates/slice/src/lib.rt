@@ -2,13 +2,13 @@
 ghost use mathlib.Core.Path.{_≡_};
 ghost use mathlib.Core.List.{List, []};
 ghost use mathlib.Core.Bool.{true};
-ghost use Prim.Native.Nat.{ℕ, _+_, _<_, _≤_, _^_};
+ghost use Prim.Native.Nat.{ℕ, _+_, _-_, _%_, _<_, _≤_, _^_};
 ghost use lib.ListN.{length};
 ghost use Rattle.decoder.specs.declared.DecodeState.the-variants.{LookingForMessageStart, ParsingNormal, ParsingEscChars, ParsingEscPayload};
 ghost use Rattle.decoder.specs.Push.{stopped};
 ghost use Rattle.decoder.specs.Record.{answerOf};
 ghost use Rattle.slice.specs.Slice.{leaves, silent, pushesFrom, sliceRecord};
-ghost use Rattle.slice.specs.Stretch.{moved, inState, Goes};
+ghost use Rattle.slice.specs.Stretch.{moved, inState, Goes, Plain, Escapes};
 use decoder::DecodeState;
 use decoder::Decoder;
 use decoder::Event;
@@ -98,7 +98,39 @@ fn all_plain(a: u8, b: u8, c: u8, d: u8) -> bool
     true
 }
 
-// The bytes from `from` on that are no 1b, as many as there is room for, go to the buffer: four a turn while they last.
+// Four bytes a turn, as long as none of them is 1b.
+fn plain_fours(chunk: &[u8], from: usize, to: usize) -> usize
+    requires { ⌜ (from ≤ to) × (to ≤ length (now chunk)) ⌝ }
+    ensures { λ r. ⌜ (from ≤ r) × (r ≤ to) × Plain (now (chunk .entry)) from r ⌝ }
+{
+    let left = to - from;
+    let end = to - left % 4;
+    let mut k = from;
+    while k < end {
+        if !all_plain(chunk[k], chunk[k + 1], chunk[k + 2], chunk[k + 3]) {
+            break;
+        }
+        k += 4;
+    }
+    k
+}
+
+// The place of the first 1b in from..to, or `to`.
+fn plain_end(chunk: &[u8], from: usize, to: usize) -> usize
+    requires { ⌜ (from ≤ to) × (to ≤ length (now chunk)) ⌝ }
+    ensures { λ r. ⌜ (from ≤ r) × (r ≤ to) × Plain (now (chunk .entry)) from r ⌝ }
+{
+    let mut k = plain_fours(chunk, from, to);
+    while k < to {
+        if chunk[k] == 0x1b {
+            break;
+        }
+        k += 1;
+    }
+    k
+}
+
+// The bytes from `from` on that are no 1b, as many as there is room for, go to the buffer.
 fn put_plain(d: Decoder, buf: &mut [u8], chunk: &[u8], from: usize) -> Stretch
     requires { ⌜ (d .«crc_idx» ≤ d .fill) × (d .fill ≤ length (now buf)) × (8 ≤ d .«raw_msg_len») × (length (now buf) ≡ d .capacity) × (d .capacity ≤ 1048576) × (from ≤ length (now chunk)) ⌝ }
     ensures { λ r. ⌜ (r .at ≤ length (now (chunk .entry))) × (from ≤ r .at) × Goes (r .decoder) (r .at) (now (buf .exit)) from (inState d ParsingNormal) (now (buf .entry)) (now (chunk .entry)) ⌝ }
@@ -107,28 +139,11 @@ fn put_plain(d: Decoder, buf: &mut [u8], chunk: &[u8], from: usize) -> Stretch
     let room = buf.len() - at;
     let left = chunk.len() - from;
     let limit = least(left, room);
-    let whole = limit - limit % 4;
+    let to = plain_end(chunk, from, from + limit);
+    let all = to - from;
     let mut k = 0;
-    while k < whole {
-        let b0 = chunk[from + k];
-        let b1 = chunk[from + (k + 1)];
-        let b2 = chunk[from + (k + 2)];
-        let b3 = chunk[from + (k + 3)];
-        if !all_plain(b0, b1, b2, b3) {
-            break;
-        }
-        buf[at + k] = b0;
-        buf[at + (k + 1)] = b1;
-        buf[at + (k + 2)] = b2;
-        buf[at + (k + 3)] = b3;
-        k += 4;
-    }
-    while k < limit {
-        let b = chunk[from + k];
-        if b == 0x1b {
-            break;
-        }
-        buf[at + k] = b;
+    while k < all {
+        buf[at + k] = chunk[from + k];
         k += 1;
     }
     let n = moved_on(d, k, k, DecodeState::ParsingNormal);
@@ -136,6 +151,51 @@ fn put_plain(d: Decoder, buf: &mut [u8], chunk: &[u8], from: usize) -> Stretch
         decoder: n,
         at: from + k,
     }
+}
+
+// Five bytes are 1b.
+fn all_escape(a: u8, b: u8, c: u8, d: u8, e: u8) -> bool
+    ensures { λ r. ⌜ (r ≡ true → (a ≡ 0x1b) × (b ≡ 0x1b) × (c ≡ 0x1b) × (d ≡ 0x1b) × (e ≡ 0x1b)) ⌝ }
+{
+    if a != 0x1b {
+        return false;
+    }
+    if b != 0x1b {
+        return false;
+    }
+    if c != 0x1b {
+        return false;
+    }
+    if d != 0x1b {
+        return false;
+    }
+    if e != 0x1b {
+        return false;
+    }
+    true
+}
+
+// Five bytes a turn, as long as all of them are 1b: behind four matched ones a fifth is noise, and the four behind it match again.
+fn fives_end(chunk: &[u8], from: usize) -> usize
+    requires { ⌜ from ≤ length (now chunk) ⌝ }
+    ensures { λ r. ⌜ (from ≤ r) × (r ≤ length (now (chunk .entry))) × ((r - from) % 5 ≡ 0) × Escapes (now (chunk .entry)) from r ⌝ }
+{
+    let left = chunk.len() - from;
+    let end = chunk.len() - left % 5;
+    let mut k = from;
+    while k < end {
+        if !all_escape(
+            chunk[k],
+            chunk[k + 1],
+            chunk[k + 2],
+            chunk[k + 3],
+            chunk[k + 4],
+        ) {
+            break;
+        }
+        k += 5;
+    }
+    k
 }
 
 // The bytes of a search from `from` on, up to the last of a start sequence. Matched bytes and noise are all the bytes there are.
@@ -152,10 +212,15 @@ fn search_more(d: Decoder, noise: u32, n: u8, chunk: &[u8], from: usize) -> Stre
                 break;
             }
             q += 1;
+            k += 1;
+            if q == 4 {
+                k = fives_end(chunk, from + k) - from;
+            }
         } else {
+            // Nothing is matched now, so all bytes up to the next 1b are noise.
             q = 0;
+            k = plain_end(chunk, from + (k + 1), chunk.len()) - from;
         }
-        k += 1;
     }
     let all = more(noise, (n as usize) + k - (q as usize));
     let g = moved_on(

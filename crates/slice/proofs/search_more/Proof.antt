@@ -1,18 +1,18 @@
 use borrow.Author.Needs.{needs}
-use Prim.Native.Nat.{ℕ, _+_, _-_, _<_, _≤_, _^_}
+use Prim.Native.Nat.{ℕ, _+_, _-_, _<_, _≤_}
 use mathlib.Core.List.{List}
-use mathlib.Core.Path.{_≡_, refl, sym, ap, _∙_, subst}
-use mathlib.Core.Bool.{Bool, true, false}
+use mathlib.Core.Path.{_≡_, refl, sym, ap, _∙_}
+use mathlib.Core.Bool.{true, false}
 use native.Mathlib.Omega.{arith}
 use denote.Ref.{now}
-use lib.ListN.{length, drop, set, getD, length-set}
+use lib.ListN.{length, drop}
 use Rattle.decoder.specs.declared.Decoder.{Decoder}
-use Rattle.decoder.specs.declared.DecodeState.the-variants.{LookingForMessageStart, ParsingNormal, ParsingEscChars, ParsingEscPayload, Done}
-use Rattle.decoder.specs.Push.{stopped, starts}
-use Rattle.slice.specs.Slice.{silent, pushesFrom}
+use Rattle.decoder.specs.declared.DecodeState.the-variants.{LookingForMessageStart}
+use Rattle.decoder.specs.Push.{stopped}
+use Rattle.slice.specs.Slice.{pushesFrom}
 use Rattle.slice.specs.Stretch.{moved, inState, Goes}
 use Rattle.slice.proofs.Runs as runs
-use mathlib.Core.Logic.{⊎-elim}
+use Rattle.slice.proofs.Skips as skips
 use Rattle.slice.proofs.search_more.Statement.{statement}
 use Rattle.slice.proofs.search_more.Tie as tie
 
@@ -45,22 +45,82 @@ add-q c = search needs
 add-k : tie.Need-add-k Inv-loop μ-loop
 add-k c = search needs
 
+add-fives-end : tie.Need-add-fives-end Inv-loop μ-loop
+add-fives-end c = search needs
+
+fives-end-requires : tie.Need-fives-end-requires Inv-loop μ-loop
+fives-end-requires c κs = search needs
+
+sub-k : tie.Need-sub-k Inv-loop μ-loop
+sub-k c = search needs
+
 loop-less : tie.Need-loop-less Inv-loop μ-loop
 loop-less c = search needs
 
 loop-again : tie.Need-loop-again Inv-loop μ-loop
 loop-again c =
-    let l = c .before .before .before .before .loop in
-    let a = c .before .before .before .before .before .before .args in
+    let l = c .before .before .before .before .before .before .before .loop in
+    let a = c .before .before .before .before .before .before .before .before .before .args in
     let s = now (a .chunk) in
-    let said = sym (c .before .matching .ensures) in
+    let said = sym (c .before .before .before .before .matching .ensures) in
     let small : a .d .capacity ≤ 1048576 = search needs in
     let room : a .from + l .k < length s = search needs in
-    let z = ⊎-elim
-    (λ w. runs.search-next (a .d) (a .noise) (a .n) (l .q) (c .if1 .q) s (a .from) (l .k) true (search needs) (search needs) (search needs) small room (l .inv .4) (l .inv .3) (said ∙ w .0 .taken) (runs.not-seven (l .q) (w .1 .left)) (w .2))
-    (λ w. runs.search-next (a .d) (a .noise) (a .n) (l .q) (c .if1 .q) s (a .from) (l .k) false (search needs) (search needs) (search needs) small room (l .inv .4) (l .inv .3) (said ∙ w .0 .left) (runs.no-match (l .q)) (w .1))
-    (c .if1 .came) in
+    let z = runs.search-next (a .d) (a .noise) (a .n) (l .q) (l .q + 1) s (a .from) (l .k) true (search needs) (search needs) (search needs) small room (l .inv .4) (l .inv .3) (said ∙ c .before .before .before .if1 .taken) (runs.not-seven (l .q) (c .before .before .if2 .left)) refl in
+    let e = c .fives-end .ensures in (
+      search needs,
+      search needs,
+      search needs,
+      omega (arith, z .0, e .0),
+      z .1,
+      λ m h. skips.fives-to (a .d) (a .noise) (a .n) s (a .from) (search needs) (search needs) (search needs) small m h (l .k + 1) (c .fives-end .result) (l .q + 1) (c .before .if3 .taken) (z .0) (e .0) (e .1) (e .2) (e .3) ∙ z .2 m h ∙ l .inv .5 m h,
+    )
+
+loop-less-2 : tie.Need-loop-less-2 Inv-loop μ-loop
+loop-less-2 c = search needs
+
+loop-again-2 : tie.Need-loop-again-2 Inv-loop μ-loop
+loop-again-2 c =
+    let l = c .before .before .before .before .before .before .loop in
+    let a = c .before .before .before .before .before .before .before .before .args in
+    let s = now (a .chunk) in
+    let said = sym (c .before .before .before .matching .ensures) in
+    let small : a .d .capacity ≤ 1048576 = search needs in
+    let room : a .from + l .k < length s = search needs in
+    let z = runs.search-next (a .d) (a .noise) (a .n) (l .q) (l .q + 1) s (a .from) (l .k) true (search needs) (search needs) (search needs) small room (l .inv .4) (l .inv .3) (said ∙ c .before .before .if1 .taken) (runs.not-seven (l .q) (c .before .if2 .left)) refl in
     (search needs, search needs, search needs, z .0, z .1, λ m h. z .2 m h ∙ l .inv .5 m h)
+
+add-plain-end : tie.Need-add-plain-end Inv-loop μ-loop
+add-plain-end c = search needs
+
+add-plain-end-2 : tie.Need-add-plain-end-2 Inv-loop μ-loop
+add-plain-end-2 c = search needs
+
+plain-end-requires : tie.Need-plain-end-requires Inv-loop μ-loop
+plain-end-requires c κs = search needs
+
+sub-k-2 : tie.Need-sub-k-2 Inv-loop μ-loop
+sub-k-2 c = search needs
+
+loop-less-3 : tie.Need-loop-less-3 Inv-loop μ-loop
+loop-less-3 c = search needs
+
+loop-again-3 : tie.Need-loop-again-3 Inv-loop μ-loop
+loop-again-3 c =
+    let l = c .before .before .before .before .before .loop in
+    let a = c .before .before .before .before .before .before .before .args in
+    let s = now (a .chunk) in
+    let said = sym (c .before .before .matching .ensures) in
+    let small : a .d .capacity ≤ 1048576 = search needs in
+    let room : a .from + l .k < length s = search needs in
+    let z = runs.search-next (a .d) (a .noise) (a .n) (l .q) (0) s (a .from) (l .k) false (search needs) (search needs) (search needs) small room (l .inv .4) (l .inv .3) (said ∙ c .before .if1 .left) (runs.no-match (l .q)) refl in
+    let e = c .plain-end .ensures in (
+      search needs,
+      search needs,
+      search needs,
+      search needs,
+      search needs,
+      λ m h. skips.noise-to (a .d) (a .noise) (a .n) s (a .from) (search needs) (search needs) (search needs) small m h (l .k + 1) (c .plain-end .result) (e .0) (e .1) (e .2) ∙ z .2 m h ∙ l .inv .5 m h,
+    )
 
 add-more : tie.Need-add-more Inv-loop μ-loop
 add-more c = search needs
@@ -100,8 +160,19 @@ search-more-spec =
     matching-requires
     add-q
     add-k
+    add-fives-end
+    fives-end-requires
+    sub-k
     loop-less
     loop-again
+    loop-less-2
+    loop-again-2
+    add-plain-end
+    add-plain-end-2
+    plain-end-requires
+    sub-k-2
+    loop-less-3
+    loop-again-3
     add-more
     cast-more
     sub-more
