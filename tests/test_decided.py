@@ -23,7 +23,7 @@ for path in sorted(glob.glob("crates/*/src/**/*.rt", recursive=True)):
     if len(FN.findall(text)) != len(re.findall(r'^\s*pub (?:extern "C" )?fn ', text, re.M)):
         bad.append(f"{path}: a public function with no equation")
     for m in FN.finditer(text):
-        crate, name = path.split(os.sep)[1], m.group(1).replace("_", "-")
+        crate, name = path.split(os.sep)[1].replace("_", "-"), m.group(1).replace("_", "-")
         key = next((k for k in (crate + "-" + name, name) if k in lines and k not in seen), None)
         if not key:
             bad.append(f"{path}: {m.group(1)} has no line in Decided")

@@ -42,6 +42,7 @@ use Rattle.decoder.specs.declared.Resetted.{Resetted}
 use Rattle.decoder.proofs.Answers.{push-one, finalize-one, reset-one, ask-one}
 use Rattle.slice.specs.Slice as S
 use Rattle.slice.specs.declared.Sliced.{Sliced}
+use Rattle.slice_in_place.specs.declared.Taken.{Taken}
 use Rattle.bench.specs.Bench.{counted}
 use Rattle.value.specs.Answers.{timeRead, statusRead, valueRead, optU8Read, optI8Read, optTimeRead, optStatusRead}
 use Rattle.common.specs.Answers.{openRead, closeRead, entryRead}
@@ -134,6 +135,14 @@ slice-both r r′ h =
     let n : r .answer .taken ≡ r′ .answer .taken = ap (λ (t : S.Took). t .taken) h in
     λ i. record { answer = record { decoder = p .0 i .decoder; event = p .0 i .event; taken = n i }; memory = p .1 i }
 
+slice-in-place : (r r′ : With (Beside Taken Decoder))
+    → S.leaves (record { decoder = r .answer .lent; event = r .answer .answer .event; taken = r .answer .answer .taken }) (r .memory)
+    ≡ S.leaves (record { decoder = r′ .answer .lent; event = r′ .answer .answer .event; taken = r′ .answer .answer .taken }) (r′ .memory) → r ≡ r′
+slice-in-place r r′ h =
+    let p = slice-both (record { answer = record { decoder = r .answer .lent; event = r .answer .answer .event; taken = r .answer .answer .taken }; memory = r .memory })
+    (record { answer = record { decoder = r′ .answer .lent; event = r′ .answer .answer .event; taken = r′ .answer .answer .taken }; memory = r′ .memory }) h in
+    λ i. record { answer = record { answer = record { event = p i .answer .event; taken = p i .answer .taken }; lent = p i .answer .decoder }; memory = p i .memory }
+
 count-both : (r r′ : With ℕ) → counted (r .answer) (r .memory) ≡ counted (r′ .answer) (r′ .memory) → r ≡ r′
 count-both r r′ h = λ i. record { answer = h i .number; memory = h i .memory }
 
@@ -168,6 +177,7 @@ views =
       resetted-in-place = reset-in-place;
       next-in-place = next-in-place;
       sliced = slice-both;
+      sliced-in-place = slice-in-place;
       number = count-both;
       time = time-one;
       status = status-one;
@@ -239,10 +249,14 @@ decided =
       transport-next = λ e payload. injective (λ (r : Beside Item Encoder). stepOf (record { answer = r .answer; encoder = r .lent })) (views .next-in-place) _;
       next-lent = λ e payload. injective stepOf (views .next) _;
       push-slice = λ d buf chunk. injective (λ (r : With Sliced). S.leaves (r .answer) (r .memory)) (views .sliced) _;
+      slice-in-place-push-slice =
+          λ d buf chunk. injective (λ (r : With (Beside Taken Decoder)). S.leaves (record { decoder = r .answer .lent; event = r .answer .answer .event; taken = r .answer .answer .taken }) (r .memory)) (views .sliced-in-place) _;
+      push-slice-lent = λ d buf chunk. injective (λ (r : With Sliced). S.leaves (r .answer) (r .memory)) (views .sliced) _;
       bench-push = λ src buf. injective (λ (r : With ℕ). counted (r .answer) (r .memory)) (views .number) _;
       bench-push-slice = λ src buf. injective (λ (r : With ℕ). counted (r .answer) (r .memory)) (views .number) _;
       bench-encode = λ payload out. injective (λ (r : With ℕ). counted (r .answer) (r .memory)) (views .number) _;
       bench-stream = λ payload. plain _;
+      bench-events = λ input. plain _;
       bench-crc = λ src. plain _;
       parse-time = λ input at. injective timeRead (views .time) _;
       parse-status = λ input at. injective statusRead (views .status) _;

@@ -50,7 +50,8 @@ use Rattle.decoder.specs.declared.Asked.{Asked}
 use Rattle.slice.specs.Slice as S
 use Rattle.slice.specs.Slice.{sliceRecord}
 use Rattle.slice.specs.declared.Sliced.{Sliced}
-use Rattle.bench.specs.Bench.{counted, payloads, encoded, streamed}
+use Rattle.slice_in_place.specs.declared.Taken.{Taken}
+use Rattle.bench.specs.Bench.{counted, payloads, encoded, streamed, events}
 use Rattle.value.specs.Values.{timeAt, statusAt, valueAt}
 use Rattle.value.specs.Answers.{timeRead, statusRead, valueRead, optU8Read, optI8Read, optTimeRead, optStatusRead}
 use Rattle.value.specs.declared.TimeRead.{TimeRead}
@@ -126,6 +127,7 @@ pub record Views : Type 0 where
   pub resetted-in-place : Injective (λ (r : Beside ℕ Decoder). leavesReset (record { decoder = r .lent; count = r .answer }))
   pub next-in-place : Injective (λ (r : Beside Item Encoder). stepOf (record { answer = r .answer; encoder = r .lent }))
   pub sliced : Injective (λ (r : With Sliced). S.leaves (r .answer) (r .memory))
+  pub sliced-in-place : Injective (λ (r : With (Beside Taken Decoder)). S.leaves (record { decoder = r .answer .lent; event = r .answer .answer .event; taken = r .answer .answer .taken }) (r .memory))
   pub number : Injective (λ (r : With ℕ). counted (r .answer) (r .memory))
   pub time : Injective timeRead
   pub status : Injective statusRead
@@ -202,11 +204,15 @@ pub record Decided : Type 0 where
   pub next-lent : (e : Encoder) (payload : List ℕ) → One (λ (r : Given). stepOf r ≡ nextStep e payload)
   -- slice
   pub push-slice : (d : Decoder) (buf chunk : List ℕ) → One (λ (r : With Sliced). S.leaves (r .answer) (r .memory) ≡ sliceRecord d buf chunk)
+  -- slice_in_place: d is the record at the call
+  pub slice-in-place-push-slice : (d : Decoder) (buf chunk : List ℕ) → One (λ (r : With (Beside Taken Decoder)). S.leaves (record { decoder = r .answer .lent; event = r .answer .answer .event; taken = r .answer .answer .taken }) (r .memory) ≡ sliceRecord d buf chunk)
+  pub push-slice-lent : (d : Decoder) (buf chunk : List ℕ) → One (λ (r : With Sliced). S.leaves (r .answer) (r .memory) ≡ sliceRecord d buf chunk)
   -- bench
   pub bench-push : (src buf : List ℕ) → One (λ (r : With ℕ). counted (r .answer) (r .memory) ≡ payloads src buf)
   pub bench-push-slice : (src buf : List ℕ) → One (λ (r : With ℕ). counted (r .answer) (r .memory) ≡ payloads src buf)
   pub bench-encode : (payload out : List ℕ) → One (λ (r : With ℕ). counted (r .answer) (r .memory) ≡ encoded payload out)
   pub bench-stream : (payload : List ℕ) → One (λ (r : ℕ). r ≡ streamed payload)
+  pub bench-events : (input : List ℕ) → One (λ (r : ℕ). r ≡ events input)
   pub bench-crc : (src : List ℕ) → One (λ (r : ℕ). r ≡ crcOf src)
   -- value
   pub parse-time : (input : List ℕ) (at : ℕ) → One (λ (r : TimeRead). timeRead r ≡ timeAt input at)

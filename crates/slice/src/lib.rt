@@ -334,7 +334,7 @@ fn until_event(d: Decoder, buf: &mut [u8], chunk: &[u8]) -> Sliced
         now = a.decoder;
         i = a.at;
         if i < chunk.len() {
-            let p = now.push_byte(buf, chunk[i]);
+            let p = decoder::push_any(now, buf, chunk[i]);
             let e = p.event;
             now = p.decoder;
             i += 1;

@@ -27,11 +27,11 @@ loop-holds c = search needs
 ahead-requires : tie.Need-ahead-requires Inv-loop μ-loop
 ahead-requires c κs = search needs
 
-shared-slice-read-push-byte : tie.Need-shared-slice-read-push-byte Inv-loop μ-loop
-shared-slice-read-push-byte c = search needs
+shared-slice-read-push-any : tie.Need-shared-slice-read-push-any Inv-loop μ-loop
+shared-slice-read-push-any c = search needs
 
-push-byte-requires : tie.Need-push-byte-requires Inv-loop μ-loop
-push-byte-requires c κs = search needs
+push-any-requires : tie.Need-push-any-requires Inv-loop μ-loop
+push-any-requires c κs = search needs
 
 add-i : tie.Need-add-i Inv-loop μ-loop
 add-i c = search needs
@@ -47,7 +47,7 @@ returns c =
     let l = c .before .before .before .before .before .before .before .before .before .before .before .before .before .before .before .loop in
     let a = c .before .before .before .before .before .before .before .before .before .before .before .before .before .before .before .before .before .before .args in
     let h = c .before .before .before .before .before .before .before .before .before .before .before .before .ahead in
-    let p = c .before .before .before .before .before .push-byte in
+    let p = c .before .before .before .before .before .push-any in
     let q = sym (c .before .says-nothing .ensures) ∙ runs.not-true _ (c .if2 .taken) in
     runs.loud-next (h .result .at) (h .result .decoder) (h .last .1 .0) (now (a .chunk)) (h .result .at) (p .result) _ (c .before .before .before .before .before .before .before .before .if1 .taken) (p .ensures) q ∙ h .ensures .2 ∙ l .inv .2
 
@@ -59,7 +59,7 @@ loop-again c =
     let l = c .before .before .before .before .before .before .before .before .before .before .before .before .before .before .before .loop in
     let a = c .before .before .before .before .before .before .before .before .before .before .before .before .before .before .before .before .before .before .args in
     let h = c .before .before .before .before .before .before .before .before .before .before .before .before .ahead in
-    let p = c .before .before .before .before .before .push-byte in
+    let p = c .before .before .before .before .before .push-any in
     let q = sym (c .before .says-nothing .ensures) ∙ runs.not-false _ (c .if2 .left) in
     (search needs, search needs, runs.silent-next (h .result .at) (h .result .decoder) (h .last .1 .0) (now (a .chunk)) (h .result .at) (p .result) _ (c .before .before .before .before .before .before .before .before .if1 .taken) (p .ensures) q ∙ h .ensures .2 ∙ l .inv .2)
 
@@ -89,8 +89,8 @@ until-event-spec =
     μ-loop
     loop-holds
     ahead-requires
-    shared-slice-read-push-byte
-    push-byte-requires
+    shared-slice-read-push-any
+    push-any-requires
     add-i
     says-nothing-requires
     same-length
