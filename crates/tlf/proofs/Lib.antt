@@ -1,5 +1,6 @@
 pub mod Read
 pub mod Rest
 pub mod Lengths
+pub mod Short
 pub mod Found
 pub mod Bench
