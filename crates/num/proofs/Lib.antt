@@ -1,3 +1,4 @@
 pub mod Numbers
+pub mod Short
 pub mod Ahead
 pub mod Bench
