@@ -81,7 +81,7 @@ fn take_num(input: &[u8], at: usize, len: u32) -> RawRead
     }
 }
 
-// The length byte of an empty number, were there one: a byte more for each byte of the number.
+// What one length byte adds to the number of bytes: 51 for a signed number, 61 for an unsigned one.
 fn short_head(signed: bool) -> u32
     ensures { λ r. ⌜ r ≡ cond signed 0x51 0x61 ⌝ }
 {
@@ -110,7 +110,7 @@ fn short_len(input: &[u8], at: usize, signed: bool, size: u32) -> u32
     len
 }
 
-// A number in any form.
+// A number behind any length field.
 fn parse_any(input: &[u8], at: usize, signed: bool, size: u32) -> RawRead
     requires { ⌜ size ≤ 8 ⌝ }
     ensures { λ r. ⌜ rawRead r ≡ rawAt signed size (now (input .entry)) at ⌝ }
@@ -197,7 +197,7 @@ fn parse_integer(input: &[u8], at: usize, size: u32) -> I64Read
     }
 }
 
-// Whether the byte `head` and a byte more stand at `at`.
+// Whether a number of one byte stands at `at`, its length byte being `head`.
 fn is_short(input: &[u8], at: usize, head: u8) -> bool
     ensures { λ r. ⌜ (r ≡ true → (at + 1 < length (now (input .entry))) × (getD (now (input .entry)) at 0 ≡ head)) ⌝ }
 {
