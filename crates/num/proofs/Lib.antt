@@ -1,4 +1,5 @@
 pub mod Numbers
+pub mod Short
 pub mod Ahead
 pub mod Gets
 pub mod Bench

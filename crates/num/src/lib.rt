@@ -1,9 +1,9 @@
 // Ports parser/num.rs: eight widths and bool. `impl_num!` becomes eight thin functions over `parse_num`.
-ghost use mathlib.Core.Bool.{_&&_};
+ghost use mathlib.Core.Bool.{true, cond, _&&_};
 ghost use mathlib.Core.Path.{_≡_};
 ghost use Prim.Native.Nat.{_+_, _*_, _-_, _^_, _≤_, _<_};
 ghost use lib.Dec.{eqb};
-ghost use lib.ListN.{length, take, drop};
+ghost use lib.ListN.{length, getD, take, drop};
 ghost use Rattle.tlf.specs.Lengths.{isBoolean};
 ghost use Rattle.num.specs.Numbers.{number, bytesAt, isNumber, fitsWidth, rawFrom, rawAt, unsignedAt, signedOf, signedAt, boolFrom, boolAt};
 ghost use Rattle.num.specs.Answers.{rawRead, u8Read, u16Read, u32Read, u64Read, i8Read, i16Read, i32Read, i64Read, boolRead};
@@ -81,8 +81,37 @@ fn take_num(input: &[u8], at: usize, len: u32) -> RawRead
     }
 }
 
-// What the eight widths share.
-fn parse_num(input: &[u8], at: usize, signed: bool, size: u32) -> RawRead
+// What one length byte adds to the number of bytes: 51 for a signed number, 61 for an unsigned one.
+fn short_head(signed: bool) -> u32
+    ensures { λ r. ⌜ r ≡ cond signed 0x51 0x61 ⌝ }
+{
+    if signed { 0x51 } else { 0x61 }
+}
+
+// The bytes of a number that has one length byte and stands within the input; 0 for any other.
+fn short_len(input: &[u8], at: usize, signed: bool, size: u32) -> u32
+    ensures { λ r. ⌜ (1 ≤ r → (at + 1 + r ≤ length (now (input .entry))) × (r ≤ size) × (getD (now (input .entry)) at 0 ≡ cond signed 0x51 0x61 + r)) ⌝ }
+{
+    if input.len() <= at {
+        return 0;
+    }
+    let b = input[at] as u32;
+    let head = short_head(signed);
+    if b <= head {
+        return 0;
+    }
+    let len = b - head;
+    if size < len {
+        return 0;
+    }
+    if input.len() - at - 1 < len as usize {
+        return 0;
+    }
+    len
+}
+
+// A number behind any length field.
+fn parse_any(input: &[u8], at: usize, signed: bool, size: u32) -> RawRead
     requires { ⌜ size ≤ 8 ⌝ }
     ensures { λ r. ⌜ rawRead r ≡ rawAt signed size (now (input .entry)) at ⌝ }
 {
@@ -99,6 +128,23 @@ fn parse_num(input: &[u8], at: usize, signed: bool, size: u32) -> RawRead
         }
         TlfRead::Refused(f) => RawRead::Refused(f),
     }
+}
+
+// What the eight widths share.
+fn parse_num(input: &[u8], at: usize, signed: bool, size: u32) -> RawRead
+    requires { ⌜ size ≤ 8 ⌝ }
+    ensures { λ r. ⌜ rawRead r ≡ rawAt signed size (now (input .entry)) at ⌝ }
+{
+    let len = short_len(input, at, signed, size);
+    if 1 <= len {
+        let n = len as usize;
+        return RawRead::Is {
+            len,
+            value: from_be_bytes(input, at + 1, n),
+            next: at + 1 + n,
+        };
+    }
+    parse_any(input, at, signed, size)
 }
 
 // The signed number whose `len` bytes are the number `value`: the upper half is negative.
@@ -151,6 +197,19 @@ fn parse_integer(input: &[u8], at: usize, size: u32) -> I64Read
     }
 }
 
+// Whether a number of one byte stands at `at`, its length byte being `head`.
+fn is_short(input: &[u8], at: usize, head: u8) -> bool
+    ensures { λ r. ⌜ (r ≡ true → (at + 1 < length (now (input .entry))) × (getD (now (input .entry)) at 0 ≡ head)) ⌝ }
+{
+    if input.len() <= at {
+        return false;
+    }
+    if input.len() - at <= 1 {
+        return false;
+    }
+    input[at] == head
+}
+
 pub enum U8Read {
     Is { value: u8, next: usize },
     Refused(Fault),
@@ -159,6 +218,12 @@ pub enum U8Read {
 pub fn parse_u8(input: &[u8], at: usize) -> U8Read
     ensures { λ r. ⌜ u8Read r ≡ unsignedAt 1 (now (input .entry)) at ⌝ }
 {
+    if is_short(input, at, 0x62) {
+        return U8Read::Is {
+            value: input[at + 1],
+            next: at + 2,
+        };
+    }
     match parse_unsigned(input, at, 1) {
         U64Read::Is { value, next } => U8Read::Is {
             value: value as u8,
@@ -208,6 +273,17 @@ pub fn parse_u64(input: &[u8], at: usize) -> U64Read
     parse_unsigned(input, at, 8)
 }
 
+// The signed number that one byte is.
+fn sign_of_byte(b: u8) -> i8
+    ensures { λ r. ⌜ r ≡ signedOf 1 b ⌝ }
+{
+    if b < 128 {
+        b as i8
+    } else {
+        -1 - (255 - b) as i8
+    }
+}
+
 pub enum I8Read {
     Is { value: i8, next: usize },
     Refused(Fault),
@@ -216,6 +292,13 @@ pub enum I8Read {
 pub fn parse_i8(input: &[u8], at: usize) -> I8Read
     ensures { λ r. ⌜ i8Read r ≡ signedAt 1 (now (input .entry)) at ⌝ }
 {
+    if is_short(input, at, 0x52) {
+        let b = input[at + 1];
+        return I8Read::Is {
+            value: sign_of_byte(b),
+            next: at + 2,
+        };
+    }
     match parse_integer(input, at, 1) {
         I64Read::Is { value, next } => I8Read::Is {
             value: value as i8,

@@ -1,4 +1,5 @@
 pub mod Strings
+pub mod Short
 pub mod Optional
 pub mod Within
 pub mod Gets

@@ -1,5 +1,7 @@
 // Ports parser/octet_string.rs, and Option of parser/mod.rs for strings. A span stands for the Rust's OctetStr.
 ghost use mathlib.Core.Path.{_≡_};
+ghost use Prim.Native.Nat.{_+_, _≤_, _<_};
+ghost use lib.ListN.{length, getD};
 ghost use Rattle.tlf.specs.Refusals.{spanRead};
 ghost use Rattle.octet_string.specs.Strings.{isOctets, octetsAt, isWithin, partOf, spanRefusal};
 ghost use Rattle.octet_string.specs.Optional.{absentAt, optional};
@@ -25,9 +27,36 @@ fn check_tlf(tlf: TypeLengthField) -> bool
     }
 }
 
+// The bytes of a string that has one length byte and stands within the input, its length byte with them; 0 for any other.
+fn short_string(input: &[u8], at: usize) -> usize
+    ensures { λ r. ⌜ (1 ≤ r → (at + r ≤ length (now (input .entry))) × (r < 16) × (getD (now (input .entry)) at 0 ≡ r)) ⌝ }
+{
+    if input.len() <= at {
+        return 0;
+    }
+    let own = input[at] as usize;
+    if 15 < own {
+        return 0;
+    }
+    if input.len() - at < own {
+        return 0;
+    }
+    own
+}
+
 pub fn parse_octet_str(input: &[u8], at: usize) -> SpanRead
     ensures { λ r. ⌜ spanRead r ≡ octetsAt (now (input .entry)) at ⌝ }
 {
+    let short = short_string(input, at);
+    if 1 <= short {
+        return SpanRead::Is {
+            span: Span {
+                start: at + 1,
+                len: short - 1,
+            },
+            next: at + short,
+        };
+    }
     match TypeLengthField::parse(input, at) {
         TlfRead::Is { tlf, next } => {
             if check_tlf(tlf) {

@@ -1,8 +1,9 @@
 // Ports parser/tlf.rs, and of parser/mod.rs the errors and the taking of bytes.
 // A place in the lent input stands for the Rust's rest of the input; refusals say the place, too.
-ghost use mathlib.Core.Bool.{_&&_};
+ghost use mathlib.Core.Bool.{true, _&&_};
 ghost use mathlib.Core.Path.{_≡_};
-ghost use lib.ListN.{length, drop};
+ghost use Prim.Native.Nat.{_+_, _<_};
+ghost use lib.ListN.{length, getD, drop};
 ghost use Rattle.tlf.specs.Read.{byteAt, spanAt};
 ghost use Rattle.tlf.specs.Refusals.{byteRead, spanRead, tyRead, lenRead, tlfRead, placeRead};
 ghost use Rattle.tlf.specs.Lengths.{tyOf, longer, lengthFrom, lessOwn, tlfAt, isList, isBoolean, isListOf, listOfAt, moreFollow};
@@ -263,10 +264,27 @@ pub enum PlaceRead {
     Refused(Fault),
 }
 
+// Whether the head of a list of `n` elements is the one byte 70 + n, as nearly every list of a meter has it.
+fn is_short_list(input: &[u8], at: usize, n: u32) -> bool
+    ensures { λ r. ⌜ (r ≡ true → (at < length (now (input .entry))) × (n < 16) × (getD (now (input .entry)) at 0 ≡ 0x70 + n)) ⌝ }
+{
+    if input.len() <= at {
+        return false;
+    }
+    if 15 < n {
+        return false;
+    }
+    let b = input[at];
+    b as u32 == 0x70 + n
+}
+
 // The head of a list of `n` elements: check_tlf of the Rust's structures.
 pub fn parse_list_of(input: &[u8], at: usize, n: u32) -> PlaceRead
     ensures { λ r. ⌜ placeRead r ≡ listOfAt n (now (input .entry)) at ⌝ }
 {
+    if is_short_list(input, at, n) {
+        return PlaceRead::Is { next: at + 1 };
+    }
     match TypeLengthField::parse(input, at) {
         TlfRead::Is { tlf, next } => {
             if tlf.is_list_of(n) {

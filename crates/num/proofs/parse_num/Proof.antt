@@ -1,63 +1,49 @@
-use mathlib.Core.Path.{sym, _∙_}
 use native.Mathlib.Omega.{arith}
-use Rattle.tlf.specs.Read.{then, guard}
-use Rattle.num.specs.Numbers.{rawAt}
-use Rattle.num.proofs.Numbers.{fits-high}
+use Rattle.num.proofs.Short.{raw-one}
 use borrow.Author.Needs.{needs}
 use Rattle.num.proofs.parse_num.Statement.{statement}
 use Rattle.num.proofs.parse_num.Tie as tie
 
-parse-requires : tie.Need-parse-requires
-parse-requires c κs = search needs
+short-len-requires : tie.Need-short-len-requires
+short-len-requires c κs = search needs
 
-enum-known-tlf : tie.Need-enum-known-tlf
-enum-known-tlf c = search needs
+cast-n : tie.Need-cast-n
+cast-n c = search needs
 
-check-tlf-requires : tie.Need-check-tlf-requires
-check-tlf-requires c κs = search needs
+add-from-be-bytes : tie.Need-add-from-be-bytes
+add-from-be-bytes c = let h = c .before .short-len .ensures (c .if1 .taken) in search needs
 
-take-num-requires : tie.Need-take-num-requires
-take-num-requires c κs =
-    let p = c .before .before .before in
-    let a = p .before .before .before .before .args in
-    omega (arith, fits-high (a .signed) (a .size) (p .tlf .given .0 .0) (sym (c .before .check-tlf .ensures) ∙ c .if1 .taken))
+from-be-bytes-requires : tie.Need-from-be-bytes-requires
+from-be-bytes-requires c κs = let h = c .before .short-len .ensures (c .if1 .taken) in omega (arith, h .0, h .1)
 
-enum-known-f : tie.Need-enum-known-f
-enum-known-f c = search needs
+add-t10 : tie.Need-add-t10
+add-t10 c = let h = c .before .before .short-len .ensures (c .before .if1 .taken) in search needs
+
+add-t11 : tie.Need-add-t11
+add-t11 c = let h = c .before .before .short-len .ensures (c .before .if1 .taken) in search needs
 
 returns : tie.Need-returns
-unfolding rawAt then guard
 returns c =
-    let p4 = c .before in
-    let p3 = p4 .before in
-    let p2 = p3 .before .before in
-    let p1 = p2 .before .before in
-    rw (← p1 .parse .ensures, p2 .tlf .given .1, ← p3 .check-tlf .ensures, p4 .if1 .taken) (c .take-num .ensures)
+    let h = c .before .before .short-len .ensures (c .before .if1 .taken) in
+    let a = c .before .before .before .before in
+    rw (c .from-be-bytes .ensures) (raw-one (a .args .signed) (a .args .size) _ _ _ (a .pre) (c .before .if1 .taken) (h .0) (h .1) (h .2))
+
+parse-any-requires : tie.Need-parse-any-requires
+parse-any-requires c κs = search needs
 
 returns-2 : tie.Need-returns-2
-unfolding rawAt then guard
-returns-2 c =
-    let p3 = c .before in
-    let p2 = p3 .before .before in
-    let p1 = p2 .before .before in
-    rw (← p1 .parse .ensures, p2 .tlf .given .1, ← p3 .check-tlf .ensures, c .if1 .left)
-
-returns-3 : tie.Need-returns-3
-unfolding rawAt then guard
-returns-3 c =
-    let p2 = c .before in
-    let p1 = p2 .before .before in
-    rw (← p1 .parse .ensures, p2 .f .given .1)
+returns-2 c = search needs
 
 pub parse-num-spec : {M : Type 1} → statement M
 parse-num-spec =
     tie.close
     (tie.spec
-    parse-requires
-    enum-known-tlf
-    check-tlf-requires
-    take-num-requires
-    enum-known-f
+    short-len-requires
+    cast-n
+    add-from-be-bytes
+    from-be-bytes-requires
+    add-t10
+    add-t11
     returns
-    returns-2
-    returns-3)
+    parse-any-requires
+    returns-2)
