@@ -1,5 +1,5 @@
-"""What the scripts here share: frames by document 01's rules, and the capacities that the oracle knows."""
-import os, re
+"""What the scripts here and the tests share: frames by document 01's rules, how a built program is run, and the capacities that the oracle knows."""
+import os, platform, re, shutil
 
 HERE = os.path.dirname(os.path.abspath(__file__))
 START, ESCAPE = bytes.fromhex("1b1b1b1b01010101"), bytes.fromhex("1b1b1b1b")
@@ -40,6 +40,15 @@ def frame(payload, fill=b"\0\0\0"):
 
 def hexed(data):
     return data.hex() or "-"
+
+
+def program(name):
+    """The words that run a built program as `rt` does: under the toolchain's loader, and its emulator where it has one."""
+    kit = os.environ.get("RATTLE_HOME") or os.path.dirname(os.path.dirname(os.path.realpath(shutil.which("rt"))))
+    tools = os.path.join(kit, "on", platform.machine(), "toolchain")
+    emulator = os.path.join(tools, "bin/qemu-x86_64")
+    loader = [os.path.join(tools, "lib/ld-linux-x86-64.so.2"), "--library-path", os.path.join(tools, "lib")]
+    return [emulator] * os.access(emulator, os.X_OK) + loader + [os.path.join(HERE, "..", "target/bin", name)]
 
 
 def capacities():
