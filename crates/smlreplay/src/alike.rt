@@ -1,9 +1,13 @@
-// The reader of messages by value and Parser, side by side and without a word.
+// The reader of messages by value and Parser, side by side and without a word. Each answer is laid out flat, so that two are compared field by field.
+use super::below;
 use super::error_number;
 use super::forms::both;
+use super::from_i8;
+use super::from_i16;
+use super::from_i32;
 use super::messages::is_event;
 use super::messages::is_refusal;
-use common::CloseResponse;
+use super::not_below;
 use common::ListEntry;
 use common::OpenResponse;
 use message::GetListResponseEnd;
@@ -29,7 +33,6 @@ use value::Value;
 struct Field {
     kind: u8,
     number: u64,
-    signed: i64,
     len: usize,
 }
 
@@ -37,18 +40,24 @@ fn of_number(kind: u8, number: u64) -> Field {
     Field {
         kind,
         number,
-        signed: 0,
         len: 0,
     }
 }
 
+fn none() -> Field {
+    of_number(0, 0)
+}
+
+// A number below 0 has the length 1, and its distance from -1.
 fn of_signed(kind: u8, x: i64) -> Field {
-    Field {
-        kind,
-        number: 0,
-        signed: x,
-        len: 0,
+    if x < 0 {
+        return Field {
+            kind,
+            number: below(x),
+            len: 1,
+        };
     }
+    of_number(kind, not_below(x))
 }
 
 fn same_field(x: Field, y: Field) -> bool {
@@ -58,34 +67,22 @@ fn same_field(x: Field, y: Field) -> bool {
     if x.number != y.number {
         return false;
     }
-    if x.signed != y.signed {
-        return false;
-    }
     x.len == y.len
 }
 
-fn of_span(kind: u8, s: Span) -> Field {
+fn of_span(s: Span) -> Field {
     Field {
-        kind,
+        kind: 1,
         number: s.start as u64,
-        signed: 0,
         len: s.len,
     }
 }
 
-fn same_span(x: Span, y: Span) -> bool {
-    same_field(of_span(1, x), of_span(1, y))
-}
-
 fn of_opt_span(x: OptSpan) -> Field {
     match x {
-        OptSpan::Present(s) => of_span(1, s),
-        OptSpan::Absent => of_number(0, 0),
+        OptSpan::Present(s) => of_span(s),
+        OptSpan::Absent => none(),
     }
-}
-
-fn same_opt_span(x: OptSpan, y: OptSpan) -> bool {
-    same_field(of_opt_span(x), of_opt_span(y))
 }
 
 fn of_time(kind: u8, t: Time) -> Field {
@@ -95,29 +92,21 @@ fn of_time(kind: u8, t: Time) -> Field {
 fn of_opt_time(x: OptTime) -> Field {
     match x {
         OptTime::Present(t) => of_time(1, t),
-        OptTime::Absent => of_number(0, 0),
+        OptTime::Absent => none(),
     }
-}
-
-fn same_opt_time(x: OptTime, y: OptTime) -> bool {
-    same_field(of_opt_time(x), of_opt_time(y))
 }
 
 fn of_opt_u8(x: OptU8) -> Field {
     match x {
         OptU8::Present(n) => of_number(1, n as u64),
-        OptU8::Absent => of_number(0, 0),
+        OptU8::Absent => none(),
     }
-}
-
-fn same_opt_u8(x: OptU8, y: OptU8) -> bool {
-    same_field(of_opt_u8(x), of_opt_u8(y))
 }
 
 fn of_opt_i8(x: OptI8) -> Field {
     match x {
-        OptI8::Present(n) => of_signed(1, super::from_i8(n)),
-        OptI8::Absent => of_number(0, 0),
+        OptI8::Present(n) => of_signed(1, from_i8(n)),
+        OptI8::Absent => none(),
     }
 }
 
@@ -133,17 +122,17 @@ fn of_status(s: Status) -> Field {
 fn of_opt_status(x: OptStatus) -> Field {
     match x {
         OptStatus::Present(s) => of_status(s),
-        OptStatus::Absent => of_number(0, 0),
+        OptStatus::Absent => none(),
     }
 }
 
 fn of_value(v: Value) -> Field {
     match v {
         Value::Bool(b) => of_number(0, b as u64),
-        Value::Bytes(s) => of_span(1, s),
-        Value::I8(x) => of_signed(2, super::from_i8(x)),
-        Value::I16(x) => of_signed(3, super::from_i16(x)),
-        Value::I32(x) => of_signed(4, super::from_i32(x)),
+        Value::Bytes(s) => of_span(s),
+        Value::I8(x) => of_signed(2, from_i8(x)),
+        Value::I16(x) => of_signed(3, from_i16(x)),
+        Value::I32(x) => of_signed(4, from_i32(x)),
         Value::I64(x) => of_signed(5, x),
         Value::U8(x) => of_number(6, x as u64),
         Value::U16(x) => of_number(7, x as u64),
@@ -156,215 +145,196 @@ fn of_value(v: Value) -> Field {
     }
 }
 
-// ---- events
-
-fn same_open(x: OpenResponse, y: OpenResponse) -> bool {
-    let x_codepage = x.codepage;
-    let y_codepage = y.codepage;
-    let x_client_id = x.client_id;
-    let y_client_id = y.client_id;
-    let x_req_file_id = x.req_file_id;
-    let y_req_file_id = y.req_file_id;
-    let x_server_id = x.server_id;
-    let y_server_id = y.server_id;
-    let x_ref_time = x.ref_time;
-    let y_ref_time = y.ref_time;
-    let x_sml_version = x.sml_version;
-    let y_sml_version = y.sml_version;
-    let codepages = same_opt_span(x_codepage, y_codepage);
-    let clients = same_opt_span(x_client_id, y_client_id);
-    let files = same_span(x_req_file_id, y_req_file_id);
-    let servers = same_span(x_server_id, y_server_id);
-    let times = same_opt_time(x_ref_time, y_ref_time);
-    let versions = same_opt_u8(x_sml_version, y_sml_version);
-    both(
-        both(codepages, clients),
-        both(both(files, servers), both(times, versions)),
-    )
-}
-
-fn same_close(x: CloseResponse, y: CloseResponse) -> bool {
-    let x_global_signature = x.global_signature;
-    let y_global_signature = y.global_signature;
-    let signatures = same_opt_span(x_global_signature, y_global_signature);
-    signatures
-}
-
-fn same_list(x: GetListResponseStart, y: GetListResponseStart) -> bool {
-    let x_client_id = x.client_id;
-    let y_client_id = y.client_id;
-    let x_server_id = x.server_id;
-    let y_server_id = y.server_id;
-    let x_list_name = x.list_name;
-    let y_list_name = y.list_name;
-    let x_act_sensor_time = x.act_sensor_time;
-    let y_act_sensor_time = y.act_sensor_time;
-    let clients = same_opt_span(x_client_id, y_client_id);
-    let servers = same_span(x_server_id, y_server_id);
-    let names = same_opt_span(x_list_name, y_list_name);
-    let times = same_opt_time(x_act_sensor_time, y_act_sensor_time);
-    both(
-        both(clients, servers),
-        both(both(names, times), x.num_vals == y.num_vals),
-    )
-}
-
-fn open_is(x: OpenResponse, b: MessageBody) -> bool {
-    match b {
-        MessageBody::OpenResponse(y) => same_open(x, y),
-        MessageBody::CloseResponse(_) => false,
-        MessageBody::GetListResponse(_) => false,
-    }
-}
-
-fn close_is(x: CloseResponse, b: MessageBody) -> bool {
-    match b {
-        MessageBody::OpenResponse(_) => false,
-        MessageBody::CloseResponse(y) => same_close(x, y),
-        MessageBody::GetListResponse(_) => false,
-    }
-}
-
-fn list_is(x: GetListResponseStart, b: MessageBody) -> bool {
-    match b {
-        MessageBody::OpenResponse(_) => false,
-        MessageBody::CloseResponse(_) => false,
-        MessageBody::GetListResponse(y) => same_list(x, y),
-    }
-}
-
-fn same_body(a: MessageBody, b: MessageBody) -> bool {
-    match a {
-        MessageBody::OpenResponse(x) => open_is(x, b),
-        MessageBody::CloseResponse(x) => close_is(x, b),
-        MessageBody::GetListResponse(x) => list_is(x, b),
-    }
-}
-
-fn same_start(x: MessageStart, y: MessageStart) -> bool {
-    let x_transaction_id = x.transaction_id;
-    let y_transaction_id = y.transaction_id;
-    let x_message_body = x.message_body;
-    let y_message_body = y.message_body;
-    let ids = same_span(x_transaction_id, y_transaction_id);
-    let bodies = same_body(x_message_body, y_message_body);
-    let numbers = both(
-        x.group_no == y.group_no,
-        x.abort_on_error == y.abort_on_error,
-    );
-    both(both(ids, numbers), bodies)
-}
-
-fn same_entry(x: ListEntry, y: ListEntry) -> bool {
-    let x_obj_name = x.obj_name;
-    let y_obj_name = y.obj_name;
-    let x_status = x.status;
-    let y_status = y.status;
-    let x_val_time = x.val_time;
-    let y_val_time = y.val_time;
-    let x_unit = x.unit;
-    let y_unit = y.unit;
-    let x_scaler = x.scaler;
-    let y_scaler = y.scaler;
-    let x_value = x.value;
-    let y_value = y.value;
-    let x_value_signature = x.value_signature;
-    let y_value_signature = y.value_signature;
-    let names = same_span(x_obj_name, y_obj_name);
-    let statuses = same_field(of_opt_status(x_status), of_opt_status(y_status));
-    let times = same_opt_time(x_val_time, y_val_time);
-    let units = same_opt_u8(x_unit, y_unit);
-    let scalers = same_field(of_opt_i8(x_scaler), of_opt_i8(y_scaler));
-    let values = same_field(of_value(x_value), of_value(y_value));
-    let signatures = same_opt_span(x_value_signature, y_value_signature);
-    both(
-        both(both(names, statuses), both(times, units)),
-        both(both(scalers, values), signatures),
-    )
-}
-
-fn same_end(x: GetListResponseEnd, y: GetListResponseEnd) -> bool {
-    let x_list_signature = x.list_signature;
-    let y_list_signature = y.list_signature;
-    let x_act_gateway_time = x.act_gateway_time;
-    let y_act_gateway_time = y.act_gateway_time;
-    let signatures = same_opt_span(x_list_signature, y_list_signature);
-    let times = same_opt_time(x_act_gateway_time, y_act_gateway_time);
-    both(signatures, times)
-}
-
-fn start_is(x: MessageStart, b: ParseEvent) -> bool {
-    match b {
-        ParseEvent::MessageStart(y) => same_start(x, y),
-        ParseEvent::GetListResponseEnd(_) => false,
-        ParseEvent::ListEntry(_) => false,
-    }
-}
-
-fn end_is(x: GetListResponseEnd, b: ParseEvent) -> bool {
-    match b {
-        ParseEvent::MessageStart(_) => false,
-        ParseEvent::GetListResponseEnd(y) => same_end(x, y),
-        ParseEvent::ListEntry(_) => false,
-    }
-}
-
-fn entry_is(x: ListEntry, b: ParseEvent) -> bool {
-    match b {
-        ParseEvent::MessageStart(_) => false,
-        ParseEvent::GetListResponseEnd(_) => false,
-        ParseEvent::ListEntry(y) => same_entry(x, y),
-    }
-}
-
-fn same_event(a: ParseEvent, b: ParseEvent) -> bool {
-    match a {
-        ParseEvent::MessageStart(x) => start_is(x, b),
-        ParseEvent::GetListResponseEnd(x) => end_is(x, b),
-        ParseEvent::ListEntry(x) => entry_is(x, b),
-    }
-}
-
 // ---- answers
 
-fn of_fault(f: Fault) -> Field {
-    let e = f.error;
-    Field {
-        kind: error_number(e),
-        number: f.place as u64,
-        signed: 0,
-        len: 1,
+// Seven fields: an entry has as many; what has fewer leaves the last ones empty. A message's start has its id and its two numbers besides.
+struct Flat {
+    kind: u8,
+    group: u8,
+    abort: u8,
+    id: Field,
+    a: Field,
+    b: Field,
+    c: Field,
+    d: Field,
+    e: Field,
+    f: Field,
+    g: Field,
+}
+
+fn same_flat(x: Flat, y: Flat) -> bool {
+    let x_id = x.id;
+    let y_id = y.id;
+    let x_a = x.a;
+    let x_b = x.b;
+    let x_c = x.c;
+    let x_d = x.d;
+    let x_e = x.e;
+    let x_f = x.f;
+    let x_g = x.g;
+    let y_a = y.a;
+    let y_b = y.b;
+    let y_c = y.c;
+    let y_d = y.d;
+    let y_e = y.e;
+    let y_f = y.f;
+    let y_g = y.g;
+    let first = both(
+        both(same_field(x_a, y_a), same_field(x_b, y_b)),
+        same_field(x_c, y_c),
+    );
+    let second = both(
+        both(same_field(x_d, y_d), same_field(x_e, y_e)),
+        same_field(x_f, y_f),
+    );
+    let numbers = both(x.group == y.group, x.abort == y.abort);
+    let heads = both(both(x.kind == y.kind, numbers), same_field(x_id, y_id));
+    both(both(heads, same_field(x_g, y_g)), both(first, second))
+}
+
+// One field alone.
+fn one_field(kind: u8, a: Field) -> Flat {
+    let e = none();
+    Flat {
+        kind,
+        group: 0,
+        abort: 0,
+        id: none(),
+        a,
+        b: e,
+        c: e,
+        d: e,
+        e,
+        f: e,
+        g: e,
     }
 }
 
-// An answer that is no event: a refusal has the length 1.
-fn of_answer(a: Answer) -> Field {
-    match a {
-        Answer::Event(_) => of_number(0, 0),
-        Answer::NoEvent => of_number(1, 0),
-        Answer::Refused(f) => of_fault(f),
-        Answer::InputTooLong => of_number(2, 0),
-        Answer::BadState => of_number(3, 0),
+fn of_open(o: OpenResponse) -> Flat {
+    let codepage = o.codepage;
+    let client = o.client_id;
+    let file = o.req_file_id;
+    let server = o.server_id;
+    let time = o.ref_time;
+    let version = o.sml_version;
+    Flat {
+        kind: 1,
+        group: 0,
+        abort: 0,
+        id: none(),
+        a: of_opt_span(codepage),
+        b: of_opt_span(client),
+        c: of_span(file),
+        d: of_span(server),
+        e: of_opt_time(time),
+        f: of_opt_u8(version),
+        g: none(),
     }
 }
 
-fn event_is(x: ParseEvent, b: Answer) -> bool {
+fn of_list(l: GetListResponseStart) -> Flat {
+    let client = l.client_id;
+    let server = l.server_id;
+    let name = l.list_name;
+    let time = l.act_sensor_time;
+    Flat {
+        kind: 3,
+        group: 0,
+        abort: 0,
+        id: none(),
+        a: of_opt_span(client),
+        b: of_span(server),
+        c: of_opt_span(name),
+        d: of_opt_time(time),
+        e: of_number(1, l.num_vals as u64),
+        f: none(),
+        g: none(),
+    }
+}
+
+fn of_body(b: MessageBody) -> Flat {
     match b {
-        Answer::Event(y) => same_event(x, y),
-        Answer::NoEvent => false,
-        Answer::Refused(_) => false,
-        Answer::InputTooLong => false,
-        Answer::BadState => false,
+        MessageBody::OpenResponse(o) => of_open(o),
+        MessageBody::CloseResponse(c) => {
+            let s = c.global_signature;
+            one_field(2, of_opt_span(s))
+        }
+        MessageBody::GetListResponse(l) => of_list(l),
     }
 }
 
-fn same_answer(a: Answer, b: Answer) -> bool {
+fn of_entry(r: ListEntry) -> Flat {
+    let name = r.obj_name;
+    let status = r.status;
+    let time = r.val_time;
+    let unit = r.unit;
+    let scaler = r.scaler;
+    let value = r.value;
+    let signature = r.value_signature;
+    Flat {
+        kind: 4,
+        group: 0,
+        abort: 0,
+        id: none(),
+        a: of_span(name),
+        b: of_opt_status(status),
+        c: of_opt_time(time),
+        d: of_opt_u8(unit),
+        e: of_opt_i8(scaler),
+        f: of_value(value),
+        g: of_opt_span(signature),
+    }
+}
+
+fn of_end(r: GetListResponseEnd) -> Flat {
+    let signature = r.list_signature;
+    let time = r.act_gateway_time;
+    let e = none();
+    Flat {
+        kind: 5,
+        group: 0,
+        abort: 0,
+        id: none(),
+        a: of_opt_span(signature),
+        b: of_opt_time(time),
+        c: e,
+        d: e,
+        e,
+        f: e,
+        g: e,
+    }
+}
+
+fn of_start(m: MessageStart) -> Flat {
+    let id = m.transaction_id;
+    let body = m.message_body;
+    let mut f = of_body(body);
+    f.group = m.group_no;
+    f.abort = m.abort_on_error;
+    f.id = of_span(id);
+    f
+}
+
+fn of_event(e: ParseEvent) -> Flat {
+    match e {
+        ParseEvent::MessageStart(m) => of_start(m),
+        ParseEvent::GetListResponseEnd(r) => of_end(r),
+        ParseEvent::ListEntry(r) => of_entry(r),
+    }
+}
+
+fn of_fault(f: Fault) -> Flat {
+    let e = f.error;
+    one_field(6, of_number(error_number(e), f.place as u64))
+}
+
+fn of_answer(a: Answer) -> Flat {
     match a {
-        Answer::Event(x) => event_is(x, b),
-        Answer::NoEvent => same_field(of_answer(a), of_answer(b)),
-        Answer::Refused(_) => same_field(of_answer(a), of_answer(b)),
-        Answer::InputTooLong => same_field(of_answer(a), of_answer(b)),
-        Answer::BadState => same_field(of_answer(a), of_answer(b)),
+        Answer::Event(e) => of_event(e),
+        Answer::NoEvent => one_field(7, none()),
+        Answer::Refused(f) => of_fault(f),
+        Answer::InputTooLong => one_field(8, none()),
+        Answer::BadState => one_field(9, none()),
     }
 }
 
@@ -380,7 +350,7 @@ fn same_next(x: Next, y: Next) -> bool {
     }
     let a = x.answer;
     let b = y.answer;
-    same_answer(a, b)
+    same_flat(of_answer(a), of_answer(b))
 }
 
 // ---- the readers

@@ -1,4 +1,5 @@
 // The three ways to push, and the two to stream, side by side and without a word: by value, with the record lent to be changed in place, by the push of slices.
+// As long as the ways agree they leave the same record, so that one is kept; each way has its own memory.
 use super::BYTES;
 use super::CAPACITY;
 use super::at;
@@ -117,54 +118,25 @@ fn same_record(x: Decoder, y: Decoder) -> bool {
 
 // ---- push
 
-// Three decoders, and whether they agreed so far.
-struct Three {
-    by_value: Decoder,
-    in_place: Decoder,
-    by_slice: Decoder,
+// The decoder that all ways left, as long as they agreed.
+struct Agreed {
+    decoder: Decoder,
     agree: bool,
 }
 
-fn disagreed(t: Three) -> Three {
-    let v = t.by_value;
-    let p = t.in_place;
-    let s = t.by_slice;
-    Three {
-        by_value: v,
-        in_place: p,
-        by_slice: s,
-        agree: false,
-    }
-}
-
-// The three decoders behind what they just did, of which `agree` says whether the answers were the same; their records are compared here.
-fn compared(agree: bool, v: Decoder, p: Decoder, s: Decoder) -> Three {
-    let records = both(same_record(v, p), same_record(v, s));
-    Three {
-        by_value: v,
-        in_place: p,
-        by_slice: s,
-        agree: both(agree, records),
-    }
-}
-
-// One byte pushed in the first two ways; both must say `want`.
-fn step(t: Three, b: u8, want: Event, v: &mut [u8], p: &mut [u8]) -> Three {
-    let by_value = t.by_value;
-    let in_place = t.in_place;
-    let by_slice = t.by_slice;
-    let x = by_value.push_byte(v, b);
-    let y = transport::push_lent(in_place, p, b);
+// One byte pushed by value and in place; both must say `want`, and leave the same record.
+fn step(t: Agreed, b: u8, want: Event, v: &mut [u8], p: &mut [u8]) -> Agreed {
+    let d = t.decoder;
+    let x = d.push_byte(v, b);
+    let y = transport::push_lent(d, p, b);
     let xd = x.decoder;
     let yd = y.decoder;
     let xe = x.event;
     let ye = y.event;
     let events = both(same_event(xe, want), same_event(ye, want));
-    Three {
-        by_value: xd,
-        in_place: yd,
-        by_slice: by_slice,
-        agree: both(t.agree, events),
+    Agreed {
+        decoder: xd,
+        agree: both(t.agree, both(events, same_record(xd, yd))),
     }
 }
 
@@ -173,8 +145,8 @@ fn wanted(left: usize, e: Event) -> Event {
     if left == 1 { e } else { Event::Nothing }
 }
 
-// The bytes that a push of a slice took, in the first two ways.
-fn follow(t: Three, bytes: &[u8], e: Event, v: &mut [u8], p: &mut [u8]) -> Three {
+// The bytes that a push of a slice took, by value and in place.
+fn follow(t: Agreed, bytes: &[u8], e: Event, v: &mut [u8], p: &mut [u8]) -> Agreed {
     let n = bytes.len();
     let mut now = t;
     let mut i = 0;
@@ -187,29 +159,25 @@ fn follow(t: Three, bytes: &[u8], e: Event, v: &mut [u8], p: &mut [u8]) -> Three
     now
 }
 
-// Whether the payload that each decoder hands out, if any, is the same.
-fn same_payload(t: Three, v: &[u8], p: &[u8], s: &[u8]) -> bool {
-    let by_value = t.by_value;
-    let in_place = t.in_place;
-    let by_slice = t.by_slice;
-    let x = by_value.payload(v);
-    both(same(x, in_place.payload(p)), same(x, by_slice.payload(s)))
+// Whether the payload that the decoder hands out of each memory, if any, is the same.
+fn same_payload(d: Decoder, v: &[u8], p: &[u8], s: &[u8]) -> bool {
+    let x = d.payload(v);
+    both(same(x, d.payload(p)), same(x, d.payload(s)))
 }
 
-// All three behind the bytes that a push of a slice took, which left the decoder `d`.
-fn caught_up(t: Three, d: Decoder, v: &[u8], p: &[u8], s: &[u8]) -> Three {
-    let by_value = t.by_value;
-    let in_place = t.in_place;
-    let now = compared(t.agree, by_value, in_place, d);
-    if same_payload(now, v, p, s) {
-        return now;
+// All ways behind the bytes that a push of a slice took, which left the decoder `d`.
+fn caught_up(t: Agreed, d: Decoder, v: &[u8], p: &[u8], s: &[u8]) -> Agreed {
+    let now = t.decoder;
+    let alike = both(same_record(now, d), same_payload(now, v, p, s));
+    Agreed {
+        decoder: now,
+        agree: both(t.agree, alike),
     }
-    disagreed(now)
 }
 
-// Three decoders, and the place that they reached.
+// The decoder, and the place that was reached.
 struct Reached {
-    three: Three,
+    agreed: Agreed,
     at: usize,
 }
 
@@ -225,34 +193,42 @@ fn ahead(from: usize, taken: usize, len: usize) -> usize {
 
 // A slice from a place on, up to its first event.
 fn push_part(
-    t: Three,
+    t: Agreed,
     bytes: &[u8],
     from: usize,
     v: &mut [u8],
     p: &mut [u8],
     s: &mut [u8],
 ) -> Reached {
-    let d = t.by_slice;
+    let d = t.decoder;
     let pushed = slice::push_slice(d, s, part(bytes, from, bytes.len()));
     let e = pushed.event;
     let next = pushed.decoder;
     let end = ahead(from, pushed.taken, bytes.len());
     let followed = follow(t, part(bytes, from, end), e, v, p);
     Reached {
-        three: caught_up(followed, next, &v[..], &p[..], &s[..]),
+        agreed: caught_up(followed, next, &v[..], &p[..], &s[..]),
         at: end,
     }
 }
 
+fn disagreed(t: Agreed) -> Agreed {
+    let d = t.decoder;
+    Agreed {
+        decoder: d,
+        agree: false,
+    }
+}
+
 // A slice, event by event. A push that takes no byte, or more than there are, agrees with nothing.
-fn push_chunk(t: Three, bytes: &[u8], v: &mut [u8], p: &mut [u8], s: &mut [u8]) -> Three {
+fn push_chunk(t: Agreed, bytes: &[u8], v: &mut [u8], p: &mut [u8], s: &mut [u8]) -> Agreed {
     let n = bytes.len();
     let mut now = t;
     let mut i = 0;
     while i < n {
         let r = push_part(now, bytes, i, v, p, s);
         let end = r.at;
-        now = r.three;
+        now = r.agreed;
         if end <= i {
             return disagreed(now);
         }
@@ -262,13 +238,13 @@ fn push_chunk(t: Three, bytes: &[u8], v: &mut [u8], p: &mut [u8], s: &mut [u8]) 
 }
 
 // A byte up to CAPACITY times.
-fn push_some(t: Three, b: u8, times: usize, v: &mut [u8], p: &mut [u8], s: &mut [u8]) -> Three {
+fn push_some(t: Agreed, b: u8, times: usize, v: &mut [u8], p: &mut [u8], s: &mut [u8]) -> Agreed {
     let bytes = [b; CAPACITY];
     push_chunk(t, part(&bytes, 0, times), v, p, s)
 }
 
 // A byte many times, in slices of CAPACITY bytes, and what is left.
-fn push_run(t: Three, b: u8, times: usize, v: &mut [u8], p: &mut [u8], s: &mut [u8]) -> Three {
+fn push_run(t: Agreed, b: u8, times: usize, v: &mut [u8], p: &mut [u8], s: &mut [u8]) -> Agreed {
     let n = times / CAPACITY;
     let mut now = t;
     let mut i = 0;
@@ -279,44 +255,42 @@ fn push_run(t: Three, b: u8, times: usize, v: &mut [u8], p: &mut [u8], s: &mut [
     push_some(now, b, times % CAPACITY, v, p, s)
 }
 
-fn push_hex(t: Three, hex: &[u8], v: &mut [u8], p: &mut [u8], s: &mut [u8]) -> Three {
+fn push_hex(t: Agreed, hex: &[u8], v: &mut [u8], p: &mut [u8], s: &mut [u8]) -> Agreed {
     let mut bytes = [0u8; BYTES];
     let len = unhex(hex, &mut bytes);
     push_chunk(t, part(&bytes, 0, len), v, p, s)
 }
 
-fn finalize(t: Three) -> Three {
-    let by_value = t.by_value;
-    let in_place = t.in_place;
-    let by_slice = t.by_slice;
-    let x = by_value.finalize();
-    let y = transport::finalize_lent(in_place);
-    let z = by_slice.finalize();
+// finalize and reset have two forms: by value and in place.
+fn finalize(t: Agreed) -> Agreed {
+    let d = t.decoder;
+    let x = d.finalize();
+    let y = transport::finalize_lent(d);
     let xd = x.decoder;
     let yd = y.decoder;
-    let zd = z.decoder;
     let xe = x.event;
     let ye = y.event;
-    let ze = z.event;
-    let events = both(same_event(xe, ye), same_event(xe, ze));
-    compared(both(t.agree, events), xd, yd, zd)
+    let alike = both(same_event(xe, ye), same_record(xd, yd));
+    Agreed {
+        decoder: xd,
+        agree: both(t.agree, alike),
+    }
 }
 
-fn reset(t: Three) -> Three {
-    let by_value = t.by_value;
-    let in_place = t.in_place;
-    let by_slice = t.by_slice;
-    let x = by_value.reset();
-    let y = transport::reset_lent(in_place);
-    let z = by_slice.reset();
+fn reset(t: Agreed) -> Agreed {
+    let d = t.decoder;
+    let x = d.reset();
+    let y = transport::reset_lent(d);
     let xd = x.decoder;
     let yd = y.decoder;
-    let zd = z.decoder;
-    let counts = both(x.count == y.count, x.count == z.count);
-    compared(both(t.agree, counts), xd, yd, zd)
+    let alike = both(x.count == y.count, same_record(xd, yd));
+    Agreed {
+        decoder: xd,
+        agree: both(t.agree, alike),
+    }
 }
 
-fn op(t: Three, text: &[u8], v: &mut [u8], p: &mut [u8], s: &mut [u8]) -> Three {
+fn op(t: Agreed, text: &[u8], v: &mut [u8], p: &mut [u8], s: &mut [u8]) -> Agreed {
     let kind = at(text, 0);
     let rest = part(text, 1, text.len());
     if kind == b'f' {
@@ -338,7 +312,7 @@ fn behind_it(at: usize) -> usize {
     if at < usize::MAX { at + 1 } else { at }
 }
 
-fn run_ops(t: Three, ops: &[u8], v: &mut [u8], p: &mut [u8], s: &mut [u8]) -> Three {
+fn run_ops(t: Agreed, ops: &[u8], v: &mut [u8], p: &mut [u8], s: &mut [u8]) -> Agreed {
     let mut now = t;
     let mut at = 0;
     let mut turns = u64::MAX;
@@ -354,10 +328,12 @@ fn run_ops(t: Three, ops: &[u8], v: &mut [u8], p: &mut [u8], s: &mut [u8]) -> Th
     now
 }
 
-// Whether the three ways agree over a list of operations: each event, the records behind it, each payload, and the memory behind all.
+// Whether the three ways agree over a list of operations: each event, the record behind it, each payload, and the memory behind all.
 fn three_agree(ops: &[u8], v: &mut [u8], p: &mut [u8], s: &mut [u8]) -> bool {
-    let fresh = Decoder::new(v.len());
-    let begun = compared(true, fresh, fresh, fresh);
+    let begun = Agreed {
+        decoder: Decoder::new(v.len()),
+        agree: true,
+    };
     let last = run_ops(begun, ops, v, p, s);
     let memory = both(same(&v[..], &p[..]), same(&v[..], &s[..]));
     both(last.agree, memory)
@@ -391,10 +367,9 @@ pub(crate) fn pushes_agree(ops: &[u8], capacity: usize) -> bool {
 
 // ---- stream
 
-// Two Encoders, whether the last call gave a byte, and whether they agreed so far.
-struct Two {
-    by_value: Encoder,
-    in_place: Encoder,
+// The Encoder that both ways left, as long as they agreed, and whether the last call gave a byte.
+struct Streamed {
+    encoder: Encoder,
     more: bool,
     agree: bool,
 }
@@ -426,11 +401,12 @@ fn told_encoder(s: EncoderState) -> Case {
     }
 }
 
-fn same_state(s: EncoderState, t: EncoderState) -> bool {
+// A case that has no end's number is told by the other test.
+fn same_ends(s: EncoderState, t: EncoderState) -> bool {
     match s {
-        EncoderState::Init(_) => same_told(told_encoder(s), told_encoder(t)),
-        EncoderState::LookingForEscape(_) => same_told(told_encoder(s), told_encoder(t)),
-        EncoderState::HandlingEscape(_) => same_told(told_encoder(s), told_encoder(t)),
+        EncoderState::Init(_) => true,
+        EncoderState::LookingForEscape(_) => true,
+        EncoderState::HandlingEscape(_) => true,
         EncoderState::End(x) => same_end(x, t),
     }
 }
@@ -444,15 +420,14 @@ fn same_encoder(x: Encoder, y: Encoder) -> bool {
     }
     let s = x.state;
     let t = y.state;
-    same_state(s, t)
+    both(same_told(told_encoder(s), told_encoder(t)), same_ends(s, t))
 }
 
 // One call of each.
-fn next_both(t: Two, payload: &[u8]) -> Two {
-    let by_value = t.by_value;
-    let in_place = t.in_place;
-    let x = by_value.next(payload);
-    let y = transport::next_lent(in_place, payload);
+fn next_both(t: Streamed, payload: &[u8]) -> Streamed {
+    let e = t.encoder;
+    let x = e.next(payload);
+    let y = transport::next_lent(e, payload);
     let xe = x.encoder;
     let ye = y.encoder;
     let xa = x.answer;
@@ -461,15 +436,14 @@ fn next_both(t: Two, payload: &[u8]) -> Two {
         same_told(told_item(xa), told_item(ya)),
         same_encoder(xe, ye),
     );
-    Two {
-        by_value: xe,
-        in_place: ye,
+    Streamed {
+        encoder: xe,
         more: is_byte(xa),
         agree: both(t.agree, alike),
     }
 }
 
-fn next_all(t: Two, payload: &[u8]) -> Two {
+fn next_all(t: Streamed, payload: &[u8]) -> Streamed {
     let mut now = t;
     let mut turns = u64::MAX;
     while turns > 0 {
@@ -484,10 +458,8 @@ fn next_all(t: Two, payload: &[u8]) -> Two {
 
 // Whether the Encoder by value and in place agree over a payload, two calls past the first that gives no byte.
 pub(crate) fn streams_agree(payload: &[u8]) -> bool {
-    let fresh = Encoder::new();
-    let begun = Two {
-        by_value: fresh,
-        in_place: fresh,
+    let begun = Streamed {
+        encoder: Encoder::new(),
         more: true,
         agree: true,
     };
