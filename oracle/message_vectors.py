@@ -92,6 +92,24 @@ def cuts():
         yield from ("events " + hexed(p[:k]) for k in range(len(p)))
 
 
+def damages():
+    """One bit wrong at every byte, the CRC left as it was; and in each message made right again."""
+    for p in [*payloads(), FULL]:
+        for k in range(len(p)):
+            yield "events " + (p[:k] + bytes([p[k] ^ 1 << k % 8]) + p[k + 1 :]).hex()
+    for m in map(joined, (OPEN, LISTED, CLOSE)):
+        for k in range(len(m) - 4):
+            yield "events " + sealed(m[:k] + bytes([m[k] ^ 1 << (k + 3) % 8]) + m[k + 1 : -4]).hex()
+
+
+def told():
+    """The messages of docs/WRONG-READINGS.md that are not among the others."""
+    close = "7605dd434400620062007263%s71%s"
+    for tag, sig in (("0201", "03aabb"), ("0201", "01"), ("0201", "8002"), ("0700", "01"), ("0200", "01"), ("0202", "01")):
+        one = sealed(b(close % (tag, sig)))
+        yield from ("events " + x.hex() for x in (one, one + one, one[:-1] + b"\x01", one[:-3] + one[-3:-1][::-1] + b"\0", one[:-3] + one[-3:-1][::-1] + b"\x01", joined(OPEN) + one, one + joined(OPEN)))
+
+
 OTHERS = b("00 01 02 10 42 52 62 63 65 69 72 76 77 80 83 c2 f0 ff")
 
 
@@ -197,7 +215,7 @@ def asked(commands):
 
 
 def plain():
-    seen = dict.fromkeys([*whole(), *cuts(), *lengths(), *longer(), *leaves()])
+    seen = dict.fromkeys([*whole(), *cuts(), *damages(), *told(), *lengths(), *longer(), *leaves()])
     return list(seen)
 
 

@@ -1,4 +1,4 @@
-"""What the scripts here share: frames by document 01's rules, the capacities that the oracle knows, and how smlreplay is run."""
+"""What the scripts here and the tests share: frames by document 01's rules, how a built program is run, and the capacities that the oracle knows."""
 import os, platform, re, shutil
 
 HERE = os.path.dirname(os.path.abspath(__file__))
@@ -42,6 +42,15 @@ def hexed(data):
     return data.hex() or "-"
 
 
+def program(name):
+    """The words that run a built program as `rt` does: under the toolchain's loader, and its emulator where it has one."""
+    kit = os.environ.get("RATTLE_HOME") or os.path.dirname(os.path.dirname(os.path.realpath(shutil.which("rt"))))
+    tools = os.path.join(kit, "on", platform.machine(), "toolchain")
+    emulator = os.path.join(tools, "bin/qemu-x86_64")
+    loader = [os.path.join(tools, "lib/ld-linux-x86-64.so.2"), "--library-path", os.path.join(tools, "lib")]
+    return [emulator] * os.access(emulator, os.X_OK) + loader + [os.path.join(HERE, "..", "target/bin", name)]
+
+
 def capacities():
     """Those that at_capacity! of main.rs names."""
     text = open(os.path.join(HERE, "main.rs"), encoding="utf-8").read()
@@ -51,11 +60,3 @@ def capacities():
 
 # kinds of `leaf` that smlreplay knows
 KINDS = ["u8", "u16", "u32", "u64", "i8", "i16", "i32", "i64", "bool", "oct", "opt_oct"]
-
-
-def run_smlreplay():
-    """The words that run the program as `rt` does: under the toolchain's loader, and its emulator where it has one."""
-    kit = os.environ.get("RATTLE_HOME") or os.path.dirname(os.path.dirname(os.path.realpath(shutil.which("rt"))))
-    tools = os.path.join(kit, "on", platform.machine(), "toolchain")
-    emulator = os.path.join(tools, "bin/qemu-x86_64")
-    return [emulator] * os.access(emulator, os.X_OK) + [os.path.join(tools, "lib/ld-linux-x86-64.so.2"), "--library-path", os.path.join(tools, "lib"), "target/bin/smlreplay"]

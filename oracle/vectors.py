@@ -32,7 +32,8 @@ def bench():
 
 
 def doc_comments():
-    """The byte vectors of the crate's doc comments (src/transport.rs), in the buffer that they use, and numbers of every type."""
+    """The byte vectors of the crate's doc comments (src/transport.rs, src/parser/complete.rs, src/lib.rs), in the buffer that they use, and numbers of every type."""
+    say("events 7605dd4344006200620072630201710163fd5600", "push 8 b010203,f", "push 8 b0102030405,f", "events 010203", "events 0102030405")
     say("encode 001b1b1b1b010203", "stream 001b1b1b1b010203", "encode_cap 20 12345678")
     push(10, B1, frame(b("13243546")), "f"), push(10, B1, "f", frame(b("13243546")), "r"), push(20, frame(b("001b1b1b1b010203")), "f")
     for k in KINDS:
@@ -44,6 +45,10 @@ def wrong_readings():
     for h in ["8302", "07", "01", "8112", "4201", "6205", "72", "070102", "07010203040506", "52ff", "630102", "42ff", "4200", "41", "61", "6500000005", "00", "016205"]:
         say(*("leaf %s %s" % (k, h) for k in KINDS))
     say("crc 31", "crc 32", "crc 3139", "crc 39")
+    for h in ["1b1b1b1b", "001b1b1b1b010203", "1b1b001b1b", "010203", "0102031b", "12345678"]:
+        say("encode " + h, "stream " + h)
+        push(16, frame(b(h)), frame(b(h)), "f")
+    push(8, b("1b00") + B1, "f"), push(8, b("1b"), b("00") + B1, "f"), push(8, b("001b1b1b01010101") + B1, "f"), push(8, b("1b"), "f", "f"), push(8, b("1b"), "r", "r"), push(8, closed(START, 1), "f")
     for n in range(1, 4):
         # a payload that ends in 1b, and pads behind it
         push(16, closed(START + b("010203")[: 4 - n] + b"\x1b" * n, 0), "f")

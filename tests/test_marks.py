@@ -8,7 +8,7 @@ os.chdir(os.path.join(os.path.dirname(os.path.abspath(__file__)), ".."))
 sys.path.insert(0, "oracle")
 sys.dont_write_bytecode = True
 from generate import commands
-from sml import ESCAPE, START, crc, escaped, frame, hexed, run_smlreplay
+from sml import ESCAPE, START, crc, escaped, frame, hexed, program
 
 COUNT, MESSAGES = 800, 1000
 CAPACITIES = list(range(18)) + [20, 23, 24, 31, 32, 40, 63, 64, 100, 128, 255, 256, 300, 512, 1000, 1024, 2048, 4095, 4096]
@@ -146,7 +146,7 @@ def lists_whole(line):
 
 
 def answers(given):
-    run = subprocess.run(run_smlreplay(), input="".join(c + "\n" for c in given).encode(), capture_output=True)
+    run = subprocess.run(program("smlreplay"), input="".join(c + "\n" for c in given).encode(), capture_output=True)
     lines = run.stdout.decode().split("\n")
     if run.returncode != 0 or len(lines) != len(given) + 1:
         sys.exit(f"test_marks: smlreplay ended with status {run.returncode} and {len(lines) - 1} answers to {len(given)} commands")

@@ -1,7 +1,10 @@
 // Runs a list of commands, one a line, and answers one line each: the vectors, and the comparison with the crate. A line that is
 // no command is answered `bad command`. Slices stand for words; a word that isn't there is the empty one, which no command takes.
+mod alike;
+mod forms;
 mod messages;
 
+ghost use Prim.Native.Nat.{_≤_};
 use decoder::Decoder;
 use decoder::Event;
 use encoder::Encoded;
@@ -228,29 +231,10 @@ fn number(s: &[u8]) -> usize {
     digits(s)
 }
 
-// ---- the output, in a lent buffer of which `n` bytes are used; it is written when it is full. Each function answers the new `n`.
+// ---- the output, written piece by piece
 
-fn emit(out: &mut [u8], n: usize, b: u8) -> usize {
-    if n < out.len() {
-        out[n] = b;
-        return n + 1;
-    }
-    io::write_all(1, &out[..]);
-    if 0 < out.len() {
-        out[0] = b;
-        return 1;
-    }
-    0
-}
-
-fn text(out: &mut [u8], n: usize, s: &[u8]) -> usize {
-    let mut m = n;
-    let mut i = 0;
-    while i < s.len() {
-        m = emit(out, m, s[i]);
-        i += 1;
-    }
-    m
+fn text(s: &[u8]) {
+    io::write_all(1, s);
 }
 
 fn digit(x: u8) -> u8 {
@@ -260,30 +244,40 @@ fn digit(x: u8) -> u8 {
     if x < 16 { 87 + x } else { b'?' }
 }
 
-fn hex_byte(out: &mut [u8], n: usize, b: u8) -> usize {
-    let m = emit(out, n, digit(b / 16));
-    emit(out, m, digit(b % 16))
+// Writes what stands in a line once it is full; answers how many bytes are left standing.
+fn kept(line: &[u8], n: usize) -> usize
+    ensures { λ r. ⌜ r ≤ 62 ⌝ }
+{
+    if n <= 62 {
+        return n;
+    }
+    text(part(line, 0, n));
+    0
 }
 
-fn hex(out: &mut [u8], n: usize, s: &[u8]) -> usize {
-    let mut m = n;
+fn hex(s: &[u8]) {
+    let mut line = [0u8; 64];
+    let mut n = 0;
     let mut i = 0;
     while i < s.len() {
-        m = hex_byte(out, m, s[i]);
+        line[n] = digit(s[i] / 16);
+        line[n + 1] = digit(s[i] % 16);
+        n = kept(&line, n + 2);
         i += 1;
     }
-    m
+    text(part(&line, 0, n));
 }
 
-fn hex_u16(out: &mut [u8], n: usize, x: u16) -> usize {
-    let m = hex_byte(out, n, (x / 256) as u8);
-    hex_byte(out, m, (x % 256) as u8)
+fn hex_byte(b: u8) {
+    io::print_hex(1, b as u64, 2);
 }
 
-fn decimal(out: &mut [u8], n: usize, x: u64) -> usize {
-    let mut digits = [0u8; 20];
-    let k = io::decimal(x, &mut digits);
-    text(out, n, &digits[..k])
+fn hex_u16(x: u16) {
+    io::print_hex(1, x as u64, 4);
+}
+
+fn decimal(x: u64) {
+    io::print_decimal(1, x);
 }
 
 // How far a number below 0 is from -1.
@@ -295,46 +289,55 @@ fn not_below(x: i64) -> u64 {
     if x < 0 { 0 } else { x as u64 }
 }
 
-fn signed(out: &mut [u8], n: usize, x: i64) -> usize {
+fn signed(x: i64) {
     if x < 0 {
-        let m = emit(out, n, b'-');
         let k = below(x);
         if k < u64::MAX {
-            return decimal(out, m, k + 1);
+            text(b"-");
+            decimal(k + 1);
         }
-        return m;
+        return;
     }
-    decimal(out, n, not_below(x))
+    decimal(not_below(x));
 }
 
-fn bad(out: &mut [u8], n: usize) -> usize {
-    text(out, n, b"bad command")
+fn bad() {
+    text(b"bad command");
 }
 
 // ---- encode
 
-fn encode_into(payload: &[u8], frame: &mut [u8], out: &mut [u8], n: usize) -> usize {
+fn encode_into(payload: &[u8], frame: &mut [u8]) {
     match encoder::encode(payload, frame) {
-        Encoded::Frame(len) => hex(out, n, part(&frame[..], 0, len)),
-        Encoded::OutOfMemory => text(out, n, b"memory"),
-        Encoded::PayloadTooLong => text(out, n, b"too long"),
+        Encoded::Frame(len) => hex(part(&frame[..], 0, len)),
+        Encoded::OutOfMemory => text(b"memory"),
+        Encoded::PayloadTooLong => text(b"too long"),
     }
+}
+
+fn encode(payload: &[u8]) {
+    // holds a frame of the longest payload that a line can have
+    let mut frame = [0u8; 70100];
+    encode_into(payload, &mut frame);
+}
+
+// The output is the first `room` bytes of a frame.
+fn encode_in(room: usize, payload: &[u8], frame: &mut [u8]) {
+    if frame.len() < room {
+        bad();
+        return;
+    }
+    encode_into(payload, &mut frame[..room]);
 }
 
 // ---- stream
 
-struct Streaming {
-    encoder: Encoder,
-    n: usize,
-    more: bool,
-}
-
-fn item(answer: Item, out: &mut [u8], n: usize) -> usize {
+fn item(answer: Item) {
     match answer {
-        Item::Byte(b) => hex_byte(out, n, b),
-        Item::Finished => text(out, n, b" none"),
-        Item::PayloadTooLong => text(out, n, b" too long"),
-        Item::BadState => text(out, n, b" bad state"),
+        Item::Byte(b) => hex_byte(b),
+        Item::Finished => text(b" none"),
+        Item::PayloadTooLong => text(b" too long"),
+        Item::BadState => text(b" bad state"),
     }
 }
 
@@ -347,25 +350,31 @@ fn is_byte(answer: Item) -> bool {
     }
 }
 
+// An Encoder, and whether its last call gave a byte.
+struct Streaming {
+    encoder: Encoder,
+    more: bool,
+}
+
 // One call of the Encoder's next.
-fn stream_next(s: Streaming, payload: &[u8], out: &mut [u8]) -> Streaming {
+fn stream_next(s: Streaming, payload: &[u8]) -> Streaming {
     let encoder = s.encoder;
     let given = encoder.next(payload);
     let next = given.encoder;
     let answer = given.answer;
+    item(answer);
     Streaming {
         encoder: next,
-        n: item(answer, out, s.n),
         more: is_byte(answer),
     }
 }
 
 // Calls until no byte comes.
-fn stream_all(s: Streaming, payload: &[u8], out: &mut [u8]) -> Streaming {
+fn stream_all(s: Streaming, payload: &[u8]) -> Streaming {
     let mut now = s;
     let mut turns = u64::MAX;
     while turns > 0 {
-        now = stream_next(now, payload, out);
+        now = stream_next(now, payload);
         if !now.more {
             return now;
         }
@@ -374,62 +383,55 @@ fn stream_all(s: Streaming, payload: &[u8], out: &mut [u8]) -> Streaming {
     now
 }
 
-fn streamed(payload: &[u8], out: &mut [u8], n: usize) -> usize {
+fn streamed(payload: &[u8]) {
+    if !forms::streams_agree(payload) {
+        text(b"differ");
+        return;
+    }
     let begun = Streaming {
         encoder: Encoder::new(),
-        n: n,
         more: true,
     };
-    let first = stream_all(begun, payload, out);
-    let second = stream_next(first, payload, out);
-    let third = stream_next(second, payload, out);
-    third.n
+    let first = stream_all(begun, payload);
+    let second = stream_next(first, payload);
+    stream_next(second, payload);
 }
 
 // ---- encode, stream and crc, which have bytes alone; encode_cap
 
-const ENCODE: u8 = 3;
+// The most bytes that a line holds.
+const BYTES: usize = 35000;
 
-fn of_payload(kind: u8, payload: &[u8], memory: &mut [u8], out: &mut [u8], n: usize) -> usize {
+fn of_payload(kind: u8, payload: &[u8]) {
     match kind {
-        ENCODE => encode_into(payload, memory, out, n),
-        4 => streamed(payload, out, n),
-        5 => hex_u16(out, n, crc_x25::checksum(payload)),
-        _ => bad(out, n),
+        3 => encode(payload),
+        4 => streamed(payload),
+        5 => hex_u16(crc_x25::checksum(payload)),
+        _ => bad(),
     }
 }
 
-fn of_bytes(
-    kind: u8,
-    hex: &[u8],
-    bytes: &mut [u8],
-    memory: &mut [u8],
-    out: &mut [u8],
-    n: usize,
-) -> usize {
+fn of_bytes(kind: u8, hex: &[u8]) {
     if !is_hex(hex) {
-        return bad(out, n);
+        bad();
+        return;
     }
-    let len = unhex(hex, bytes);
-    of_payload(kind, part(&bytes[..], 0, len), memory, out, n)
+    let mut bytes = [0u8; BYTES];
+    let len = unhex(hex, &mut bytes);
+    of_payload(kind, part(&bytes, 0, len));
 }
 
-fn encode_cap(rest: &[u8], bytes: &mut [u8], memory: &mut [u8], out: &mut [u8], n: usize) -> usize {
+fn encode_cap(rest: &[u8]) {
     let room = number(first(rest, b' '));
-    if CAPACITY < room {
-        return bad(out, n);
+    let hex = behind(rest, b' ');
+    if !is_hex(hex) {
+        bad();
+        return;
     }
-    if memory.len() < room {
-        return bad(out, n);
-    }
-    of_bytes(
-        ENCODE,
-        behind(rest, b' '),
-        bytes,
-        &mut memory[..room],
-        out,
-        n,
-    )
+    let mut bytes = [0u8; BYTES];
+    let len = unhex(hex, &mut bytes);
+    let mut frame = [0u8; CAPACITY];
+    encode_in(room, part(&bytes, 0, len), &mut frame);
 }
 
 // ---- push
@@ -497,85 +499,68 @@ fn are_ops(ops: &[u8]) -> bool {
     false
 }
 
-// The decoder, how many operations were done, whether an event was printed, and how full the output is.
+// The decoder, how many operations were done, and whether an event was printed.
 struct Running {
     decoder: Decoder,
     index: u64,
     said: bool,
-    n: usize,
 }
 
 fn one_more(x: u64) -> u64 {
     if x < u64::MAX { x + 1 } else { x }
 }
 
-fn payload(d: Decoder, buf: &[u8], out: &mut [u8], n: usize) -> usize {
+fn payload(d: Decoder, buf: &[u8]) {
     let p = d.payload(buf);
     if p.len() == 0 {
-        return text(out, n, b"payload");
+        text(b"payload");
+        return;
     }
-    let m = text(out, n, b"payload ");
-    hex(out, m, p)
+    text(b"payload ");
+    hex(p);
 }
 
-fn discarded(out: &mut [u8], n: usize, count: u32) -> usize {
-    let m = text(out, n, b"discarded ");
-    decimal(out, m, count as u64)
+fn discarded(count: u32) {
+    text(b"discarded ");
+    decimal(count as u64);
 }
 
-fn escape(out: &mut [u8], n: usize, a: u8, b: u8, c: u8, d: u8) -> usize {
-    let k = text(out, n, b"escape ");
-    let l = hex_byte(out, k, a);
-    let m = hex_byte(out, l, b);
-    let o = hex_byte(out, m, c);
-    hex_byte(out, o, d)
+fn escape(a: u8, b: u8, c: u8, d: u8) {
+    text(b"escape ");
+    hex_byte(a);
+    hex_byte(b);
+    hex_byte(c);
+    hex_byte(d);
 }
 
-fn aligned(out: &mut [u8], n: usize, misaligned: bool) -> usize {
+fn invalid(read: u16, computed: u16, misaligned: bool, pads: u8) {
+    text(b"invalid ");
+    hex_u16(read);
+    text(b" ");
+    hex_u16(computed);
     if misaligned {
-        return text(out, n, b" misaligned ");
+        text(b" misaligned ");
+    } else {
+        text(b" aligned ");
     }
-    text(out, n, b" aligned ")
+    decimal(pads as u64);
 }
 
-fn invalid(
-    out: &mut [u8],
-    n: usize,
-    read: u16,
-    computed: u16,
-    misaligned: bool,
-    pads: u8,
-) -> usize {
-    let k = text(out, n, b"invalid ");
-    let l = hex_u16(out, k, read);
-    let m = emit(out, l, b' ');
-    let o = hex_u16(out, m, computed);
-    let p = aligned(out, o, misaligned);
-    decimal(out, p, pads as u64)
-}
-
-fn event(e: Event, d: Decoder, buf: &[u8], out: &mut [u8], n: usize) -> usize {
+fn event(e: Event, d: Decoder, buf: &[u8]) {
     match e {
-        Event::Nothing => n,
-        Event::Payload => payload(d, buf, out, n),
-        Event::DiscardedBytes(count) => discarded(out, n, count),
-        Event::InvalidEsc(a, b, c, f) => escape(out, n, a, b, c, f),
-        Event::OutOfMemory => text(out, n, b"memory"),
+        Event::Nothing => {}
+        Event::Payload => payload(d, buf),
+        Event::DiscardedBytes(count) => discarded(count),
+        Event::InvalidEsc(a, b, c, f) => escape(a, b, c, f),
+        Event::OutOfMemory => text(b"memory"),
         Event::InvalidMessage {
             read_crc,
             calculated_crc,
             misaligned,
             num_padding_bytes,
-        } => invalid(
-            out,
-            n,
-            read_crc,
-            calculated_crc,
-            misaligned,
-            num_padding_bytes,
-        ),
-        Event::BadState => text(out, n, b"bad state"),
-        Event::WrongBuffer => text(out, n, b"wrong buffer"),
+        } => invalid(read_crc, calculated_crc, misaligned, num_padding_bytes),
+        Event::BadState => text(b"bad state"),
+        Event::WrongBuffer => text(b"wrong buffer"),
     }
 }
 
@@ -598,113 +583,110 @@ fn is_nothing(e: Event) -> bool {
 }
 
 // `;` behind an earlier event, and the operation's number.
-fn label(out: &mut [u8], n: usize, said: bool, index: u64) -> usize {
+fn label(said: bool, index: u64) {
     if said {
-        let k = emit(out, n, b';');
-        let l = decimal(out, k, index);
-        return emit(out, l, b':');
+        text(b";");
     }
-    let m = decimal(out, n, index);
-    emit(out, m, b':')
+    decimal(index);
+    text(b":");
 }
 
 // One operation more, which left the decoder `d` and brought the event `e`.
-fn done(r: Running, d: Decoder, e: Event, buf: &[u8], out: &mut [u8]) -> Running {
+fn done(r: Running, d: Decoder, e: Event, buf: &[u8]) -> Running {
     let index = one_more(r.index);
     if is_nothing(e) {
         return Running {
             decoder: d,
             index: index,
             said: r.said,
-            n: r.n,
         };
     }
-    let m = label(out, r.n, r.said, index);
+    label(r.said, index);
+    event(e, d, buf);
     Running {
         decoder: d,
         index: index,
         said: true,
-        n: event(e, d, buf, out, m),
     }
 }
 
-fn push_byte(r: Running, b: u8, buf: &mut [u8], out: &mut [u8]) -> Running {
+fn push_byte(r: Running, b: u8, buf: &mut [u8]) -> Running {
     let d = r.decoder;
     let pushed = d.push_byte(buf, b);
     let next = pushed.decoder;
     let e = pushed.event;
-    done(r, next, e, &buf[..], out)
+    done(r, next, e, &buf[..])
 }
 
 // bHEX, without its first letter.
-fn push_bytes(r: Running, hex: &[u8], buf: &mut [u8], out: &mut [u8]) -> Running {
+fn push_bytes(r: Running, hex: &[u8], buf: &mut [u8]) -> Running {
     let n = hex.len() / 2;
     let mut now = r;
     let mut i = 0;
     while i < n {
-        now = push_byte(now, byte(hex, i), buf, out);
+        now = push_byte(now, byte(hex, i), buf);
         i += 1;
     }
     now
 }
 
-fn push_run(r: Running, b: u8, times: usize, buf: &mut [u8], out: &mut [u8]) -> Running {
+fn push_run(r: Running, b: u8, times: usize, buf: &mut [u8]) -> Running {
     let mut now = r;
     let mut i = 0;
     while i < times {
-        now = push_byte(now, b, buf, out);
+        now = push_byte(now, b, buf);
         i += 1;
     }
     now
 }
 
-fn finalize_op(r: Running, buf: &[u8], out: &mut [u8]) -> Running {
+fn finalize_op(r: Running, buf: &[u8]) -> Running {
     let d = r.decoder;
     let finalized = d.finalize();
     let next = finalized.decoder;
     let e = finalized.event;
-    done(r, next, e, buf, out)
+    done(r, next, e, buf)
 }
 
-fn reset_op(r: Running, out: &mut [u8]) -> Running {
+fn reset_op(r: Running) -> Running {
     let d = r.decoder;
     let resetted = d.reset();
     let next = resetted.decoder;
     let index = one_more(r.index);
-    let k = label(out, r.n, r.said, index);
-    let l = text(out, k, b"reset ");
+    label(r.said, index);
+    text(b"reset ");
+    decimal(resetted.count as u64);
     Running {
         decoder: next,
         index: index,
         said: true,
-        n: decimal(out, l, resetted.count as u64),
     }
 }
 
-fn op(r: Running, s: &[u8], buf: &mut [u8], out: &mut [u8]) -> Running {
+fn op(r: Running, s: &[u8], buf: &mut [u8]) -> Running {
     let kind = at(s, 0);
     let rest = part(s, 1, s.len());
     if kind == b'f' {
-        return finalize_op(r, &buf[..], out);
+        return finalize_op(r, &buf[..]);
     }
     if kind == b'r' {
-        return reset_op(r, out);
+        return reset_op(r);
     }
     if kind == b'z' {
         let times = number(first(rest, b':'));
         let b = byte(behind(rest, b':'), 0);
-        return push_run(r, b, times, buf, out);
+        return push_run(r, b, times, buf);
     }
-    push_bytes(r, rest, buf, out)
+    push_bytes(r, rest, buf)
 }
 
-fn run_ops(r: Running, ops: &[u8], buf: &mut [u8], out: &mut [u8]) -> Running {
+fn run_ops(r: Running, ops: &[u8], buf: &mut [u8]) -> Running {
     let mut now = r;
     let mut at = 0;
     let mut turns = u64::MAX;
     while turns > 0 {
         let end = op_end(ops, at);
-        now = op(now, part(ops, at, end), buf, out);
+        now = op(now, part(ops, at, end), buf);
         if ops.len() <= end {
             return now;
         }
@@ -715,34 +697,44 @@ fn run_ops(r: Running, ops: &[u8], buf: &mut [u8], out: &mut [u8]) -> Running {
 }
 
 // The events of a list of operations, on a fresh decoder whose capacity is that of `buf`.
-// Other ways to push stand here, once they are there: they run first, without a word, and where they disagree the answer is `differ`.
-fn events(ops: &[u8], buf: &mut [u8], out: &mut [u8], n: usize) -> usize {
+fn events(ops: &[u8], buf: &mut [u8]) {
     let begun = Running {
         decoder: Decoder::new(buf.len()),
         index: 0,
         said: false,
-        n: n,
     };
-    let last = run_ops(begun, ops, buf, out);
-    if last.said {
-        return last.n;
+    let last = run_ops(begun, ops, buf);
+    if !last.said {
+        text(b"-");
     }
-    emit(out, last.n, b'-')
 }
 
-fn push(rest: &[u8], memory: &mut [u8], out: &mut [u8], n: usize) -> usize {
+fn events_in(capacity: usize, ops: &[u8], buf: &mut [u8]) {
+    if buf.len() < capacity {
+        bad();
+        return;
+    }
+    events(ops, &mut buf[..capacity]);
+}
+
+// Every way to push is run first, without a word; where they disagree, that is the answer.
+fn push(rest: &[u8]) {
     let capacity = number(first(rest, b' '));
     let ops = behind(rest, b' ');
     if CAPACITY < capacity {
-        return bad(out, n);
-    }
-    if memory.len() < capacity {
-        return bad(out, n);
+        bad();
+        return;
     }
     if !are_ops(ops) {
-        return bad(out, n);
+        bad();
+        return;
     }
-    events(ops, &mut memory[..capacity], out, n)
+    if !forms::pushes_agree(ops, capacity) {
+        text(b"differ");
+        return;
+    }
+    let mut buf = [0u8; CAPACITY];
+    events_in(capacity, ops, &mut buf);
 }
 
 // ---- leaf
@@ -755,30 +747,31 @@ fn kind_of(s: &[u8]) -> u8 {
     )
 }
 
-fn field(kind: u8, input: &[u8], out: &mut [u8], n: usize) -> usize {
+fn field(kind: u8, input: &[u8]) {
     match kind {
-        0 => field_u8(input, out, n),
-        1 => field_u16(input, out, n),
-        2 => field_u32(input, out, n),
-        3 => field_u64(input, out, n),
-        4 => field_i8(input, out, n),
-        5 => field_i16(input, out, n),
-        6 => field_i32(input, out, n),
-        7 => field_i64(input, out, n),
-        8 => field_bool(input, out, n),
-        9 => field_oct(input, out, n),
-        10 => field_opt_oct(input, out, n),
-        _ => messages::field(kind, input, out, n),
+        0 => field_u8(input),
+        1 => field_u16(input),
+        2 => field_u32(input),
+        3 => field_u64(input),
+        4 => field_i8(input),
+        5 => field_i16(input),
+        6 => field_i32(input),
+        7 => field_i64(input),
+        8 => field_bool(input),
+        9 => field_oct(input),
+        10 => field_opt_oct(input),
+        _ => messages::field(kind, input),
     }
 }
 
 // What stands behind the field.
-fn left(input: &[u8], next: usize, out: &mut [u8], n: usize) -> usize {
-    let m = text(out, n, b" left ");
+fn left(input: &[u8], next: usize) {
+    text(b" left ");
     if next <= input.len() {
-        return decimal(out, m, (input.len() - next) as u64);
+        decimal((input.len() - next) as u64);
+        return;
     }
-    text(out, m, b"a place beyond the input")
+    text(b"a place beyond the input");
 }
 
 fn tlf_error(e: TlfParseError) -> u8 {
@@ -802,68 +795,68 @@ fn error_number(e: ParseError) -> u8 {
     }
 }
 
-fn error(f: Fault, out: &mut [u8], n: usize) -> usize {
+fn error(f: Fault) {
     let e = f.error;
     let names =
         b"UnexpectedEOF,InvalidTlf TlfLengthOverflow,InvalidTlf TlfReserved,InvalidTlf TlfLengthUnderflow,InvalidTlf TlfNextByteTypeMismatch,InvalidTlf TlfInvalidTy,TlfMismatch,CrcMismatch,MsgEndMismatch,UnexpectedVariant";
-    let m = text(out, n, b"err ");
-    text(out, m, nth(names, error_number(e)))
+    text(b"err ");
+    text(nth(names, error_number(e)));
 }
 
-fn unsigned(value: u64, input: &[u8], next: usize, out: &mut [u8], n: usize) -> usize {
-    let m = decimal(out, n, value);
-    left(input, next, out, m)
+fn unsigned(value: u64, input: &[u8], next: usize) {
+    decimal(value);
+    left(input, next);
 }
 
-fn integer(value: i64, input: &[u8], next: usize, out: &mut [u8], n: usize) -> usize {
-    let m = signed(out, n, value);
-    left(input, next, out, m)
+fn integer(value: i64, input: &[u8], next: usize) {
+    signed(value);
+    left(input, next);
 }
 
 // S of the answers: x and hex.
-fn octets(span: Span, input: &[u8], out: &mut [u8], n: usize) -> usize {
-    let m = emit(out, n, b'x');
-    hex(out, m, octet_string::octet_str(input, span))
+fn octets(span: Span, input: &[u8]) {
+    text(b"x");
+    hex(octet_string::octet_str(input, span));
 }
 
 // O of the answers.
-fn opt_octets(s: OptSpan, input: &[u8], out: &mut [u8], n: usize) -> usize {
+fn opt_octets(s: OptSpan, input: &[u8]) {
     match s {
-        OptSpan::Present(span) => octets(span, input, out, n),
-        OptSpan::Absent => emit(out, n, b'-'),
+        OptSpan::Present(span) => octets(span, input),
+        OptSpan::Absent => text(b"-"),
     }
 }
 
-fn string(span: Span, input: &[u8], next: usize, out: &mut [u8], n: usize) -> usize {
-    let m = octets(span, input, out, n);
-    left(input, next, out, m)
+fn string(span: Span, input: &[u8], next: usize) {
+    octets(span, input);
+    left(input, next);
 }
 
-fn field_u8(input: &[u8], out: &mut [u8], n: usize) -> usize {
+fn field_u8(input: &[u8]) {
     match num::parse_u8(input, 0) {
-        U8Read::Is { value, next } => unsigned(value as u64, input, next, out, n),
-        U8Read::Refused(f) => error(f, out, n),
+        U8Read::Is { value, next } => unsigned(value as u64, input, next),
+        U8Read::Refused(f) => error(f),
     }
 }
 
-fn field_u16(input: &[u8], out: &mut [u8], n: usize) -> usize {
+fn field_u16(input: &[u8]) {
     match num::parse_u16(input, 0) {
-        U16Read::Is { value, next } => unsigned(value as u64, input, next, out, n),
-        U16Read::Refused(f) => error(f, out, n),
+        U16Read::Is { value, next } => unsigned(value as u64, input, next),
+        U16Read::Refused(f) => error(f),
     }
 }
 
-fn field_u32(input: &[u8], out: &mut [u8], n: usize) -> usize {
+fn field_u32(input: &[u8]) {
     match num::parse_u32(input, 0) {
-        U32Read::Is { value, next } => unsigned(value as u64, input, next, out, n),
-        U32Read::Refused(f) => error(f, out, n),
+        U32Read::Is { value, next } => unsigned(value as u64, input, next),
+        U32Read::Refused(f) => error(f),
     }
 }
 
-fn field_u64(input: &[u8], out: &mut [u8], n: usize) -> usize {
+fn field_u64(input: &[u8]) {
     match num::parse_u64(input, 0) {
-        U64Read::Is { value, next } => unsigned(value, input, next, out, n),
-        U64Read::Refused(f) => error(f, out, n),
+        U64Read::Is { value, next } => unsigned(value, input, next),
+        U64Read::Refused(f) => error(f),
     }
 }
 
@@ -879,170 +872,147 @@ fn from_i32(x: i32) -> i64 {
     x as i64
 }
 
-fn field_i8(input: &[u8], out: &mut [u8], n: usize) -> usize {
+fn field_i8(input: &[u8]) {
     match num::parse_i8(input, 0) {
-        I8Read::Is { value, next } => integer(from_i8(value), input, next, out, n),
-        I8Read::Refused(f) => error(f, out, n),
+        I8Read::Is { value, next } => integer(from_i8(value), input, next),
+        I8Read::Refused(f) => error(f),
     }
 }
 
-fn field_i16(input: &[u8], out: &mut [u8], n: usize) -> usize {
+fn field_i16(input: &[u8]) {
     match num::parse_i16(input, 0) {
-        I16Read::Is { value, next } => integer(from_i16(value), input, next, out, n),
-        I16Read::Refused(f) => error(f, out, n),
+        I16Read::Is { value, next } => integer(from_i16(value), input, next),
+        I16Read::Refused(f) => error(f),
     }
 }
 
-fn field_i32(input: &[u8], out: &mut [u8], n: usize) -> usize {
+fn field_i32(input: &[u8]) {
     match num::parse_i32(input, 0) {
-        I32Read::Is { value, next } => integer(from_i32(value), input, next, out, n),
-        I32Read::Refused(f) => error(f, out, n),
+        I32Read::Is { value, next } => integer(from_i32(value), input, next),
+        I32Read::Refused(f) => error(f),
     }
 }
 
-fn field_i64(input: &[u8], out: &mut [u8], n: usize) -> usize {
+fn field_i64(input: &[u8]) {
     match num::parse_i64(input, 0) {
-        I64Read::Is { value, next } => integer(value, input, next, out, n),
-        I64Read::Refused(f) => error(f, out, n),
+        I64Read::Is { value, next } => integer(value, input, next),
+        I64Read::Refused(f) => error(f),
     }
 }
 
-fn field_bool(input: &[u8], out: &mut [u8], n: usize) -> usize {
+fn field_bool(input: &[u8]) {
     match num::parse_bool(input, 0) {
-        BoolRead::Is { value, next } => unsigned(value as u64, input, next, out, n),
-        BoolRead::Refused(f) => error(f, out, n),
+        BoolRead::Is { value, next } => unsigned(value as u64, input, next),
+        BoolRead::Refused(f) => error(f),
     }
 }
 
-fn field_oct(input: &[u8], out: &mut [u8], n: usize) -> usize {
+fn field_oct(input: &[u8]) {
     match octet_string::parse_octet_str(input, 0) {
-        SpanRead::Is { span, next } => string(span, input, next, out, n),
-        SpanRead::Refused(f) => error(f, out, n),
+        SpanRead::Is { span, next } => string(span, input, next),
+        SpanRead::Refused(f) => error(f),
     }
 }
 
-fn optional_string(s: OptSpan, input: &[u8], next: usize, out: &mut [u8], n: usize) -> usize {
-    let m = opt_octets(s, input, out, n);
-    left(input, next, out, m)
+fn optional_string(s: OptSpan, input: &[u8], next: usize) {
+    opt_octets(s, input);
+    left(input, next);
 }
 
-fn field_opt_oct(input: &[u8], out: &mut [u8], n: usize) -> usize {
+fn field_opt_oct(input: &[u8]) {
     match octet_string::parse_opt_octet_str(input, 0) {
-        OptSpanRead::Is { field: s, next } => optional_string(s, input, next, out, n),
-        OptSpanRead::Refused(f) => error(f, out, n),
+        OptSpanRead::Is { field: s, next } => optional_string(s, input, next),
+        OptSpanRead::Refused(f) => error(f),
     }
 }
 
-fn leaf(rest: &[u8], bytes: &mut [u8], out: &mut [u8], n: usize) -> usize {
+fn leaf(rest: &[u8]) {
     let kind = kind_of(first(rest, b' '));
     let hex = behind(rest, b' ');
     if !is_hex(hex) {
-        return bad(out, n);
+        bad();
+        return;
     }
-    let len = unhex(hex, bytes);
-    field(kind, part(&bytes[..], 0, len), out, n)
+    let mut bytes = [0u8; BYTES];
+    let len = unhex(hex, &mut bytes);
+    field(kind, part(&bytes, 0, len));
 }
 
 // ---- lines
 
-fn command(line: &[u8], bytes: &mut [u8], memory: &mut [u8], out: &mut [u8], n: usize) -> usize {
+fn command(line: &[u8]) {
     let rest = behind(line, b' ');
     match find(
         b"push,leaf,encode_cap,encode,stream,crc,events,places",
         first(line, b' '),
     ) {
-        0 => push(rest, memory, out, n),
-        1 => leaf(rest, bytes, out, n),
-        2 => encode_cap(rest, bytes, memory, out, n),
-        6 => messages::events(rest, false, bytes, out, n),
-        7 => messages::events(rest, true, bytes, out, n),
-        k => of_bytes(k, rest, bytes, memory, out, n),
+        0 => push(rest),
+        1 => leaf(rest),
+        2 => encode_cap(rest),
+        6 => messages::events(rest, false),
+        7 => messages::events(rest, true),
+        k => of_bytes(k, rest),
     }
 }
 
-// How long the line is so far, usize::MAX where it is too long; how full the output is; whether input may follow.
+// How long the line is so far, usize::MAX where it is too long; whether input may follow.
 struct Place {
     len: usize,
-    n: usize,
     more: bool,
 }
 
 // A line that is too long has no part, and the empty line is no command.
-fn answer(p: Place, line: &[u8], bytes: &mut [u8], memory: &mut [u8], out: &mut [u8]) -> Place {
-    let m = command(part(line, 0, p.len), bytes, memory, out, p.n);
-    Place {
-        len: 0,
-        n: emit(out, m, b'\n'),
-        more: p.more,
-    }
+fn answer(line: &[u8], len: usize) {
+    command(part(line, 0, len));
+    text(b"\n");
 }
 
-// One byte of the input: of a line, or its end.
-fn take(
-    p: Place,
-    b: u8,
-    line: &mut [u8],
-    bytes: &mut [u8],
-    memory: &mut [u8],
-    out: &mut [u8],
-) -> Place {
+// One byte of the input: of a line, or its end. Answers how long the line is.
+fn take(len: usize, b: u8, line: &mut [u8]) -> usize {
     if b == b'\n' {
-        return answer(p, &line[..], bytes, memory, out);
+        answer(&line[..], len);
+        return 0;
     }
-    let len = p.len;
     if len < line.len() {
         line[len] = b;
-        return Place {
-            len: len + 1,
-            n: p.n,
-            more: p.more,
-        };
+        return len + 1;
     }
-    Place {
-        len: usize::MAX,
-        n: p.n,
-        more: p.more,
-    }
+    usize::MAX
 }
 
-fn take_all(
-    p: Place,
-    chunk: &[u8],
-    line: &mut [u8],
-    bytes: &mut [u8],
-    memory: &mut [u8],
-    out: &mut [u8],
-) -> Place {
-    let mut now = p;
+fn take_all(len: usize, chunk: &[u8], line: &mut [u8]) -> usize {
+    let mut now = len;
     let mut i = 0;
     while i < chunk.len() {
-        now = take(now, chunk[i], line, bytes, memory, out);
+        now = take(now, chunk[i], line);
         i += 1;
     }
     now
 }
 
 // Reads once, and takes what came.
-fn turn(p: Place, line: &mut [u8], bytes: &mut [u8], memory: &mut [u8], out: &mut [u8]) -> Place {
+fn turn(p: Place, line: &mut [u8]) -> Place {
     let mut chunk = [0u8; 65536];
     let got = libc::read(0, &mut chunk);
     if got <= 0 {
         return Place {
             len: p.len,
-            n: p.n,
             more: false,
         };
     }
     let count = io::count(got, &chunk);
-    take_all(p, &chunk[..count], line, bytes, memory, out)
+    Place {
+        len: take_all(p.len, &chunk[..count], line),
+        more: true,
+    }
 }
 
 // Nothing says that the input ends, so the turns are counted down, from a number that no run uses up.
-fn run(p: Place, line: &mut [u8], bytes: &mut [u8], memory: &mut [u8], out: &mut [u8]) -> Place {
+fn run(p: Place, line: &mut [u8]) -> Place {
     let mut now = p;
     let mut turns = u64::MAX;
     while turns > 0 {
-        now = turn(now, line, bytes, memory, out);
+        now = turn(now, line);
         if !now.more {
             return now;
         }
@@ -1052,26 +1022,11 @@ fn run(p: Place, line: &mut [u8], bytes: &mut [u8], memory: &mut [u8], out: &mut
 }
 
 // A last line without its end is a line too.
-fn finish(p: Place, line: &[u8], bytes: &mut [u8], memory: &mut [u8], out: &mut [u8]) {
-    if p.len == 0 {
-        io::write_all(1, part(&out[..], 0, p.n));
-        return;
-    }
-    let last = answer(p, line, bytes, memory, out);
-    io::write_all(1, part(&out[..], 0, last.n));
-}
-
 fn main() {
     let mut line = [0u8; 70000];
-    let mut bytes = [0u8; 35000];
-    // holds a frame of the longest payload that a line can have
-    let mut memory = [0u8; 70100];
-    let mut out = [0u8; 65536];
-    let begun = Place {
-        len: 0,
-        n: 0,
-        more: true,
-    };
-    let last = run(begun, &mut line, &mut bytes, &mut memory, &mut out);
-    finish(last, &line, &mut bytes, &mut memory, &mut out);
+    let begun = Place { len: 0, more: true };
+    let last = run(begun, &mut line);
+    if last.len != 0 {
+        answer(&line, last.len);
+    }
 }

@@ -6,10 +6,10 @@ use Rattle.smlreplay.proofs.push_bytes.Statement.{statement}
 use Rattle.smlreplay.proofs.push_bytes.Tie as tie
 
 abbrev Inv-loop : tie.InvT-loop
-Inv-loop hex buf₀ out₀ n now₀ i₀ buf out now i = (length buf ≡ length buf₀) × (length out ≡ length out₀)
+Inv-loop hex buf₀ n now₀ i₀ buf now i = length buf ≡ length buf₀
 
 abbrev μ-loop : tie.MeasureT-loop
-μ-loop hex buf₀ out₀ n now₀ i₀ buf out now i = n - i
+μ-loop hex buf₀ n now₀ i₀ buf now i = n - i
 
 loop-holds : tie.Need-loop-holds Inv-loop μ-loop
 loop-holds c = search needs
@@ -32,9 +32,6 @@ loop-again c = search needs
 same-length : tie.Need-same-length Inv-loop μ-loop
 same-length c = search needs
 
-same-length-2 : tie.Need-same-length-2 Inv-loop μ-loop
-same-length-2 c = search needs
-
 returns : tie.Need-returns Inv-loop μ-loop
 returns c = search needs
 
@@ -51,5 +48,4 @@ push-bytes-spec =
     loop-less
     loop-again
     same-length
-    same-length-2
     returns)

@@ -6,10 +6,10 @@ use Rattle.smlreplay.proofs.push_run.Statement.{statement}
 use Rattle.smlreplay.proofs.push_run.Tie as tie
 
 abbrev Inv-loop : tie.InvT-loop
-Inv-loop b times buf₀ out₀ now₀ i₀ buf out now i = (length buf ≡ length buf₀) × (length out ≡ length out₀)
+Inv-loop b times buf₀ now₀ i₀ buf now i = length buf ≡ length buf₀
 
 abbrev μ-loop : tie.MeasureT-loop
-μ-loop b times buf₀ out₀ now₀ i₀ buf out now i = times - i
+μ-loop b times buf₀ now₀ i₀ buf now i = times - i
 
 loop-holds : tie.Need-loop-holds Inv-loop μ-loop
 loop-holds c = search needs
@@ -29,9 +29,6 @@ loop-again c = search needs
 same-length : tie.Need-same-length Inv-loop μ-loop
 same-length c = search needs
 
-same-length-2 : tie.Need-same-length-2 Inv-loop μ-loop
-same-length-2 c = search needs
-
 returns : tie.Need-returns Inv-loop μ-loop
 returns c = search needs
 
@@ -47,5 +44,4 @@ push-run-spec =
     loop-less
     loop-again
     same-length
-    same-length-2
     returns)

@@ -5,10 +5,10 @@ use Rattle.smlreplay.proofs.run_ops.Statement.{statement}
 use Rattle.smlreplay.proofs.run_ops.Tie as tie
 
 abbrev Inv-loop : tie.InvT-loop
-Inv-loop ops buf₀ out₀ now₀ at₀ turns₀ buf out now at turns = (length buf ≡ length buf₀) × (length out ≡ length out₀)
+Inv-loop ops buf₀ now₀ at₀ turns₀ buf now at turns = length buf ≡ length buf₀
 
 abbrev μ-loop : tie.MeasureT-loop
-μ-loop ops buf₀ out₀ now₀ at₀ turns₀ buf out now at turns = turns
+μ-loop ops buf₀ now₀ at₀ turns₀ buf now at turns = turns
 
 loop-holds : tie.Need-loop-holds Inv-loop μ-loop
 loop-holds c = search needs
@@ -25,9 +25,6 @@ op-requires c κs = search needs
 same-length : tie.Need-same-length Inv-loop μ-loop
 same-length c = search needs
 
-same-length-2 : tie.Need-same-length-2 Inv-loop μ-loop
-same-length-2 c = search needs
-
 returns : tie.Need-returns Inv-loop μ-loop
 returns c = search needs
 
@@ -43,11 +40,8 @@ loop-less c = search needs
 loop-again : tie.Need-loop-again Inv-loop μ-loop
 loop-again c = search needs
 
-same-length-3 : tie.Need-same-length-3 Inv-loop μ-loop
-same-length-3 c = search needs
-
-same-length-4 : tie.Need-same-length-4 Inv-loop μ-loop
-same-length-4 c = search needs
+same-length-2 : tie.Need-same-length-2 Inv-loop μ-loop
+same-length-2 c = search needs
 
 returns-2 : tie.Need-returns-2 Inv-loop μ-loop
 returns-2 c = search needs
@@ -63,12 +57,10 @@ run-ops-spec =
     part-requires
     op-requires
     same-length
-    same-length-2
     returns
     add-at
     sub-turns
     loop-less
     loop-again
-    same-length-3
-    same-length-4
+    same-length-2
     returns-2)

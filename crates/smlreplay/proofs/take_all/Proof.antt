@@ -6,10 +6,10 @@ use Rattle.smlreplay.proofs.take_all.Statement.{statement}
 use Rattle.smlreplay.proofs.take_all.Tie as tie
 
 abbrev Inv-loop : tie.InvT-loop
-Inv-loop chunk line₀ bytes₀ memory₀ out₀ now₀ i₀ line bytes memory out now i = (length line ≡ length line₀) × (length bytes ≡ length bytes₀) × (length memory ≡ length memory₀) × (length out ≡ length out₀)
+Inv-loop len chunk line₀ now₀ i₀ line now i = length line ≡ length line₀
 
 abbrev μ-loop : tie.MeasureT-loop
-μ-loop chunk line₀ bytes₀ memory₀ out₀ now₀ i₀ line bytes memory out now i = length chunk - i
+μ-loop len chunk line₀ now₀ i₀ line now i = length chunk - i
 
 loop-holds : tie.Need-loop-holds Inv-loop μ-loop
 loop-holds c = search needs
@@ -32,15 +32,6 @@ loop-again c = search needs
 same-length : tie.Need-same-length Inv-loop μ-loop
 same-length c = search needs
 
-same-length-2 : tie.Need-same-length-2 Inv-loop μ-loop
-same-length-2 c = search needs
-
-same-length-3 : tie.Need-same-length-3 Inv-loop μ-loop
-same-length-3 c = search needs
-
-same-length-4 : tie.Need-same-length-4 Inv-loop μ-loop
-same-length-4 c = search needs
-
 returns : tie.Need-returns Inv-loop μ-loop
 returns c = search needs
 
@@ -57,7 +48,4 @@ take-all-spec =
     loop-less
     loop-again
     same-length
-    same-length-2
-    same-length-3
-    same-length-4
     returns)

@@ -1,20 +1,16 @@
-use mathlib.Core.Path.{_≡_}
-use lib.ListN.{length}
+use Prim.Native.Nat.{_≤_}
 use borrow.Author.Needs.{needs}
 use Rattle.smlreplay.proofs.messages.read_on.Statement.{statement}
 use Rattle.smlreplay.proofs.messages.read_on.Tie as tie
 
 abbrev Inv-loop : tie.InvT-loop
-Inv-loop places input out₀ now₀ turns₀ out now turns = length out ≡ length out₀
+Inv-loop places input now₀ turns₀ now turns = turns ≤ turns₀
 
 abbrev μ-loop : tie.MeasureT-loop
-μ-loop places input out₀ now₀ turns₀ out now turns = turns
+μ-loop places input now₀ turns₀ now turns = turns
 
 loop-holds : tie.Need-loop-holds Inv-loop μ-loop
 loop-holds c = search needs
-
-same-length : tie.Need-same-length Inv-loop μ-loop
-same-length c = search needs
 
 returns : tie.Need-returns Inv-loop μ-loop
 returns c = search needs
@@ -31,9 +27,6 @@ loop-less c = search needs
 loop-again : tie.Need-loop-again Inv-loop μ-loop
 loop-again c = search needs
 
-same-length-2 : tie.Need-same-length-2 Inv-loop μ-loop
-same-length-2 c = search needs
-
 returns-2 : tie.Need-returns-2 Inv-loop μ-loop
 returns-2 c = search needs
 
@@ -44,11 +37,9 @@ read-on-spec =
     Inv-loop
     μ-loop
     loop-holds
-    same-length
     returns
     called-again-requires
     sub-turns
     loop-less
     loop-again
-    same-length-2
     returns-2)

@@ -1,0 +1,122 @@
+"""smlcat and smlreplay on bytes that nobody meant: random, cut, empty, a megabyte without a line end, lines of the longest length and one more. Neither may stop early, and each must say what the rules give.
+
+smlcat, and smlreplay's pushes, are held to tests/push_rules.py; what is no command must be answered `bad command`, and nothing else.
+"""
+import os, random, re, subprocess, sys
+
+sys.dont_write_bytecode = True
+os.chdir(os.path.join(os.path.dirname(os.path.abspath(__file__)), ".."))
+sys.path.append("oracle")
+import push_rules
+from generate import commands, damaged, payload, piece
+from sml import KINDS, START, crc, frame, hexed, program
+from messages import KINDS as MORE
+
+SEED = 20250711
+if subprocess.run(["rt", "check", "smlcat", "smlreplay"], capture_output=True).returncode != 0:
+    sys.exit("test_robust: smlcat or smlreplay is not proved")
+faults, count = [], 0
+
+
+def run(name, given):
+    ran = subprocess.run(program(name), input=given, capture_output=True)
+    if ran.returncode != 0 or ran.stderr:
+        faults.append(f"{name}: status {ran.returncode} on {len(given)} bytes, {given[:40]!r}")
+    return ran.stdout.decode("latin-1")
+
+
+def same(what, said, wanted):
+    global count
+    count += 1
+    if said != wanted:
+        at = next((k for k, (a, b) in enumerate(zip(said, wanted)) if a != b), min(len(said), len(wanted)))
+        faults.append(f"{what}: at {at} it says {said[max(0, at - 40) : at + 60]!r}, wanted {wanted[max(0, at - 40) : at + 60]!r}")
+
+
+# ---- smlcat
+
+
+def captures(r):
+    """Bytes as they come in from a meter, and worse."""
+    yield b""
+    yield r.randbytes(300000)
+    yield bytes(r.choice(b"\x1b\x1a\x01\x00\x42") for _ in range(100000))
+    yield b"\x1b" * 70001
+    yield START * 500
+    for n in (4088, 4089, 4092, 4093, 4096, 5000):
+        yield b"\0\0" + frame(bytes(n)) + frame(b"\x1b" * 7)
+    for n in range(17):
+        yield START[:n] + frame(b"\x12\x34\x56\x78")[: 20 - n]
+    for _ in range(40):
+        yield b"".join(r.choice([lambda: frame(payload(r)), lambda: damaged(r, frame(payload(r))), lambda: r.randbytes(r.randrange(60)), lambda: piece(r)[0]])() for _ in range(20))
+
+
+r = random.Random(SEED)
+for k, data in enumerate(captures(r)):
+    same(f"smlcat, capture {k}", run("smlcat", data), "".join(e + "\n" for e in push_rules.events(4096, data)))
+
+# ---- smlreplay: what is a command, by the table of commands
+
+HEX = r"(?:-|(?:[0-9a-f]{2})+)"
+COMMAND = re.compile(r"(?:encode|stream|crc|events|places) %s|encode_cap \d+ %s|leaf (?:%s) %s|push \d+ (?:f|r|b%s|z\d+:[0-9a-f]{2})(?:,(?:f|r|b%s|z\d+:[0-9a-f]{2}))*" % (HEX, HEX, "|".join(KINDS + MORE), HEX, HEX, HEX), re.A)
+
+
+def is_command(line):
+    numbers = [int(n) for n in re.findall(r"^(?:encode_cap|push) (\d+)", line)], [int(n) for n in re.findall(r"[ ,]z(\d+):", line)]
+    return len(line) <= 70000 and bool(COMMAND.fullmatch(line)) and all(n <= 4096 for n in numbers[0]) and all(n <= 1048576 for n in numbers[1])
+
+
+def unhex(h):
+    return bytes.fromhex(h.replace("-", ""))
+
+
+def wanted(line):
+    """The answer where this file knows it, else None."""
+    if not is_command(line):
+        return "bad command"
+    words = line.split(" ")
+    if words[0] == "crc":
+        return "%04x" % crc(unhex(words[1]))
+    if words[0] == "encode":
+        return frame(unhex(words[1])).hex()
+    if words[0] == "stream":
+        return frame(unhex(words[1])).hex() + " none none none"
+    if words[0] == "encode_cap":
+        f = frame(unhex(words[2]))
+        return f.hex() if len(f) <= int(words[1]) else "memory"
+    if words[0] == "push":
+        ops = [o if o in "fr" else unhex(o[1:]) if o[0] == "b" else bytes([int(o[-2:], 16)]) * int(o[1:-3]) for o in words[2].split(",")]
+        return push_rules.answer(int(words[1]), ops)
+
+
+def replayed(what, given):
+    lines = given.decode("latin-1").split("\n")
+    if lines[-1] == "":
+        lines.pop()
+    said = run("smlreplay", given).split("\n")
+    if len(said) != len(lines) + 1 or said[-1] != "":
+        faults.append(f"smlreplay, {what}: {len(lines)} lines in, {len(said) - 1} out")
+        return
+    for line, answer in zip(lines, said):
+        want = wanted(line)
+        if want is None:
+            same(f"smlreplay, {what}, {line[:60]!r}", answer in ("bad command", "differ", ""), False)
+        else:
+            same(f"smlreplay, {what}, {line[:60]!r}", answer, want)
+
+
+cut = [c[: r.randrange(len(c) + 1)] for c in list(commands(SEED, 1000)) + list(commands(SEED, 300, "messages"))]
+replayed("nothing", b"")
+replayed("line ends", b"\n\n\r\n\n")
+replayed("random bytes", r.randbytes(200000))
+replayed("random letters", bytes(r.choice(b"push 8bfrz0123456789abcdef,:-\n") for _ in range(50000)))
+replayed("no line end", bytes(r.choice(b"0123456789abcdef") for _ in range(1 << 20)))
+replayed("no line end, a command's beginning", b"push 4096 b" + b"1b" * (1 << 19))
+replayed("cut commands", "\n".join(cut).encode("latin-1"))
+replayed("commands", "\n".join(commands(SEED + 1, 400)).encode("latin-1"))
+for n in (69998, 70000, 70001, 70002, 140000):
+    for head in ("crc ", "encode ", "stream ", "push 4096 b", "push 12 f,b", "events ", "leaf oct "):
+        replayed(f"a line of {n}", (head + ("1b0042ff" * 40000)[: n - len(head)] + "\ncrc 31").encode())
+print("\n".join(faults[:20]))
+print(f"{count} answers held, {len(faults)} faults")
+sys.exit(1 if faults else 0)
