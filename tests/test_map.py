@@ -1,4 +1,4 @@
-"""docs/STATEMENTS.md is true to the files: each file that it names is there, and each definition or law of a row stands in that row's file; README names every crate; the layout is rt fmt's."""
+"""docs/STATEMENTS.md is true to the files: each file that it names is there, and each definition or law of a row stands in that row's file; README names every crate; the forms of docs/DECISIONS.md stand at their lines; the layout is rt fmt's."""
 import glob, os, re, subprocess, sys
 
 os.chdir(os.path.join(os.path.dirname(os.path.abspath(__file__)), ".."))
@@ -27,6 +27,12 @@ for line in open("crates.txt", encoding="utf-8"):
 for path in ["NOTICE", "docs/DECISIONS.md", "docs/DIFFERENCES.md", "docs/WRONG-READINGS.md"]:
     if not os.path.isfile(path):
         bad.append(f"{path} is missing")
+forms = re.findall(r"`(crates/[\w/.]+):(\d+)` \(`([^`]+)`\)", open("docs/DECISIONS.md", encoding="utf-8").read())
+for path, line, what in forms:
+    if what not in open(path, encoding="utf-8").read().split("\n")[int(line) - 1]:
+        bad.append(f"docs/DECISIONS.md: {what} does not stand at {path}:{line}")
+if not forms:
+    bad.append("docs/DECISIONS.md: no form has a file and a line")
 fmt = subprocess.run(["rt", "fmt", "--check"], capture_output=True, text=True)
 if fmt.returncode != 0:
     bad.append("rt fmt --check: " + (fmt.stdout + fmt.stderr).strip()[-400:])
