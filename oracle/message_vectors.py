@@ -1,13 +1,14 @@
-"""message_vectors.py: prints the fixed commands over messages. message_vectors.py append: puts them, with their answers, behind the lines of crates/smlreplay/stdin and stdout.
+"""message_vectors.py: prints the fixed commands over messages. vectors.py puts them, with their answers, behind its own lines in crates/smlreplay/stdin and stdout; message_vectors.py append does that alone.
 
 The answers are the crate's (target/oracle/oracle, made by oracle/build). The crate has no places: what `places` answers is its answer to `events` with document 01's number behind each
-error, and the place that is written here beside the input, by the rule: 10 the input's length; 11, 12, 13 the element's first length byte, of a 13 the tag's; 14 the CRC's; 15 the end byte.
-A second `append` replaces what the first one put there. vectors.py writes both files anew, so run it first.
+error, and its place. Both are those of places.py, a reader by document 01's tables, and the number must be the crate's; where one field is bent they are also written here beside the input.
+A second `append` replaces what the first one put there.
 """
 import os, subprocess, sys
 
 sys.dont_write_bytecode = True
 from messages import BOOL, INT, KINDS, LIST, OCT, UINT, element, length, payloads, sealed, unsigned
+from places import refusal
 from sml import HERE, crc, hexed
 
 b = bytes.fromhex
@@ -108,6 +109,9 @@ def told():
     for tag, sig in (("0201", "03aabb"), ("0201", "01"), ("0201", "8002"), ("0700", "01"), ("0200", "01"), ("0202", "01")):
         one = sealed(b(close % (tag, sig)))
         yield from ("events " + x.hex() for x in (one, one + one, one[:-1] + b"\x01", one[:-3] + one[-3:-1][::-1] + b"\0", one[:-3] + one[-3:-1][::-1] + b"\x01", joined(OPEN) + one, one + joined(OPEN)))
+    small = "7603dd4362006200726302017101"
+    yield from ("events " + small + x for x in ("630f5b00", "635b0f00", "635b0f01", "630f5b01"))
+    yield "events 76020762006200726307017701020101017177020501010101620101010163516200"
 
 
 OTHERS = b("00 01 02 10 42 52 62 63 65 69 72 76 77 80 83 c2 f0 ff")
@@ -148,7 +152,7 @@ def leaves():
     """Every length byte at every kind that crate value reads, and both forms of a time."""
     for k in KINDS:
         yield from ("leaf %s %02x0203040506070809" % (k, x) for x in range(256))
-        for h in ["01", "00", "8002", "8001", "-", "72620165000f4240", "65000f4240", "6400ffff", "720165000f4240", "72620265000f4240", "7262016201", "726201620165000000ff", "7262017262016500000001",
+        for h in ["01", "00", "8002", "8001", "-", "6500000007", "7262016500000007", "7262016500000005", "6205", "630005", "630102", "72620165000f4240", "65000f4240", "6400ffff", "720165000f4240", "72620265000f4240", "7262016201", "726201620165000000ff", "7262017262016500000001",
                   "72620165000000ff00", "7201", "7262", "726201", "72620165", "f002620165000000ff", "e00600000001", "e0070000000001", "72e003016500000001", "7262ff6500000001", "710165000000ff", "7362016500000001"]:
             yield "leaf %s %s" % (k, h)
         for n in range(0, 10):
@@ -193,6 +197,25 @@ def placed():
                 yield put(b"\x63" + bytes_of[:0:-1])[:-1] + b"\x01", 15, at + 3
 
 
+def judged():
+    """Every cut, every length byte replaced and every damage of the messages: whatever is refused there."""
+    for c in dict.fromkeys([*cuts(), *lengths(), *damages(), *told()]):
+        data = b(c.split()[1].replace("-", ""))
+        if refusal(data) is not None:
+            yield (data, *refusal(data))
+
+
+def bent():
+    """Both lists, each input once; where it is in both they agree."""
+    out = {}
+    for data, number, place in placed():
+        assert refusal(data) == (number, place), (data.hex(), refusal(data), number, place)
+        out[data] = number, place
+    for data, number, place in judged():
+        out[data] = number, place
+    return [(data, *what) for data, what in out.items()]
+
+
 def with_places(said, size, number, place):
     """The crate's answer to `events`, with number and place behind each error; behind the first refusal it is 10 at the end of the input."""
     out, first = [], True
@@ -221,11 +244,14 @@ def plain():
 
 def vectors():
     """Commands and answers."""
-    commands = plain()
-    bent = list(placed())
-    said = asked(commands + ["events " + d.hex() for d, _, _ in bent])
-    yield from zip(commands, said)
-    for (data, number, place), answer in zip(bent, said[len(commands) :]):
+    commands, refused = plain(), bent()
+    said = asked(commands + ["events " + d.hex() for d, _, _ in refused])
+    for command, answer in zip(commands, said):
+        if command.startswith("events "):
+            # what the crate refuses, and nothing else, is refused by the rule of places too
+            assert ("err " in answer) == (refusal(b(command[7:].replace("-", ""))) is not None), command
+        yield command, answer
+    for (data, number, place), answer in zip(refused, said[len(commands) :]):
         yield "places " + data.hex(), with_places(answer, len(data), number, place)
 
 
@@ -246,4 +272,4 @@ if __name__ == "__main__":
     if sys.argv[1:] == ["append"]:
         append()
     else:
-        sys.stdout.writelines(c + "\n" for c in plain() + ["places " + d.hex() for d, _, _ in placed()])
+        sys.stdout.writelines(c + "\n" for c in plain() + ["places " + d.hex() for d, _, _ in bent()])

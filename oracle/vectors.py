@@ -1,10 +1,11 @@
-"""vectors.py: writes the fixed list of commands to crates/smlreplay/stdin and the crate's answers (target/oracle/oracle, made by oracle/build) to stdout beside it.
+"""vectors.py: writes the fixed list of commands to crates/smlreplay/stdin and the crate's answers (target/oracle/oracle, made by oracle/build) to stdout beside it; those over messages (message_vectors.py) come last.
 
 `rt check smlreplay` replays them without the crate at hand. Run it again when a command is added; what it writes depends on nothing but this folder and the crate.
 """
 import itertools, os, subprocess, sys
 
 sys.dont_write_bytecode = True
+import message_vectors
 from generate import commands
 from sml import ESCAPE, HERE, KINDS, START, capacities, closed, frame, hexed
 
@@ -42,7 +43,7 @@ def doc_comments():
 
 def wrong_readings():
     """The bytes of docs/WRONG-READINGS.md, and document 01's five marked readings."""
-    for h in ["8302", "07", "01", "8112", "4201", "6205", "72", "070102", "07010203040506", "52ff", "630102", "42ff", "4200", "41", "61", "6500000005", "00", "016205"]:
+    for h in ["8302", "07", "01", "8112", "4201", "6205", "72", "070102", "07010203040506", "52ff", "630102", "6301", "5280", "42ff", "4200", "41", "61", "6500000005", "00", "016205"]:
         say(*("leaf %s %s" % (k, h) for k in KINDS))
     say("crc 31", "crc 32", "crc 3139", "crc 39")
     for h in ["1b1b1b1b", "001b1b1b1b010203", "1b1b001b1b", "010203", "0102031b", "12345678"]:
@@ -56,6 +57,8 @@ def wrong_readings():
     for n in range(9):
         push(8, b"\x1b" * n + B1, "f"), push(8, b"\x1b" * n + b"\0" + B1, "f")
         push(8, B1[:n] + B1, "f"), push(8, B1, B1[:n], "f"), push(8, B1, B1[:n], "r", B1)
+        # the start, and what follows it, in two pushes
+        push(8, B1[:n], B1[n:], "f"), push(8, b"\0" + B1[:n], B1[n:], "f")
     push(12, closed(START + ESCAPE + ESCAPE + b("1234") + b"\0\0", 2), "f")
 
 
@@ -111,11 +114,11 @@ def refusals():
 
 
 def meters():
-    """The two constructed frames of meters: whole, at capacities about their limit, cut, one bit wrong."""
+    """The two constructed frames of meters: whole, at capacities about their limit, cut at every byte, one bit of every byte wrong."""
     for f in map(b, open(os.path.join(HERE, "frames.hex")).read().split()):
         push(512, f), push(512, f, f[:9], "f"), push(239, f, "f"), push(240, f, "f"), push(360, f, "f"), push(366, f, "f")
-        for k in range(0, len(f), 4):
-            push(512, f[: k + k // 4 % 4], "f"), push(512, f[:k] + bytes([f[k] ^ 1 << k // 4 % 8]) + f[k + 1:], "f")
+        for k in range(len(f)):
+            push(512, f[:k], "f"), push(512, f[:k] + bytes([f[k] ^ 1 << k % 8]) + f[k + 1:], "f")
 
 
 def fields():
@@ -152,6 +155,7 @@ def main():
     open(os.path.join(crate, "stdin"), "wb").write(given)
     open(os.path.join(crate, "stdout"), "wb").write(said)
     print(f"{len(lines) + 1} commands, {len(given)} bytes; {len(said)} bytes of answers, {said.count(b'bad command')} of them bad command")
+    message_vectors.append()
 
 
 if __name__ == "__main__":
