@@ -1,9 +1,9 @@
-"""exhaustive.py PART..: every short input of a kind, as commands on standard output; `oracle/compare FILE` compares them. By hand only: the larger parts are some hundred thousand commands.
+"""exhaustive.py PART..: every short input of a kind, as commands on standard output. Run it so: `python3 oracle/exhaustive.py PART > F; oracle/compare F`. By hand only: the larger parts are some hundred thousand commands.
 
 payloads  all payloads up to 6 bytes over five letters: encode, stream, and the frame pushed
 searches  all 9-byte searches over three letters, then finalize or reset
 tails     a start and all tails up to 7 bytes over five letters at capacities 0 to 9, then finalize
-ends      a start, up to 4 bytes over five letters and an end with each pad count and the right CRC, at capacities 0 to 12; also where the tails above have such an end
+ends      a start, up to 4 bytes over five letters and an end with pad count 0 to 4, 1a, 1b or 42 and the right CRC, at capacities 0 to 12, then finalize
 leaves2   all inputs up to 2 bytes to each leaf
 leaves4   all inputs of 3 and 4 bytes over sixteen letters to each leaf
 """
@@ -41,7 +41,7 @@ def tails():
 
 def ends():
     for d in words(FIVE, range(5)):
-        for pads in range(5):
+        for pads in (*range(5), 0x1A, 0x1B, 0x42):
             for cap in range(13):
                 yield "push %d b%s,f" % (cap, closed(START + d, pads).hex())
 

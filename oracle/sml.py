@@ -58,5 +58,5 @@ def capacities():
     return sorted(map(int, listed.split()))
 
 
-# kinds of `leaf` that smlreplay knows
+# kinds of `leaf` that crates num and octet_string read; those of crate value are KINDS of messages.py
 KINDS = ["u8", "u16", "u32", "u64", "i8", "i16", "i32", "i64", "bool", "oct", "opt_oct"]
