@@ -1,6 +1,7 @@
 """Beyond document 01's domain the crate's counts wrap, and ours don't: each such input with our answer, run through smlreplay, and the crate's, run through it where it is at hand.
+Built with overflow checks the crate panics there: that answer is a third column, run where it is at hand.
 
-The first of each group is the last input inside the domain, where both agree. Behind them the shortest inputs of docs/DIFFERENCES.md at which crate and specification differ: both answer alike.
+The first of each group is the last input inside the domain, where all agree. Behind them the shortest inputs of docs/DIFFERENCES.md at which crate and specification differ: all answer alike.
 """
 import os, subprocess, sys
 
@@ -29,17 +30,18 @@ CLOSED = " | close tid=x01 group=0 abort=0 sig=- | none"
 READ = " | entry name=x41 status=- time=- unit=- scaler=- value=u8:5 sig=-"
 MISMATCH = " | err TlfMismatch"
 NONE = " | none | none | none"
-# (command, ours, the crate's)
+PANIC = "panic"
+# (command, ours, the crate's, the crate's with overflow checks)
 NOISE = [
-    ("push 8 z65535:00,b" + B1, "65543:discarded 65535;65555:payload 12345678", "65543:discarded 65535;65555:payload 12345678"),
-    ("push 8 z65536:00,b" + B1, "65544:discarded 65536;65556:payload 12345678", "65556:payload 12345678"),
-    ("push 8 z65537:00,b" + B1, "65545:discarded 65537;65557:payload 12345678", "65545:discarded 1;65557:payload 12345678"),
-    ("push 8 z65536:00,f", "65537:discarded 65536", "-"),
-    ("push 8 z65537:00,f", "65538:discarded 65537", "65538:discarded 65537"),
-    ("push 8 z65536:00,r", "65537:reset 65536", "65537:reset 65536"),
-    ("push 8 z65535:00,b1b00,b" + B1, "65545:discarded 65537;65557:payload 12345678", "65545:discarded 1;65557:payload 12345678"),
-    ("push 8 z327680:1b,b00" + B1, "327689:discarded 327681;327701:payload 12345678", "327689:discarded 1;327701:payload 12345678"),
-    ("push 8 z1048576:00,b" + B1, "1048584:discarded 1048576;1048596:payload 12345678", "1048596:payload 12345678"),
+    ("push 8 z65535:00,b" + B1, "65543:discarded 65535;65555:payload 12345678", "65543:discarded 65535;65555:payload 12345678", "65543:discarded 65535;65555:payload 12345678"),
+    ("push 8 z65536:00,b" + B1, "65544:discarded 65536;65556:payload 12345678", "65556:payload 12345678", PANIC),
+    ("push 8 z65537:00,b" + B1, "65545:discarded 65537;65557:payload 12345678", "65545:discarded 1;65557:payload 12345678", PANIC),
+    ("push 8 z65536:00,f", "65537:discarded 65536", "-", PANIC),
+    ("push 8 z65537:00,f", "65538:discarded 65537", "65538:discarded 65537", PANIC),
+    ("push 8 z65536:00,r", "65537:reset 65536", "65537:reset 65536", PANIC),
+    ("push 8 z65535:00,b1b00,b" + B1, "65545:discarded 65537;65557:payload 12345678", "65545:discarded 1;65557:payload 12345678", PANIC),
+    ("push 8 z327680:1b,b00" + B1, "327689:discarded 327681;327701:payload 12345678", "327689:discarded 1;327701:payload 12345678", PANIC),
+    ("push 8 z1048576:00,b" + B1, "1048584:discarded 1048576;1048596:payload 12345678", "1048596:payload 12345678", PANIC),
 ]
 LISTS = []
 for last, n, alone, sealed_, close, entry, both in (
@@ -57,7 +59,9 @@ for last, n, alone, sealed_, close, entry, both in (
         (sealed(h + ENTRY + b"\x01\x01"), READ + MISMATCH + 3 * EOF, entry),
         (sealed(h) + CLOSE, MISMATCH + 3 * EOF, both),
     ):
-        LISTS.append(("events " + data.hex(), said(n) + ours, said(n) + (ours if theirs is None else theirs)))
+        # the sum of entries, end and trailer passes 32 bits as soon as the list's head is read
+        checked = PANIC if n > 0xFFFFFFFD else said(n) + ours
+        LISTS.append(("events " + data.hex(), said(n) + ours, said(n) + (ours if theirs is None else theirs), checked))
 
 CRC_WRONG = "close tid=x group=0 abort=0 sig=- | err CrcMismatch" + 3 * EOF
 FOLLOWED = [
@@ -87,8 +91,8 @@ FOLLOWED = [
     ("leaf oct 01", "x left 0"),
     ("leaf value 01", "oct: left 0"),
 ]
-ROWS, faults = NOISE + LISTS + [(c, a, a) for c, a in FOLLOWED], 0
-GIVEN = "\n".join(c for c, _, _ in ROWS).encode()
+ROWS, faults = NOISE + LISTS + [(c, a, a, a) for c, a in FOLLOWED], 0
+GIVEN = "\n".join(row[0] for row in ROWS).encode()
 
 
 def held(name, words, column):
@@ -103,12 +107,13 @@ def held(name, words, column):
 if subprocess.run(["rt", "check", "smlreplay"], capture_output=True).returncode != 0:
     sys.exit("test_beyond: smlreplay is not proved")
 held("smlreplay", program("smlreplay"), 1)
-built = subprocess.run(["sh", "oracle/build"]).returncode
-if built == 0:
-    held("the crate", ["target/oracle/oracle"], 2)
-elif built == 3:
-    print("test_beyond: the crate's own answers skipped")
-else:
-    faults += 1
-print(f"{len(ROWS)} inputs of docs/DIFFERENCES.md, {sum(a != b for _, a, b in ROWS)} of them answered differently by the crate; {faults} faults")
+for checks, name, column in ("0", "oracle", 2), ("1", "checked", 3):
+    built = subprocess.run(["sh", "oracle/build"], env={**os.environ, "CHECKED": checks}).returncode
+    if built == 0:
+        held("the crate, " + name, ["target/oracle/" + name], column)
+    elif built == 3:
+        print(f"test_beyond: the crate's own answers ({name}) skipped")
+    else:
+        faults += 1
+print(f"{len(ROWS)} inputs of docs/DIFFERENCES.md, {sum(r[1] != r[2] for r in ROWS)} of them answered differently by the crate, {sum(r[3] == PANIC for r in ROWS)} with a panic where it checks for overflow; {faults} faults")
 sys.exit(1 if faults else 0)
