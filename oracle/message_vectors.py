@@ -1,7 +1,7 @@
 """message_vectors.py: prints the fixed commands over messages. vectors.py puts them, with their answers, behind its own lines in crates/smlreplay/stdin and stdout; message_vectors.py append does that alone.
 
 The answers are the crate's (target/oracle/oracle, made by oracle/build). The crate has no places: what `places` answers is its answer to `events` with document 01's number behind each
-error, and its place. Both are those of places.py, a reader by document 01's tables, and the number must be the crate's; where one field is bent they are also written here beside the input.
+error, and its place. Both are those of places.py, a reader of its own, and the number must be the crate's; where one field is bent they are also written here beside the input.
 A second `append` replaces what the first one put there.
 """
 import os, subprocess, sys

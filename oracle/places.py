@@ -1,4 +1,5 @@
-"""The number and the place of a message input's first refusal, by document 01's tables: written without a look at the proved code, since the crate has no places.
+"""The number and the place of a message input's first refusal, for the vectors: the crate has no places. A reader of its own, apart from the proved code: it follows document 01's length and message rules and,
+where these are widened to it, the crate's common.rs (a bare time, a list value). So the numbers are no second opinion on the crate, which they must equal; the places are on ours.
 
 10 stands at the input's length; 11, 12 and 13 at the element's first length byte, of a 13 the tag's; 14 at the CRC's; 15 at the end byte.
 """
