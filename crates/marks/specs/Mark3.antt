@@ -20,7 +20,7 @@ pub record Job : Type 0 where
   pub payload : List ℕ
   pub output : List ℕ
 
--- padded length plus 4 is at most the capacity, and the output takes the frame
+-- padded length plus 4 is at most the capacity, and the output takes the frame, so that encode is not refused with 2; nor with 1, for a capacity is at most 1,048,576
 abbrev pub Suits : Setup → Job → Type 0
 Suits C j =
     (length (j .payload) + missing (length (j .payload)) + 4 ≤ C .capacity)
