@@ -5,7 +5,7 @@ use Prim.Native.Nat.{ℕ, suc}
 use Rattle.encoder.specs.Encode.{encodeTo, length-is, leaves}
 use Rattle.encoder.specs.Encode as E
 use Rattle.encoder.specs.Encoder.{finished}
-use Rattle.decoder.specs.Record.{Answer, nothing, payload, count, refused}
+use Rattle.decoder.specs.Record.{Answer, nothing, payload, count, refused, payloadRecord}
 use Rattle.decoder.specs.Run.{Op, push, finalize, reset}
 use Rattle.decoder.specs.declared.Decoder.{Decoder}
 use Rattle.streaming.specs.Next.{Said, event, starts, entry, ends, noEvent, failed}
@@ -16,13 +16,13 @@ use Rattle.marks.specs.Encoders.{Caller, SameBytes}
 use Rattle.marks.specs.Events.{Reader, Numbers, ourReader, ReaderGives, ListsEntries}
 use Rattle.marks.specs.Bench.{Holds, b1, b2, b3, b6}
 
--- ours, but for what it answers
+-- ours, but for what it answers; what it hands back is by the definition that payload's contract cites
 abbrev pub retold : (Answer → Answer) → Machine Decoder
 retold f =
     record {
       new = ours .new;
       act = λ d m o. record { answer = f (ours .act d m o .answer); decoder = ours .act d m o .decoder; memory = ours .act d m o .memory };
-      payloadOf = ours .payloadOf;
+      payloadOf = payloadRecord;
     }
 
 -- refuses everything, as if every record were a bad one (4)

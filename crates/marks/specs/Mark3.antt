@@ -11,9 +11,13 @@ use Rattle.decoder.specs.Record.{Answer, nothing, refused}
 use Rattle.decoder.specs.Run.{Op, push}
 use Rattle.marks.specs.Decoders.{Machine, answers, countSince, frameSays}
 
--- an encode: of a payload and the output that is lent, its answer and what it leaves in the output. Ours is encodeTo, which encode's contract cites
+-- an encode: of a payload and the output that is lent, its answer and what it leaves in the output
 abbrev pub Encode : Type 0
 Encode = List ℕ → List ℕ → Leaves
+
+-- ours, by the definition that the contract of encode cites
+abbrev pub ourEncode : Encode
+ourEncode = E.encodeTo
 
 -- a payload to be encoded, and the output for it
 pub record Job : Type 0 where
