@@ -1,4 +1,4 @@
-"""Each must-fail edit is told in docs/WRONG-READINGS.md in three lines and named in docs/STATEMENTS.md, and the prover refused it at a fact and not at a shape."""
+"""Each must-fail edit is told in docs/WRONG-READINGS.md in three lines and named in docs/STATEMENTS.md, and the prover refused it at a fact and not at a shape: where the edits were tried (target/must-fail), each has its log."""
 import glob, os, re, sys
 
 os.chdir(os.path.join(os.path.dirname(os.path.abspath(__file__)), ".."))
@@ -31,6 +31,8 @@ for edit in sorted(glob.glob("crates/*/must-fail/*.edit")):
 for name in re.findall(r"^### (\w+)$", told, re.M):
     if name not in labels:
         bad.append(f"{name}: told in docs/WRONG-READINGS.md, and no edit has that name")
+if os.path.isdir("target/must-fail") and logs < len(labels):
+    bad.append(f"target/must-fail has {logs} logs, and there are {len(labels)} edits")
 print("\n".join(bad))
 print(f"{len(labels)} edits, {logs} logs read, {len(bad)} faults")
 sys.exit(1 if bad or not labels else 0)

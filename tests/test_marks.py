@@ -1,6 +1,7 @@
 """The marks, run: random histories of a decoder, then capacity + 5 zero bytes, then frames, through the built program smlreplay; what it answers is judged here by document 01's words, without the decoder's rules.
 
-Mark 1: a command is answered alike whatever the program did before it. Mark 2: a payload comes only at the last byte of a sound frame for it. Mark 3: behind the zero bytes one DiscardedBytes at the first frame's eighth
+Mark 1: a command is answered alike whatever the program did before it. Mark 2: a payload comes only at the last byte of a sound frame for it; and a new decoder, noise, then any sound frame: with room
+for its data and 4, DiscardedBytes at the eighth byte for the noise and the payload at the last; with one less, 3 is the first event behind the eighth. Mark 3: behind the zero bytes one DiscardedBytes at the first frame's eighth
 byte, with the count of the bytes before that frame, each payload at its own last byte, and nothing else. Events, on random messages, whole and bent: a list start with n is followed by n entries and the end, or by a refusal."""
 import os, random, re, subprocess, sys
 
@@ -8,9 +9,9 @@ os.chdir(os.path.join(os.path.dirname(os.path.abspath(__file__)), ".."))
 sys.path.insert(0, "oracle")
 sys.dont_write_bytecode = True
 from generate import commands
-from sml import ESCAPE, START, crc, escaped, frame, hexed, program
+from sml import ESCAPE, START, closed, crc, escaped, frame, hexed, program
 
-COUNT, MESSAGES = 800, 1000
+COUNT, FRAMES, MESSAGES = 800, 400, 1000
 CAPACITIES = list(range(18)) + [20, 23, 24, 31, 32, 40, 63, 64, 100, 128, 255, 256, 300, 512, 1000, 1024, 2048, 4095, 4096]
 SPECIAL = [0x1B, 0x1B, 0x1B, 0x1A, 0x01, 0x00]
 
@@ -132,6 +133,28 @@ def history(seed):
     return command(capacity, ops + [frame(p) for p in payloads]), ops, payloads
 
 
+def sound_frame(seed):
+    """Noise that leaves nothing matched, a sound frame with pads of any value, its payload, and the length of its data."""
+    r = random.Random(seed)
+    noise = r.choice([b"", some_bytes(r, r.randrange(30)) + b"\0"])
+    data = some_bytes(r, 4 * r.choice([0, 1, 2, r.randrange(30), r.randrange(200)]))
+    pads = r.randrange(min(3, len(data)) + 1)
+    return noise.replace(START, b""), closed(START + escaped(data), pads), data[: len(data) - pads], len(data)
+
+
+def not_complete(noise, f, payload, roomy, tight):
+    """What the answers with just enough room, and with one byte less, should be and are not, or None."""
+    eighth, last = len(noise) + 8, len(noise) + len(f)
+    start = {eighth: "discarded %d" % len(noise)} if noise else {}
+    if heard(roomy) != {**start, last: ("payload " + payload.hex()) if payload else "payload"}:
+        return "mark 2, a sound frame that fits is not handed out"
+    said = heard(tight)
+    behind = min((n for n in said if n > eighth), default=None)
+    if {n: a for n, a in said.items() if n <= eighth} != start or said.get(behind) != "memory":
+        return "mark 2, a sound frame that does not fit is not refused with 3 first"
+    return None
+
+
 def lists_whole(line):
     """Is each list start of an answer to `events` followed by its entries and end, or a refusal?"""
     said = line.split(" | ")
@@ -160,7 +183,9 @@ def main():
     pushes = [c for c, _, _ in tried]
     encodes = [("encode " + hexed(p), frame(p).hex()) for _, _, payloads in tried for p in payloads]
     messages = [c for c in commands(11, MESSAGES, "messages") if re.fullmatch("events [0-9a-f]+", c)]
-    lines = answers(pushes + pushes[::-1] + [c for c, _ in encodes] + messages)
+    frames = [sound_frame(seed) for seed in range(FRAMES)]
+    tries = [command(n + room, [o for o in (noise, f) if o]) for noise, f, _, n in frames for room in (4, 3)]
+    lines = answers(pushes + pushes[::-1] + [c for c, _ in encodes] + messages + tries)
     bad, payloads_heard, lists = [], 0, 0
     for seed, (c, ops, payloads) in enumerate(tried):
         said = heard(lines[seed])
@@ -180,9 +205,14 @@ def main():
         lists += sum(s.startswith("list ") for s in line.split(" | "))
         if not lists_whole(line):
             bad.append(("a list without its entries", c, line))
+    behind = lines[len(lines) - len(tries):]
+    for k, (noise, f, payload, _) in enumerate(frames):
+        what = not_complete(noise, f, payload, behind[2 * k], behind[2 * k + 1])
+        if what:
+            bad.append((what, tries[2 * k], behind[2 * k] + " / " + behind[2 * k + 1]))
     for what, c, line in bad[:5]:
         print(f"test_marks: {what}: {c[:300]} answers {line[:300]}")
-    print(f"test_marks: {COUNT} histories, {payloads_heard} payloads, {len(encodes)} of them behind the zero bytes; {len(messages)} message inputs, {lists} list starts; {len(bad)} faults")
+    print(f"test_marks: {COUNT} histories, {payloads_heard} payloads, {len(encodes)} of them behind the zero bytes; {FRAMES} sound frames with and without room; {len(messages)} message inputs, {lists} list starts; {len(bad)} faults")
     return 1 if bad else 0
 
 

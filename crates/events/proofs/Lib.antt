@@ -3,6 +3,7 @@ pub mod Calls
 pub mod Places
 pub mod Lists
 pub mod Whole
+pub mod Refuses
 pub mod Gets
 pub mod Meaning
 pub mod Parts

@@ -12,8 +12,9 @@ use Rattle.decoder.specs.Push.{searching, store, same, finish, judge, step, fin
 use Rattle.decoder.specs.Record.{wrote, badState, wrongBuffer, pushed, pushRecord, finalizeRecord}
 use Rattle.decoder.specs.Run.{act}
 use Rattle.marks.specs.Decoders.{ours, answers}
+use Rattle.marks.specs.Mark3.{ourEncode}
 use Rattle.marks.specs.Bench.{saidFrom, Bench}
 
-pub bench : Bench ours encodeTo
+pub bench : Bench ours ourEncode
 unfolding reflect polynomial bitStep bitSteps byteStep register finalXor crcOf escaped closed frameOf encodeTo then guard need byteAt spanAt tlfAt lengthFrom lessOwn number bytesAt rawFrom rawAt unsignedAt signedOf signedAt octetsAt absentAt optional searching store same finish judge step finalized wrote badState wrongBuffer pushed pushRecord finalizeRecord act answers saidFrom
 bench = refl

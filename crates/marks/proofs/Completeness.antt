@@ -4,20 +4,21 @@ use mathlib.Core.Bool.{Bool, true, false, cond}
 use mathlib.Core.List.{List, [], _∷_, _++_, append-nil, map}
 use Prim.Native.Nat.{ℕ, suc, _+_, _≤_, _<_}
 use native.Mathlib.Omega.{arith}
-use lib.ListN.{length, replicate}
+use lib.ListN.{length, take, replicate}
 use lib.Dec.{eqb, leb}
 use borrow.Author.Tests.{le-leb}
-use Rattle.frame.specs.Frame.{Sound, startSeq}
+use Rattle.frame.specs.Frame.{Sound, startSeq, closed, framed}
 use Rattle.frame.proofs.Cases.{by-le}
 use Rattle.decoder.specs.Push.{Setup, Mem, State, search, body, escape, done, silent, discarded, memory, Out, says, put, store, step, begun, noticed, fresh}
-use Rattle.decoder.specs.Record.{Answer, nothing, refused, numbered, viewAs, view, newRecord}
+use Rattle.decoder.specs.Record.{Answer, nothing, refused, numbered, setup, viewAs, view, newRecord}
 use Rattle.decoder.specs.Run as R
 use Rattle.decoder.specs.Run.{Op, runState, actState, answerState}
 use Rattle.decoder.specs.declared.DecodeState.{DecodeState}
+use Rattle.decoder.specs.declared.Decoder.{Decoder}
 use Rattle.decoder.proofs.Faithful.{Fit}
-use Rattle.decoder.proofs.Runs.{run-is, new-fit}
-use Rattle.marks.specs.Decoders.{ours, answers, frameSays}
-use Rattle.marks.specs.Mark2.{eighth, NoRoom, Completeness, OurSearch}
+use Rattle.decoder.proofs.Runs.{run-is, acts, new-fit}
+use Rattle.marks.specs.Decoders.{Gave, ours, answers, behind, frameSays}
+use Rattle.marks.specs.Mark2.{eighth, NoRoom, Completeness, Unmatched, searching, behindPayload, OurSearch}
 use Rattle.marks.proofs.Rules.{Silent, stop, push}
 use Rattle.marks.proofs.RoundTrip.{framed-runs, sound-decodes, begun-run}
 use Rattle.marks.proofs.Recovery.{answers-run}
@@ -109,18 +110,62 @@ module _ (C : Setup) (noise raw : ℕ) (frame P : List ℕ) (s : Sound frame P) 
       let r = framed-runs B (s .D) (s .p) (s .aligned) (s .small) (s .within) (omega arith) in
       lacks-at (r .l) (r .z) (s .whole ∙ r .shape) (stops C B (r .z) (omega arith) (r .ends .quietly) (r .ends .full C small))
 
+-- a sound frame behind a payload is as if from fresh
+framed-done : (C : Setup) (Q D : List ℕ) (p : ℕ) → runState C (done Q) (map R.push (framed D p)) ≡ runState C fresh (map R.push (framed D p))
+unfolding framed closed runState actState answerState step
+framed-done C Q D p = refl
+
+-- what the pushes answer is what they answer from a search, with some raw length
+record From (C : Setup) (noise : ℕ) (l : List ℕ) (heard : List Answer) : Type 0 where
+  raw : ℕ
+  is : heard ≡ runState C (search 0 noise raw) (map R.push l)
+
+from : (C : Setup) (d : Decoder) (m : List ℕ) (noise : ℕ) {frame P : List ℕ} → Sound frame P → Unmatched (d .state) noise → From C noise frame (runState C (view d m) (map R.push frame))
+from C d m noise {frame = frame} s (searching e) =
+    record { raw = d .«raw_msg_len»; is = ap (λ (x : DecodeState). runState C (viewAs x d m) (map R.push frame)) e }
+from C d m noise {frame = frame} s (behindPayload e z) =
+    record {
+      raw = 0;
+      is = ap (λ (x : DecodeState). runState C (viewAs x d m) (map R.push frame)) e
+          ∙ ap (λ (f : List ℕ). runState C (done (take (d .fill) m)) (map R.push f)) (s .whole)
+          ∙ framed-done C (take (d .fill) m) (s .D) (s .p)
+          ∙ ap (λ (f : List ℕ). runState C fresh (map R.push f)) (sym (s .whole))
+          ∙ ap (λ (k : ℕ). runState C (search 0 k 0) (map R.push frame)) (sym z);
+    }
+
 pub completeness : Completeness ours OurSearch
 completeness C d m noise h frame P s =
-    let v : view d m ≡ search 0 noise (d .«raw_msg_len») = ap (λ (x : DecodeState). viewAs x d m) (h .searches) in
+    let t = from C d m noise s (h .searches) in
     let f : Fit d m = record { state = h .good; buffer = h .lent } in
-    let e : answers ours d m (map R.push frame) ≡ runState C (search 0 noise (d .«raw_msg_len»)) (map R.push frame) =
-    answers-run (map R.push frame) d m ∙ run-is (map R.push frame) d m f ∙ rw (h .setup′, v) in (
-      λ room. e ∙ fits C noise (d .«raw_msg_len») frame P s room,
-      λ small. rw e (lacks C noise (d .«raw_msg_len») frame P s small),
+    let e : answers ours d m (map R.push frame) ≡ runState C (search 0 noise (t .raw)) (map R.push frame) =
+    answers-run (map R.push frame) d m ∙ run-is (map R.push frame) d m f ∙ ap (λ (x : Setup). runState x (view d m) (map R.push frame)) (h .setup′) ∙ t .is in (
+      λ room. e ∙ fits C noise (t .raw) frame P s room,
+      λ small. rw e (lacks C noise (t .raw) frame P s small),
     )
 
 -- a new decoder is such a search
 pub new-searches : (C : Setup) (m : List ℕ) → length m ≡ C .capacity → C .capacity ≤ 1048576 → OurSearch C (newRecord (C .capacity)) m 0
 new-searches C m l le =
     let f = new-fit (C .capacity) m l le in
-    record { searches = refl; good = f .state; lent = f .buffer; setup′ = refl }
+    record { searches = searching refl; good = f .state; lent = f .buffer; setup′ = refl }
+
+-- and so is what operations leave, wherever nothing is matched
+act-searches : (C : Setup) (d : Decoder) (m : List ℕ) (o : Op) (noise : ℕ) → Fit d m → setup d ≡ C
+    → Unmatched (R.act d m o .decoder .state) noise → OurSearch C (R.act d m o .decoder) (R.act d m o .memory) noise
+act-searches C d m o noise f e u =
+    let a = acts d m o f in
+    record { searches = u; good = a .fit .state; lent = a .fit .buffer; setup′ = a .setup′ ∙ e }
+
+behind-searches : (C : Setup) (os : List Op) (d : Decoder) (m : List ℕ) (o : Op) (noise : ℕ) → Fit d m → setup d ≡ C
+    → let a : Gave Decoder = behind ours d m os o in
+    Unmatched (a .decoder .state) noise → OurSearch C (a .decoder) (a .memory) noise
+unfolding behind
+behind-searches C [] d m o noise f e u = act-searches C d m o noise f e u
+behind-searches C (p ∷ os) d m o noise f e u =
+    let a = acts d m p f in
+    behind-searches C os (R.act d m p .decoder) (R.act d m p .memory) o noise (a .fit) (a .setup′ ∙ e) u
+
+pub reached-searches : (C : Setup) (m : List ℕ) → length m ≡ C .capacity → C .capacity ≤ 1048576 → (os : List Op) (o : Op) (noise : ℕ)
+    → let a : Gave Decoder = behind ours (ours .new C) m os o in
+    Unmatched (a .decoder .state) noise → OurSearch C (a .decoder) (a .memory) noise
+reached-searches C m l le os o noise u = behind-searches C os (newRecord (C .capacity)) m o noise (new-fit (C .capacity) m l le) refl u

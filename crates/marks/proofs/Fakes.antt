@@ -29,7 +29,7 @@ use Rattle.marks.specs.Decoders.{answers, behind, countFrom, ours}
 use Rattle.marks.specs.Mark2.{PushesBytes, Soundness, Completeness, OurSearch}
 use Rattle.marks.specs.Mark3.{Job, framesFor, restSays, Mark3, Suits}
 use Rattle.marks.specs.Encoders.{calls, SameBytes}
-use Rattle.marks.specs.Bench.{Outcome, encoded, events, field, string, signed, unsigned, saidFrom, Holds, payload1, frame1, b1, b3, b6}
+use Rattle.marks.specs.Bench.{Outcome, encoded, events, field, string, signed, unsigned, saidFrom, Holds, payload1, frame1, b1, b2, b3, b6}
 use Rattle.marks.specs.Events as Ev
 use Rattle.marks.specs.Events.{saysAt, ReaderGives, Follows, ListsEntries}
 use Rattle.marks.specs.Fakes.{refuses, constant, idle, invents, once, writesNothing, refusesToEncode, finishedAtOnce, silent, noEntries, Fall}
@@ -87,6 +87,10 @@ refuses-b3 h = let z : _≡_ {A = ℕ} 3000 1018 = ap codeOf h in omega arith
 refuses-b1 : Holds ours refusesToEncode b1 → ⊥
 unfolding codeOf
 refuses-b1 h = let z : _≡_ {A = ℕ} 0xff 0x1b = ap codeOf h in omega arith
+
+refuses-b2 : Holds ours refusesToEncode b2 → ⊥
+unfolding codeOf
+refuses-b2 h = let z : _≡_ {A = ℕ} 0xff 0x1b = ap codeOf h in omega arith
 
 writes-nothing-b1 : Holds ours writesNothing b1 → ⊥
 unfolding codeOf
@@ -226,6 +230,7 @@ fall =
       refuses-b3 = refuses-b3;
       refuses-mark3 = refuses-mark3;
       refuses-b1 = refuses-b1;
+      refuses-b2 = refuses-b2;
       constant-mark2 = constant-mark2;
       constant-mark3 = constant-mark3;
       idle-mark2 = idle-mark2;

@@ -2,7 +2,7 @@
 use Rattle.marks.specs.Marks.{Marks}
 use Rattle.marks.proofs.Decided.{views, decided}
 use Rattle.marks.proofs.Soundness.{soundness}
-use Rattle.marks.proofs.Completeness.{completeness, new-searches}
+use Rattle.marks.proofs.Completeness.{completeness, new-searches, reached-searches}
 use Rattle.marks.proofs.Encoders.{same-bytes}
 use Rattle.marks.proofs.Recovery.{mark3}
 use Rattle.marks.proofs.Events.{reader-gives, parser-gives, reader-lists, parser-lists}
@@ -17,6 +17,7 @@ marks =
       soundness = soundness;
       completeness = completeness;
       new-searches = new-searches;
+      reached-searches = reached-searches;
       same-bytes = same-bytes;
       mark3 = mark3;
       reader-gives = reader-gives;

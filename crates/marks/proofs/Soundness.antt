@@ -472,6 +472,9 @@ payload-back : (d : Decoder) (m P : List ℕ) → Fit d m → view d m ≡ done 
 unfolding payloadRecord hasPayload
 payload-back d m P f e = rw (f .state, f .buffer, ap stands e) (first-bytes (d .state) d m P e)
 
+hands-back : (d : Decoder) (m P : List ℕ) → Fit d m → view d m ≡ done P → ours .payloadOf d m ≡ P
+hands-back d m P f e = payload-back d m P f e
+
 plain-final : (s : State) → Plain (finalized s)
 unfolding finalized
 plain-final (search n noise raw) = by-eq Plain n 0 _ _ (λ e. by-eq Plain noise 0 _ _ (λ f. tt) (λ f. tt)) (λ e. tt)
@@ -506,18 +509,18 @@ module _ (C : Setup) (m : List ℕ) (l : length m ≡ C .capacity) (le : C .capa
 
   -- the answer is a payload, so the push gave it
   handed : (b : ℕ) → PushesBytes (os ++ push b ∷ []) → act (x .decoder) (x .memory) (push b) .answer ≡ payload P
-      → EndsFrame h (push b) P × (payloadRecord (act (x .decoder) (x .memory) (push b) .decoder) (act (x .decoder) (x .memory) (push b) .memory) ≡ P)
+      → EndsFrame h (push b) P × (ours .payloadOf (act (x .decoder) (x .memory) (push b) .decoder) (act (x .decoder) (x .memory) (push b) .memory) ≡ P)
   unfolding answerState actState
   handed b bytes e =
       let g : (step C s b) .event ≡ got P = got-back _ P (sym (answer-is (push b)) ∙ e) in
       let a = acts (x .decoder) (x .memory) (push b) (there .fit) in
       let t : EndsSound (h ++ b ∷ []) P = kept C h b s (known-behind C os [] fresh known-fresh) .sound (bytes-behind C os [] fresh b tt bytes) P g in (
         record { last = b; pushes = refl; before = t .pre; frame = t .f; ends = t .here; sound = t .sound },
-        payload-back _ _ P (a .fit) (a .view′ ∙ rw (there .setup′, there .view′) (got-done C s b P g)),
+        hands-back _ _ P (a .fit) (a .view′ ∙ rw (there .setup′, there .view′) (got-done C s b P g)),
       )
 
   only-push : (o : Op) → PushesBytes (os ++ o ∷ []) → act (x .decoder) (x .memory) o .answer ≡ payload P
-      → EndsFrame h o P × (payloadRecord (act (x .decoder) (x .memory) o .decoder) (act (x .decoder) (x .memory) o .memory) ≡ P)
+      → EndsFrame h o P × (ours .payloadOf (act (x .decoder) (x .memory) o .decoder) (act (x .decoder) (x .memory) o .memory) ≡ P)
   unfolding answerState
   only-push (push b) bytes e = handed b bytes e
   only-push finalize bytes e = absurd (never-final s P (sym (answer-is finalize) ∙ e))

@@ -15,6 +15,7 @@ use Rattle.num.specs.Numbers.{unsignedAt, signedAt}
 use Rattle.octet_string.specs.Strings.{octetsAt}
 use Rattle.octet_string.specs.Optional.{optional}
 use Rattle.encoder.specs.Encode.{Leaves, leaves, length-is}
+use Rattle.decoder.specs.Push.{Setup}
 use Rattle.decoder.specs.Record.{Answer, nothing, payload, count, refused}
 use Rattle.decoder.specs.Run.{push, finalize}
 use Rattle.marks.specs.Decoders.{Machine, answers}
@@ -22,19 +23,21 @@ use Rattle.marks.specs.Mark3.{Encode}
 
 -- ---- what is tried, and what comes out
 
+-- what a row tries
 pub data Input : Type 0 where
   encode : List ℕ → ℕ → Input  -- a payload, and the length of an output of bytes ff
-  decode : ℕ → List ℕ → Input  -- the capacity of a new decoder with a buffer of bytes 00; bytes to push, and then finalize
+  decode : Setup → List ℕ → Input  -- a new decoder, with a buffer of bytes 00; bytes to push, and then finalize
   lengthField : List ℕ → Input  -- what stands at the first of these bytes: type and length
   optionalString : List ℕ → Input  -- an octet string that may be absent
-  asI32 : List ℕ → Input
-  asU8 : List ℕ → Input
+  asI32 : List ℕ → Input  -- a number of at most four bytes, signed
+  asU8 : List ℕ → Input  -- a number of one byte, unsigned
 
 -- the number of an operation, the first being 1, and its answer
 pub record Said : Type 0 where
   pub at : ℕ
   pub answer : Answer
 
+-- what comes of it; the last four are what the definitions of crates tlf, octet_string and num find
 pub data Outcome : Type 0 where
   encoded : Leaves → Outcome  -- encode's answer, and the output
   events : List Said → Outcome  -- all answers but `nothing`
@@ -43,6 +46,7 @@ pub data Outcome : Type 0 where
   signed : Read ℤ → Outcome
   unsigned : Read ℕ → Outcome
 
+-- operation n answers a
 abbrev pub said : ℕ → Answer → Said
 said n a = record { at = n; answer = a }
 
@@ -57,7 +61,7 @@ saidFrom n (refused k values ∷ more) = said n (refused k values) ∷ saidFrom 
 -- what comes out of a decoder, an encode and the definitions of the length and number rules
 abbrev pub outcome : {S : Type 0} → Machine S → Encode → Input → Outcome
 outcome M enc (encode P n) = encoded (enc P (replicate n 0xff))
-outcome M enc (decode C bytes) = events (saidFrom 1 (answers M (M .new (record { capacity = C })) (replicate C 0x00) (map push bytes ++ finalize ∷ [])))
+outcome M enc (decode C bytes) = events (saidFrom 1 (answers M (M .new C) (replicate (C .capacity) 0x00) (map push bytes ++ finalize ∷ [])))
 outcome M enc (lengthField bytes) = field (tlfAt bytes 0)
 outcome M enc (optionalString bytes) = string (optional octetsAt bytes 0)
 outcome M enc (asI32 bytes) = signed (signedAt 4 bytes 0)
@@ -65,14 +69,21 @@ outcome M enc (asU8 bytes) = unsigned (unsignedAt 1 bytes 0)
 
 -- ---- the sheet
 
+-- a row of the sheet: what is tried, and what document 01 expects
 pub record Row : Type 0 where
   pub number : ℕ  -- of document 01's B1 to B14
   pub input : Input
   pub expected : Outcome
 
+-- the row of this number, input and outcome
 abbrev pub row : ℕ → Input → Outcome → Row
 row n i e = record { number = n; input = i; expected = e }
 
+-- a decoder of this capacity
+abbrev pub holding : ℕ → Setup
+holding n = record { capacity = n }
+
+-- B1's payload
 abbrev pub payload1 : List ℕ
 payload1 = 0x12 ∷ 0x34 ∷ 0x56 ∷ 0x78 ∷ []
 
@@ -84,6 +95,7 @@ frame1 = 0x1b ∷ 0x1b ∷ 0x1b ∷ 0x1b ∷ 0x01 ∷ 0x01 ∷ 0x01 ∷ 0x01 ∷
 abbrev pub spoilt1 : List ℕ
 spoilt1 = 0x1b ∷ 0x1b ∷ 0x1b ∷ 0x1b ∷ 0x01 ∷ 0x01 ∷ 0x01 ∷ 0x01 ∷ 0x12 ∷ 0x34 ∷ 0x56 ∷ 0x78 ∷ 0x1b ∷ 0x1b ∷ 0x1b ∷ 0x1b ∷ 0x1a ∷ 0x00 ∷ 0xb8 ∷ 0x7a ∷ []
 
+-- B2's frame
 abbrev pub frame2 : List ℕ
 frame2 = 0x1b ∷ 0x1b ∷ 0x1b ∷ 0x1b ∷ 0x01 ∷ 0x01 ∷ 0x01 ∷ 0x01 ∷ 0x13 ∷ 0x24 ∷ 0x35 ∷ 0x46 ∷ 0x1b ∷ 0x1b ∷ 0x1b ∷ 0x1b ∷ 0x1a ∷ 0x00 ∷ 0xb1 ∷ 0xa1 ∷ []
 
@@ -103,27 +115,33 @@ stringOf n next = field (got (record { ty = OctetString; len = n }) next)
 abbrev pub refusedAs : ℕ → ℕ → ℕ → Refusal
 refusedAs number kind place = record { number = number; kind = kind; place = place }
 
+-- the rows that the fakes fall at, by name: B3, the payload at byte 20
 abbrev pub b3 : Row
-b3 = row 3 (decode 8 frame1) (events (said 20 (payload payload1) ∷ []))
+b3 = row 3 (decode (holding 8) frame1) (events (said 20 (payload payload1) ∷ []))
 
+-- one byte of noise, then the payload
 abbrev pub b6 : Row
-b6 = row 6 (decode 8 (0x00 ∷ frame1)) (events (said 9 (refused 6 (1 ∷ [])) ∷ said 21 (payload payload1) ∷ []))
+b6 = row 6 (decode (holding 8) (0x00 ∷ frame1)) (events (said 9 (refused 6 (1 ∷ [])) ∷ said 21 (payload payload1) ∷ []))
 
+-- two payloads encoded into an output of 20 bytes
 abbrev pub b1 : Row
 b1 = row 1 (encode payload1 20) (encoded (leaves (length-is 20) frame1))
 
--- DiscardedBytes is 6, InvalidEsc 7, InvalidMessage 8: read CRC, computed CRC, aligned (0), p
+abbrev pub b2 : Row
+b2 = row 2 (encode (0x13 ∷ 0x24 ∷ 0x35 ∷ 0x46 ∷ []) 20) (encoded (leaves (length-is 20) frame2))
+
+-- The sheet, B1 to B14 in order. OutOfMemory is 3, DiscardedBytes is 6, InvalidEsc 7, InvalidMessage 8: read CRC, computed CRC, aligned (0), p
 abbrev pub sheet : List Row
 sheet =
     b1
-    ∷ row 2 (encode (0x13 ∷ 0x24 ∷ 0x35 ∷ 0x46 ∷ []) 20) (encoded (leaves (length-is 20) frame2))
+    ∷ b2
     ∷ b3
-    ∷ row 4 (decode 7 frame1) (events (said 20 (refused 3 []) ∷ []))
-    ∷ row 5 (decode 8 (0x1b ∷ frame1)) (events (said 22 (refused 6 (21 ∷ [])) ∷ []))
+    ∷ row 4 (decode (holding 7) frame1) (events (said 20 (refused 3 []) ∷ []))
+    ∷ row 5 (decode (holding 8) (0x1b ∷ frame1)) (events (said 22 (refused 6 (21 ∷ [])) ∷ []))
     ∷ b6
-    ∷ row 7 (decode 8 twoStarts) (events (said 18 (refused 6 (10 ∷ [])) ∷ said 30 (payload payload1) ∷ []))
-    ∷ row 8 (decode 8 wrongEscape) (events (said 16 (refused 7 (0x02 ∷ 0x00 ∷ 0x00 ∷ 0x00 ∷ [])) ∷ []))
-    ∷ row 9 (decode 8 spoilt1) (events (said 20 (refused 8 (0x7ab8 ∷ 0x7bb8 ∷ 0 ∷ 0 ∷ [])) ∷ []))
+    ∷ row 7 (decode (holding 8) twoStarts) (events (said 18 (refused 6 (10 ∷ [])) ∷ said 30 (payload payload1) ∷ []))
+    ∷ row 8 (decode (holding 8) wrongEscape) (events (said 16 (refused 7 (0x02 ∷ 0x00 ∷ 0x00 ∷ 0x00 ∷ [])) ∷ []))
+    ∷ row 9 (decode (holding 8) spoilt1) (events (said 20 (refused 8 (0x7ab8 ∷ 0x7bb8 ∷ 0 ∷ 0 ∷ [])) ∷ []))
     ∷ row 10 (lengthField (0x07 ∷ [])) (stringOf 6 1)
     ∷ row 10 (lengthField (0x83 ∷ 0x02 ∷ [])) (stringOf 48 2)
     ∷ row 10 (optionalString (0x80 ∷ 0x02 ∷ [])) (string (got (some (record { start = 2; len = 0 })) 2))

@@ -174,6 +174,7 @@ pub record Decided : Type 0 where
   pub parse-bool : (input : List ℕ) (at : ℕ) → One (λ (r : BoolRead). boolRead r ≡ boolAt input at)
   -- octet_string
   pub parse-octet-str : (input : List ℕ) (at : ℕ) → One (λ (r : SpanRead). spanRead r ≡ octetsAt input at)
+  -- of the part that octet_str hands back, its bytes, not where they stand
   pub octet-str : (input : List ℕ) (span : Span) → One (λ (r : List ℕ). r ≡ partOf input span)
   pub check-span : (input : List ℕ) (span : Span) → One (λ (r : SpanCheck). spanCheck r ≡ spanRefusal input span)
   pub is-absent : (input : List ℕ) (at : ℕ) → One (λ (r : Bool). r ≡ absentAt input at)
@@ -192,6 +193,7 @@ pub record Decided : Type 0 where
   pub decoder-finalize : (self : Decoder) → One (λ (r : Finalized). leavesFinal r ≡ finalizeRecord self)
   pub reset : (self : Decoder) → One (λ (r : Resetted). leavesReset r ≡ resetRecord self)
   pub ask-payload : (self : Decoder) (buf : List ℕ) → One (λ (r : Asked). answerAsked r ≡ askRecord self buf)
+  -- of the part that payload hands back, its bytes, not where they stand
   pub payload : (self : Decoder) (buf : List ℕ) → One (λ (r : List ℕ). r ≡ payloadRecord self buf)
   -- transport: d and e are the records at the call
   pub transport-push : (d : Decoder) (buf : List ℕ) (b : ℕ) → One (λ (r : With (Beside Event Decoder)). leaves (record { decoder = r .answer .lent; event = r .answer .answer }) (r .memory) ≡ pushRecord d buf b)

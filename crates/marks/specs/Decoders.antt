@@ -24,7 +24,8 @@ pub record Machine (S : Type 0) : Type 0 where
 abbrev pub gave : After → Gave Decoder
 gave a = record { answer = a .answer; decoder = a .decoder; memory = a .memory }
 
--- ours, by the definitions that the contracts of new, push_byte, finalize, reset and payload cite; `R.act` of crate decoder takes the one that an operation names
+-- ours, by the definitions that the contracts of new, push_byte, finalize, reset and payload cite. An operation (`Op` of crate decoder) is a push of one byte, finalize or reset; `R.act` there takes the definition that it names:
+-- pushRecord, finalizeRecord or resetRecord, of which the last two leave the memory as it is
 abbrev pub ours : Machine Decoder
 ours = record { new = λ C. newRecord (C .capacity); act = λ d m o. gave (R.act d m o); payloadOf = payloadRecord }
 
@@ -46,7 +47,7 @@ behind M d m (p ∷ os) o =
 
 -- ---- what was pushed, told by the operations and their answers alone
 
--- how many bytes were pushed since the last payload, refusal, finalize or reset, with n before these operations; the list `more` has their answers
+-- how many bytes were pushed since the last payload, refusal, finalize or reset, with n before these operations; the list `more` has their answers. Each operation has one, so the second case never occurs
 unfoldable pub countFrom : ℕ → List Op → List Answer → ℕ
 countFrom n [] more = n
 countFrom n (o ∷ os) [] = n
@@ -61,7 +62,7 @@ countFrom n (reset ∷ os) (a ∷ more) = countFrom 0 os more
 abbrev pub countSince : List Op → List Answer → ℕ
 countSince os more = countFrom 0 os more
 
--- the bytes themselves since the last payload, finalize or reset, behind those in h: a refusal is passed over
+-- the bytes themselves since the last payload, finalize or reset, behind those in h: a refusal is passed over. The second case never occurs here either
 unfoldable pub bytesFrom : List ℕ → List Op → List Answer → List ℕ
 bytesFrom h [] more = h
 bytesFrom h (o ∷ os) [] = h

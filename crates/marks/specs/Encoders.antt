@@ -30,7 +30,7 @@ calls K (suc n) e payload =
     let t = K .next e payload in
     t .answer ∷ calls K n (t .encoder) payload
 
--- a payload of at most 1,048,576 bytes and an output that takes its frame: what encode wrote is the frame, and a new encoder gives these bytes, one a call, then finished at every later call
+-- a payload of at most 1,048,576 bytes (else 1) and an output that takes its frame (else encode answers 2): what encode wrote is the frame, and a new encoder gives these bytes, one a call, then finished at every later call
 abbrev pub SameBytes : {E : Type 0} → Caller E → Encode → Type 0
 SameBytes K encode =
     (j : Job) → length (j .payload) ≤ limit → length (frameOf (j .payload)) ≤ length (j .output)

@@ -5,7 +5,7 @@ use Prim.Native.Nat.{ℕ, suc}
 use Rattle.encoder.specs.Encode.{encodeTo, length-is, leaves}
 use Rattle.encoder.specs.Encode as E
 use Rattle.encoder.specs.Encoder.{finished}
-use Rattle.decoder.specs.Record.{Answer, nothing, payload, count, refused}
+use Rattle.decoder.specs.Record.{Answer, nothing, payload, count, refused, payloadRecord}
 use Rattle.decoder.specs.Run.{Op, push, finalize, reset}
 use Rattle.decoder.specs.declared.Decoder.{Decoder}
 use Rattle.streaming.specs.Next.{Said, event, starts, entry, ends, noEvent, failed}
@@ -14,41 +14,43 @@ use Rattle.marks.specs.Mark2.{Soundness, Completeness, OurSearch}
 use Rattle.marks.specs.Mark3.{Encode, Mark3}
 use Rattle.marks.specs.Encoders.{Caller, SameBytes}
 use Rattle.marks.specs.Events.{Reader, Numbers, ourReader, ReaderGives, ListsEntries}
-use Rattle.marks.specs.Bench.{Holds, b1, b3, b6}
+use Rattle.marks.specs.Bench.{Holds, b1, b2, b3, b6}
 
--- ours, but for what it answers
+-- ours, but for what it answers; what it hands back is by the definition that payload's contract cites
 abbrev pub retold : (Answer → Answer) → Machine Decoder
 retold f =
     record {
       new = ours .new;
       act = λ d m o. record { answer = f (ours .act d m o .answer); decoder = ours .act d m o .decoder; memory = ours .act d m o .memory };
-      payloadOf = ours .payloadOf;
+      payloadOf = payloadRecord;
     }
 
 -- refuses everything, as if every record were a bad one (4)
 abbrev pub refuses : Machine Decoder
 refuses = record { new = ours .new; act = λ d m o. record { answer = refused 4 []; decoder = d; memory = m }; payloadOf = λ d m. [] }
 
--- one constant payload
+-- what it answers: at each payload the one byte 2a
 abbrev pub constantly : Answer → Answer
 constantly nothing = nothing
 constantly (payload bytes) = payload (0x2a ∷ [])
 constantly (count k) = count k
 constantly (refused k values) = refused k values
 
+-- one constant payload
 abbrev pub constant : Machine Decoder
 constant = retold constantly
 
--- a push that does nothing
+-- what it gives: of a push nothing, of finalize and reset what ours does
 abbrev pub idly : Decoder → List ℕ → Op → Gave Decoder
 idly d m (push b) = record { answer = nothing; decoder = d; memory = m }
 idly d m finalize = ours .act d m finalize
 idly d m reset = ours .act d m reset
 
+-- a push that does nothing
 abbrev pub idle : Machine Decoder
 idle = record { new = ours .new; act = idly; payloadOf = ours .payloadOf }
 
--- an invented discard count
+-- what it answers: a refusal with one number, and only DiscardedBytes has one, says one more
 abbrev pub inventing : Answer → Answer
 inventing nothing = nothing
 inventing (payload bytes) = payload bytes
@@ -57,10 +59,11 @@ inventing (refused k []) = refused k []
 inventing (refused k (n ∷ [])) = refused k (suc n ∷ [])
 inventing (refused k (n ∷ more ∷ values)) = refused k (n ∷ more ∷ values)
 
+-- an invented discard count
 abbrev pub invents : Machine Decoder
 invents = retold inventing
 
--- right for the first frame, and empty afterwards: a decoder that also remembers that it gave a payload
+-- what it keeps: a decoder, and whether it gave a payload
 pub record Spent : Type 0 where
   pub decoder : Decoder
   pub spent : Bool
@@ -79,6 +82,7 @@ spends b (payload bytes) = true
 spends b (count k) = b
 spends b (refused k values) = b
 
+-- right for the first frame, and empty afterwards
 abbrev pub once : Machine Spent
 once =
     record {
@@ -89,13 +93,15 @@ once =
       payloadOf = λ d m. cond (d .spent) [] (ours .payloadOf (d .decoder) m);
     }
 
--- an encode that does nothing and says that it wrote nothing, one that refuses everything, and an Encoder that is finished at once
+-- an encode that does nothing and says that it wrote nothing
 abbrev pub writesNothing : Encode
 writesNothing P output = leaves (length-is 0) output
 
+-- an encode that refuses every payload, as if it were too long (1)
 abbrev pub refusesToEncode : Encode
 refusesToEncode P output = leaves (E.refused 1) output
 
+-- an Encoder that does nothing: finished at once; what it keeps never matters
 abbrev pub finishedAtOnce : Caller Bool
 finishedAtOnce = record { new = true; next = λ e P. record { answer = finished; encoder = e } }
 
@@ -112,7 +118,7 @@ resaid f =
 abbrev pub silent : Reader (List ℕ) Numbers
 silent = resaid (λ x. noEvent)
 
--- a list start and no entries
+-- what it says: no event for each entry
 abbrev pub entryless : Said → Said
 entryless (event (starts m)) = event (starts m)
 entryless (event (entry e)) = noEvent
@@ -120,6 +126,7 @@ entryless (event (ends e)) = event (ends e)
 entryless noEvent = noEvent
 entryless (failed f) = failed f
 
+-- a list start and no entries
 abbrev pub noEntries : Reader (List ℕ) Numbers
 noEntries = resaid entryless
 
@@ -128,6 +135,7 @@ pub record Fall : Type 0 where
   pub refuses-b3 : Holds refuses encodeTo b3 → ⊥
   pub refuses-mark3 : Mark3 refuses encodeTo → ⊥
   pub refuses-b1 : Holds ours refusesToEncode b1 → ⊥
+  pub refuses-b2 : Holds ours refusesToEncode b2 → ⊥
   pub constant-mark2 : Soundness constant → ⊥
   pub constant-mark3 : Mark3 constant encodeTo → ⊥
   pub idle-mark2 : Completeness idle OurSearch → ⊥

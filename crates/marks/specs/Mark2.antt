@@ -9,13 +9,14 @@ use Rattle.frame.specs.Frame.{Sound}
 use Rattle.decoder.specs.Push.{Setup}
 use Rattle.decoder.specs.Record.{Answer, nothing, payload, refused, setup, badState, wrongBuffer}
 use Rattle.decoder.specs.Run.{Op, push, finalize, reset}
-use Rattle.decoder.specs.declared.DecodeState.the-variants.{LookingForMessageStart}
+use Rattle.decoder.specs.declared.DecodeState.{DecodeState}
+use Rattle.decoder.specs.declared.DecodeState.the-variants.{LookingForMessageStart, Done}
 use Rattle.decoder.specs.declared.Decoder.{Decoder}
 use Rattle.marks.specs.Decoders.{Machine, Gave, answers, behind, bytesSince, frameSays}
 
 -- ---- soundness
 
--- what is pushed are bytes
+-- what is pushed are bytes: a push takes a u8, so every call is such
 abbrev pub PushesBytes : List Op → Type 0
 PushesBytes [] = Unit {0}
 PushesBytes (push b ∷ os) = (b < 256) × PushesBytes os
@@ -53,7 +54,7 @@ pub record NoRoom (noise : ℕ) (heard : List Answer) : Type 0 where
   pub rest : List Answer
   pub is : heard ≡ replicate 7 nothing ++ eighth noise ∷ (replicate quiet nothing ++ refused 3 [] ∷ rest)
 
--- From any search with nothing matched (`Searching C d m noise`: the decoder d, with the memory m, is one), every sound frame, pads of any value. Its data D fits where D's length plus 4 is at most the capacity: then the
+-- From any search with nothing matched (`Searching C d m noise`: the decoder d, with the memory m, is one, with this noise), every sound frame, pads of any value. Its data D fits where D's length plus 4 is at most the capacity: then the
 -- eighth byte answers for the noise, the last with the payload, and every other nothing. Where it doesn't fit, the first event behind the eighth byte is 3
 abbrev pub Completeness : {S : Type 0} → Machine S → (Setup → S → List ℕ → ℕ → Type 0) → Type 0
 Completeness {S} M Searching =
@@ -63,9 +64,14 @@ Completeness {S} M Searching =
     (length (sound .D) + 4 ≤ C .capacity → heard ≡ frameSays (eighth noise) frame P)
     × (C .capacity < length (sound .D) + 4 → NoRoom noise heard)
 
--- ours: a record in a search with nothing matched, whatever else it holds, that with this memory is refused neither with 4 nor with 5
+-- a state with nothing matched: a search, or behind a payload, where the next byte begins a search without noise
+pub data Unmatched (s : DecodeState) (noise : ℕ) : Type 0 where
+  searching : s ≡ LookingForMessageStart 0 noise → Unmatched s noise
+  behindPayload : s ≡ Done → noise ≡ 0 → Unmatched s noise
+
+-- ours: a record with nothing matched, whatever else it holds, that with this memory is refused neither with 4 nor with 5
 pub record OurSearch (C : Setup) (d : Decoder) (m : List ℕ) (noise : ℕ) : Type 0 where
-  pub searches : d .state ≡ LookingForMessageStart 0 noise
+  pub searches : Unmatched (d .state) noise
   pub good : badState d ≡ false
   pub lent : wrongBuffer (d .capacity) (length m) ≡ false
   pub setup′ : setup d ≡ C

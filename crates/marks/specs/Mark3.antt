@@ -11,16 +11,20 @@ use Rattle.decoder.specs.Record.{Answer, nothing, refused}
 use Rattle.decoder.specs.Run.{Op, push}
 use Rattle.marks.specs.Decoders.{Machine, answers, countSince, frameSays}
 
--- an encode: of a payload and the output that is lent, its answer and what it leaves in the output. Ours is encodeTo, which encode's contract cites
+-- an encode: of a payload and the output that is lent, its answer and what it leaves in the output
 abbrev pub Encode : Type 0
 Encode = List ℕ → List ℕ → Leaves
+
+-- ours, by the definition that the contract of encode cites
+abbrev pub ourEncode : Encode
+ourEncode = E.encodeTo
 
 -- a payload to be encoded, and the output for it
 pub record Job : Type 0 where
   pub payload : List ℕ
   pub output : List ℕ
 
--- padded length plus 4 is at most the capacity, and the output takes the frame
+-- padded length plus 4 is at most the capacity, and the output takes the frame, so that encode is not refused with 2; nor with 1, for a capacity is at most 1,048,576
 abbrev pub Suits : Setup → Job → Type 0
 Suits C j =
     (length (j .payload) + missing (length (j .payload)) + 4 ≤ C .capacity)

@@ -3,12 +3,13 @@ use mathlib.Core.Path.{_≡_}
 use mathlib.Core.List.{List}
 use Prim.Native.Nat.{ℕ, _≤_}
 use lib.ListN.{length}
-use Rattle.encoder.specs.Encode.{encodeTo}
 use Rattle.decoder.specs.Push.{Setup}
+use Rattle.decoder.specs.Run.{Op}
+use Rattle.decoder.specs.declared.Decoder.{Decoder}
 use Rattle.marks.specs.Decided.{Views, Decided}
-use Rattle.marks.specs.Decoders.{ours}
-use Rattle.marks.specs.Mark2.{Soundness, Completeness, OurSearch}
-use Rattle.marks.specs.Mark3.{Mark3}
+use Rattle.marks.specs.Decoders.{Gave, ours, behind}
+use Rattle.marks.specs.Mark2.{Soundness, Completeness, Unmatched, OurSearch}
+use Rattle.marks.specs.Mark3.{ourEncode, Mark3}
 use Rattle.marks.specs.Encoders.{ourEncoder, SameBytes}
 use Rattle.marks.specs.Events.{ourReader, ourParser, ReaderGives, ListsEntries}
 use Rattle.marks.specs.Bench.{Bench}
@@ -18,20 +19,23 @@ pub record Marks : Type 0 where
   -- mark 1: one outcome for each input
   pub views : Views
   pub decided : Decided
-  -- mark 2: payloads only of sound frames, and of every sound frame that fits; a new decoder is such a search
+  -- mark 2: payloads only of sound frames, and of every sound frame that fits; a new decoder is such a search, and so is what any operations with one buffer leave, wherever nothing is matched
   pub soundness : Soundness ours
   pub completeness : Completeness ours OurSearch
   pub new-searches : (C : Setup) (m : List ℕ) → length m ≡ C .capacity → C .capacity ≤ 1048576 → OurSearch C (ours .new C) m 0
+  pub reached-searches : (C : Setup) (m : List ℕ) → length m ≡ C .capacity → C .capacity ≤ 1048576 → (os : List Op) (o : Op) (noise : ℕ)
+      → let a : Gave Decoder = behind ours (ours .new C) m os o in
+      Unmatched (a .decoder .state) noise → OurSearch C (a .decoder) (a .memory) noise
   -- encode and the Encoder give the same bytes
-  pub same-bytes : SameBytes ourEncoder encodeTo
+  pub same-bytes : SameBytes ourEncoder ourEncode
   -- mark 3: behind zero bytes every frame is heard
-  pub mark3 : Mark3 ours encodeTo
+  pub mark3 : Mark3 ours ourEncode
   -- message events: those of the tables, call by call, and of a list as many entries as its start says, or a refusal
   pub reader-gives : ReaderGives ourReader
   pub parser-gives : ReaderGives ourParser
   pub reader-lists : ListsEntries ourReader
   pub parser-lists : ListsEntries ourParser
   -- B1 to B14
-  pub bench : Bench ours encodeTo
+  pub bench : Bench ours ourEncode
   -- and what they are false of
   pub fall : Fall
