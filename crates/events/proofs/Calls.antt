@@ -20,7 +20,9 @@ use Rattle.trailer.proofs.Trailer.{trailer-found}
 use Rattle.streaming.specs.Next.{Event, starts, entry, ends, Said, event, noEvent, failed, After, inputTooLong, onward, pendingOf, beginAt, trailerNext, endNext, entryNext, stepAt, nextAt}
 use Rattle.events.specs.Events.{Answers, nth, answer, says, quiet, atStart, inside, entriesFrom, contentFrom, messagesFrom, eventsOf}
 use Rattle.events.specs.Calls.{call}
-use Rattle.events.proofs.Ends.{entry-end, list-end-end, trailer-end}
+use Rattle.common.proofs.Ends.{entry-end}
+use Rattle.message.proofs.Ends.{list-end-end}
+use Rattle.trailer.proofs.Ends.{trailer-end}
 
 -- a reader whose numbers are sound
 pub record Sound (s : List ℕ) (at start pending : ℕ) : Type 0 where

@@ -1,4 +1,3 @@
-pub mod Ends
 pub mod Calls
 pub mod Places
 pub mod Lists

@@ -1,2 +1,3 @@
 pub mod Messages
 pub mod Gets
+pub mod Ends

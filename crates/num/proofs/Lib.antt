@@ -3,3 +3,4 @@ pub mod Short
 pub mod Ahead
 pub mod Gets
 pub mod Bench
+pub mod Ends

@@ -8,9 +8,10 @@ use native.Mathlib.Numerals.{unary-clauses}
 use native.Mathlib.Omega.{arith}
 use lib.ListN.{length, getD, take, drop, length-drop}
 use borrow.Author.Tests.{le-leb}
-use Rattle.tlf.specs.Read.{got, then, guard, spanAt}
+use Rattle.tlf.specs.Read.{got, then, guard}
 use Rattle.tlf.specs.Lengths.{tlfAt}
 use Rattle.tlf.specs.declared.Ty.the-variants.{Integer, Unsigned}
+use Rattle.tlf.proofs.Read.{span-room}
 use Rattle.tlf.proofs.Short.{field-one}
 use Rattle.num.specs.Numbers.{number, bytesAt, rawFrom, rawAt, unsignedAt, signedOf, signedAt}
 use Rattle.num.proofs.Numbers.{number-next}
@@ -29,8 +30,8 @@ unsigned-head s at len h p q e =
 
 -- where there are so many bytes, they are read
 from-room : (s : List ℕ) (at len : ℕ) → at + len ≤ length s → got (record { len = len; value = number 0 (take len (drop at s)) }) (at + len) ≡ rawFrom s at len
-unfolding rawFrom bytesAt spanAt then guard
-from-room s at len h = rw (le-leb at (length s) (omega arith), le-leb len (length s - at) (omega arith))
+unfolding rawFrom bytesAt then
+from-room s at len h = rw (span-room s at len h)
 
 -- the law of a number behind one length byte
 pub raw-one : (signed : Bool) (width : ℕ) (s : List ℕ) (at len : ℕ) → width ≤ 8 → 1 ≤ len → at + 1 + len ≤ length s → len ≤ width → getD s at 0 ≡ cond signed 0x51 0x61 + len

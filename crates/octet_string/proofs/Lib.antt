@@ -4,3 +4,4 @@ pub mod Optional
 pub mod Within
 pub mod Gets
 pub mod Bench
+pub mod Ends

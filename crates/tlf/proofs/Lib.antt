@@ -5,3 +5,4 @@ pub mod Short
 pub mod Found
 pub mod Gets
 pub mod Bench
+pub mod Ends

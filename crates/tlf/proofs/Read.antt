@@ -3,10 +3,10 @@ use mathlib.Core.Path.{_≡_, refl}
 use mathlib.Core.Bool.{Bool, true, false, cond, _&&_}
 use mathlib.Core.List.{List}
 use mathlib.Core.Option.{Option, some, none}
-use Prim.Native.Nat.{ℕ, _+_, _≤_, _<_}
+use Prim.Native.Nat.{ℕ, _+_, _-_, _≤_, _<_}
 use native.Mathlib.Omega.{arith}
 use lib.ListN.{length, getD}
-use borrow.Author.Tests.{ltb-true, leb-true}
+use borrow.Author.Tests.{ltb-true, leb-true, le-leb}
 use Rattle.tlf.specs.Read.{Read, got, refused, Refusal, then, guard, need, byteAt, spanAt}
 use Rattle.tlf.specs.declared.Span.{Span}
 
@@ -86,3 +86,8 @@ unfolding spanAt
 span-ok s at n =
     ok-guard _ _ _ (λ e. ok-guard _ _ _ (λ e′.
     ok-got _ _ (record { start-is = refl; len-is = refl; next-is = refl; within = omega (arith, leb-true at (length s) e, leb-true n _ e′) })))
+
+-- where there is room, it is that part
+pub span-room : (s : List ℕ) (at n : ℕ) → at + n ≤ length s → spanAt s at n ≡ got (record { start = at; len = n }) (at + n)
+unfolding spanAt guard
+span-room s at n h = rw (le-leb at (length s) (omega arith), le-leb n (length s - at) (omega arith))
