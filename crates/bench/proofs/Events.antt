@@ -7,18 +7,18 @@ use native.Mathlib.Nat.{zero-add}
 use native.Mathlib.Numerals.{unary-clauses}
 use native.Mathlib.Omega.{arith}
 use lib.ListN.{length}
-use Rattle.streaming.specs.Next.{After, nextAt}
+use Rattle.streaming.specs.Next.{ReaderAfter, nextAt}
 use Rattle.bench.specs.Bench.{isEvent, eventsFrom, events}
 
 -- one call more is one event more, or none
-module _ (s : List ℕ) (p start pending n m : ℕ) (a : After) (h : n < m) (e : a ≡ nextAt s p start pending) where
+module _ (s : List ℕ) (p start pending n m : ℕ) (a : ReaderAfter) (h : n < m) (e : a ≡ nextAt s p start pending) where
   step : (t : Bool) → isEvent (a .said) ≡ t
       → eventsFrom (m - n) s p start pending ≡ cond t (suc (eventsFrom (m - (n + 1)) s (a .place) (a .start) (a .pending))) 0
   unfolding eventsFrom
   step t f =
       let k : m - n ≡ suc (m - (n + 1)) = omega arith in
       ap (λ (x : ℕ). eventsFrom x s p start pending) k
-      ∙ ap (λ (x : After). cond (isEvent (x .said)) (suc (eventsFrom (m - (n + 1)) s (x .place) (x .start) (x .pending))) 0) (sym e)
+      ∙ ap (λ (x : ReaderAfter). cond (isEvent (x .said)) (suc (eventsFrom (m - (n + 1)) s (x .place) (x .start) (x .pending))) 0) (sym e)
       ∙ ap (λ (x : Bool). cond x (suc (eventsFrom (m - (n + 1)) s (a .place) (a .start) (a .pending))) 0) f
 
   pub one-more : isEvent (a .said) ≡ true → n + 1 + eventsFrom (m - (n + 1)) s (a .place) (a .start) (a .pending) ≡ n + eventsFrom (m - n) s p start pending

@@ -9,15 +9,15 @@ use native.Mathlib.Numerals.{add-one}
 use lib.ListN.{length, getD, take, drop, drop-of-length-le, length-drop}
 use lib.Seq.{take-length, drop-drop, drop-cons}
 use Rattle.decoder.specs.Record as D
-use Rattle.decoder.specs.Record.{Answer, After, after, refused, answerOf, badState, pushRecord}
+use Rattle.decoder.specs.Record.{Answer, After, after, refusal, answerOf, badDecoder, pushRecord}
 use Rattle.decoder.specs.declared.Decoder.{Decoder}
 use Rattle.decoder.specs.declared.Pushed.{Pushed}
 use Rattle.decoder.specs.declared.Event.{Event}
 use Rattle.decoder.specs.declared.Event.the-variants.{Nothing, Payload, DiscardedBytes, InvalidEsc, OutOfMemory, InvalidMessage, BadState, WrongBuffer}
-use Rattle.slice.specs.Slice.{Took, leaves, sliceRecord}
-use Rattle.slice.specs.declared.Sliced.{Sliced}
-use Rattle.slice.proofs.Taken.{taken-le, none-took, none-taken, goes-on}
-use Rattle.bench.specs.Bench.{Counted, counted, one, payloadsFrom}
+use Rattle.decoder_slice.specs.Slice.{Took, afterSlice, sliceRecord}
+use Rattle.decoder_slice.specs.declared.Sliced.{Sliced}
+use Rattle.decoder_slice.proofs.Taken.{taken-le, none-took, none-taken, goes-on}
+use Rattle.bench.specs.Bench.{CountedIn, counted, one, payloadsFrom}
 
 -- an event is a payload whatever its bytes
 same-one : (e : Event) (bytes : List ℕ) → one (answerOf e []) ≡ one (answerOf e bytes)
@@ -40,7 +40,7 @@ unfolding payloadsFrom
 all-counted n d m bs i h = rw drop-of-length-le
 
 -- one byte
-pub push-next : (n : ℕ) (d : Decoder) (m bs : List ℕ) (i k : ℕ) (r : Pushed) (l : List ℕ) → i < length bs → D.leaves r l ≡ pushRecord d m (getD bs i 0) → k ≡ one (answerOf (r .event) [])
+pub push-next : (n : ℕ) (d : Decoder) (m bs : List ℕ) (i k : ℕ) (r : Pushed) (l : List ℕ) → i < length bs → D.afterPush r l ≡ pushRecord d m (getD bs i 0) → k ≡ one (answerOf (r .event) [])
     → payloadsFrom (n + k) (r .decoder) l (drop (i + 1) bs) ≡ payloadsFrom n d m (drop i bs)
 push-next n d m bs i k r l h e c =
     let at : drop i bs ≡ getD bs i 0 ∷ drop (i + 1) bs = rw (add-one, drop-cons bs i 0) in
@@ -49,7 +49,7 @@ push-next n d m bs i k r l h e c =
     ∙ first n d m (getD bs i 0) (drop (i + 1) bs) ∙ ap (payloadsFrom n d m) (sym at)
 
 -- pushes that are all refused
-all-refused : (bs : List ℕ) (n : ℕ) (d : Decoder) (m : List ℕ) → ((b : ℕ) → pushRecord d m b ≡ after (refused (cond (badState d) 4 5) []) d m) → counted n m ≡ payloadsFrom n d m bs
+all-refused : (bs : List ℕ) (n : ℕ) (d : Decoder) (m : List ℕ) → ((b : ℕ) → pushRecord d m b ≡ after (refusal (cond (badDecoder d) 4 5) []) d m) → counted n m ≡ payloadsFrom n d m bs
 unfolding payloadsFrom
 all-refused [] n d m h = refl
 all-refused (b ∷ bs) n d m h =
@@ -57,11 +57,11 @@ all-refused (b ∷ bs) n d m h =
     ∙ ap (λ (a : After). payloadsFrom (n + one (a .answer)) (a .decoder) (a .memory) bs) (sym (h b))
 
 -- the part of s from i on is pushed
-module _ (n : ℕ) (d : Decoder) (m s : List ℕ) (i : ℕ) (r : Sliced) (l : List ℕ) (said : leaves r l ≡ sliceRecord d m (take (length s - i) (drop i s))) (in-s : i < length s) where
+module _ (n : ℕ) (d : Decoder) (m s : List ℕ) (i : ℕ) (r : Sliced) (l : List ℕ) (said : afterSlice r l ≡ sliceRecord d m (take (length s - i) (drop i s))) (in-s : i < length s) where
   left : length (drop i s) ≡ length s - i
   left = length-drop i s
 
-  part : leaves r l ≡ sliceRecord d m (drop i s)
+  part : afterSlice r l ≡ sliceRecord d m (drop i s)
   part = said ∙ ap (sliceRecord d m) (ap (λ (k : ℕ). take k (drop i s)) (sym left) ∙ take-length (drop i s))
 
   taken-is : r .taken ≡ sliceRecord d m (drop i s) .taken
@@ -73,7 +73,7 @@ module _ (n : ℕ) (d : Decoder) (m s : List ℕ) (i : ℕ) (r : Sliced) (l : Li
   pub slice-next : (k : ℕ) → k ≡ one (answerOf (r .event) []) → (r .taken ≡ 0 → ⊥) → payloadsFrom (n + k) (r .decoder) l (drop (i + r .taken) s) ≡ payloadsFrom n d m (drop i s)
   slice-next k c h =
       ap (λ (x : ℕ). payloadsFrom (n + x) (r .decoder) l (drop (i + r .taken) s)) (c ∙ same-one (r .event) _)
-      ∙ ap (payloadsFrom (n + one (leaves r l .answer)) (r .decoder) l) (sym (drop-drop (r .taken) i s))
+      ∙ ap (payloadsFrom (n + one (afterSlice r l .answer)) (r .decoder) l) (sym (drop-drop (r .taken) i s))
       ∙ ap (λ (t : Took). payloadsFrom (n + one (t .answer)) (t .decoder) (t .memory) (drop (t .taken) (drop i s))) part
       ∙ goes-on (payloadsFrom n) (λ a. payloadsFrom (n + one a)) (first n) (λ e k cs. ap (λ (x : ℕ). payloadsFrom x e k cs) (add-zero n)) d m (drop i s) (λ z. h (taken-is ∙ z))
 

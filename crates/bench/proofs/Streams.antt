@@ -10,11 +10,11 @@ use lib.ListN.{length, drop, getD, replicate, drop-of-length-le}
 use lib.Seq.{drop-cons}
 use borrow.Author.Tests.{lt-leb, le-leb}
 use Rattle.frame.specs.Frame.{frameOf}
-use Rattle.slice.proofs.Runs.{never}
+use Rattle.decoder_slice.proofs.Runs.{never}
 use Rattle.encoder.specs.declared.Encoder.{Encoder}
 use Rattle.encoder.specs.declared.Given.{Given}
 use Rattle.encoder.specs.Encode.{limit}
-use Rattle.encoder.specs.Encoder.{Next, byte, finished, refused, Step, stepOf, fresh, nextStep, nextOf}
+use Rattle.encoder.specs.Encoder.{NextAnswer, byte, finished, noByte, Step, stepOf, freshEncoder, nextStep, nextAnswer}
 use Rattle.encoder.specs.Calls.{calls}
 use Rattle.encoder.proofs.Calls.{gives-the-frame}
 use Rattle.encoder.proofs.Encodes.{frame-short}
@@ -23,30 +23,30 @@ use Rattle.bench.specs.Bench.{sum, streamed}
 use Rattle.bench.specs.Given.{isByte, given}
 
 -- the calls from e on give the bytes l, then finished
-pub record Left (e : Encoder) (payload l : List ℕ) : Type 0 where
+pub record LeftToGive (e : Encoder) (payload l : List ℕ) : Type 0 where
   pub all : calls (length l + 1) e payload ≡ map byte l ++ finished ∷ []
 
-pub first-left : (payload : List ℕ) → length payload ≤ limit → Left fresh payload (frameOf payload)
+pub first-left : (payload : List ℕ) → length payload ≤ limit → LeftToGive freshEncoder payload (frameOf payload)
 first-left payload h = record { all = gives-the-frame payload h 1 }
 
-head : List Next → Next
+head : List NextAnswer → NextAnswer
 head [] = finished
 head (a ∷ more) = a
 
-tail : List Next → List Next
+tail : List NextAnswer → List NextAnswer
 tail [] = []
 tail (a ∷ more) = more
 
 -- a call where bytes are left
-next-gives : (e : Encoder) (payload : List ℕ) (b : ℕ) (bs : List ℕ) → Left e payload (b ∷ bs)
-    → (nextStep e payload .answer ≡ byte b) × Left (nextStep e payload .encoder) payload bs
+next-gives : (e : Encoder) (payload : List ℕ) (b : ℕ) (bs : List ℕ) → LeftToGive e payload (b ∷ bs)
+    → (nextStep e payload .answer ≡ byte b) × LeftToGive (nextStep e payload .encoder) payload bs
 unfolding calls head tail
 next-gives e payload b bs h =
     let n : length (b ∷ bs) + 1 ≡ suc (length bs + 1) = omega arith in
     let all : calls (suc (length bs + 1)) e payload ≡ map byte (b ∷ bs) ++ finished ∷ [] = ap (λ (k : ℕ). calls k e payload) (sym n) ∙ h .all in
     (ap head all, record { all = ap tail all })
 
-next-done : (e : Encoder) (payload : List ℕ) → Left e payload [] → nextStep e payload .answer ≡ finished
+next-done : (e : Encoder) (payload : List ℕ) → LeftToGive e payload [] → nextStep e payload .answer ≡ finished
 unfolding calls head
 next-done e payload h =
     let n : 1 ≡ suc 0 = refl in
@@ -65,36 +65,36 @@ first-sum l = zero-add (sum l)
 
 -- what a call tells: with i bytes of l given and the sum t of them
 module _ (e : Encoder) (payload l : List ℕ) (i t : ℕ) (g : Given) (said : stepOf g ≡ nextStep e payload)
-    (within : i ≤ length l) (left : Left e payload (drop i l)) (so-far : t + sum (drop i l) ≡ sum l) where
-  answer-is : nextOf (g .answer) ≡ nextStep e payload .answer
+    (within : i ≤ length l) (left : LeftToGive e payload (drop i l)) (so-far : t + sum (drop i l) ≡ sum l) where
+  answer-is : nextAnswer (g .answer) ≡ nextStep e payload .answer
   answer-is = ap (λ (s : Step). s .answer) said
 
   at : i < length l → drop i l ≡ getD l i 0 ∷ drop (i + 1) l
   at h = rw (add-one, drop-cons l i 0)
 
-  taken : i < length l → (nextStep e payload .answer ≡ byte (getD l i 0)) × Left (nextStep e payload .encoder) payload (drop (i + 1) l)
-  taken h = next-gives e payload (getD l i 0) (drop (i + 1) l) (subst (Left e payload) (at h) left)
+  taken : i < length l → (nextStep e payload .answer ≡ byte (getD l i 0)) × LeftToGive (nextStep e payload .encoder) payload (drop (i + 1) l)
+  taken h = next-gives e payload (getD l i 0) (drop (i + 1) l) (subst (LeftToGive e payload) (at h) left)
 
-  ended : length l ≤ i → isByte (nextOf (g .answer)) ≡ false
-  ended h = ap isByte (answer-is ∙ next-done e payload (subst (Left e payload) (drop-of-length-le l {i = i} h) left))
+  ended : length l ≤ i → isByte (nextAnswer (g .answer)) ≡ false
+  ended h = ap isByte (answer-is ∙ next-done e payload (subst (LeftToGive e payload) (drop-of-length-le l {i = i} h) left))
 
-  number : i < length l → given (nextOf (g .answer)) ≡ getD l i 0
+  number : i < length l → given (nextAnswer (g .answer)) ≡ getD l i 0
   number h = ap given (answer-is ∙ taken h .0)
 
   -- a byte: one more of l
-  pub byte-next : isByte (nextOf (g .answer)) ≡ true → (k : ℕ) → k ≡ given (nextOf (g .answer))
-      → (i + 1 ≤ length l) × Left (g .encoder) payload (drop (i + 1) l) × (t + k + sum (drop (i + 1) l) ≡ sum l)
+  pub byte-next : isByte (nextAnswer (g .answer)) ≡ true → (k : ℕ) → k ≡ given (nextAnswer (g .answer))
+      → (i + 1 ≤ length l) × LeftToGive (g .encoder) payload (drop (i + 1) l) × (t + k + sum (drop (i + 1) l) ≡ sum l)
   byte-next said-byte k is =
       split (suc i) (length l)
       (λ h. (
         omega arith,
-        subst (λ (x : Encoder). Left x payload (drop (i + 1) l)) (sym (ap (λ (s : Step). s .encoder) said)) (taken h .1),
+        subst (λ (x : Encoder). LeftToGive x payload (drop (i + 1) l)) (sym (ap (λ (s : Step). s .encoder) said)) (taken h .1),
         omega (arith, is, number h, sum-at l i h, so-far),
       ))
       (λ h. never (sym (ended (omega arith)) ∙ said-byte))
 
   -- no byte: all of l were given
-  pub no-byte : isByte (nextOf (g .answer)) ≡ false → t ≡ sum l
+  pub no-byte : isByte (nextAnswer (g .answer)) ≡ false → t ≡ sum l
   no-byte said-none =
       split (suc i) (length l)
       (λ h. never (sym said-none ∙ ap isByte (answer-is ∙ taken h .0)))

@@ -14,11 +14,11 @@ use Rattle.streaming.specs.Next as N
 use Rattle.streaming.specs.Next.{Said, event, noEvent, failed, nextAt}
 
 -- a number, with the lent memory as it is then
-pub record Counted : Type 0 where
+pub record CountedIn : Type 0 where
   pub number : ℕ
   pub memory : List ℕ
 
-abbrev pub counted : ℕ → List ℕ → Counted
+abbrev pub counted : ℕ → List ℕ → CountedIn
 counted n m = record { number = n; memory = m }
 
 -- ---- the payloads of single pushes
@@ -27,27 +27,27 @@ abbrev pub one : D.Answer → ℕ
 one nothing = 0
 one (payload bytes) = 1
 one (count n) = 0
-one (D.refused n v) = 0
+one (D.refusal n v) = 0
 
 -- n payloads came before these bytes
-unfoldable pub payloadsFrom : ℕ → Decoder → List ℕ → List ℕ → Counted
+unfoldable pub payloadsFrom : ℕ → Decoder → List ℕ → List ℕ → CountedIn
 payloadsFrom n d m [] = counted n m
 payloadsFrom n d m (b ∷ bs) =
     let a : After = pushRecord d m b in
     payloadsFrom (n + one (a .answer)) (a .decoder) (a .memory) bs
 
 -- from a new decoder of the lent buffer's length
-abbrev pub payloads : List ℕ → List ℕ → Counted
+abbrev pub payloads : List ℕ → List ℕ → CountedIn
 payloads bytes m = payloadsFrom 0 (newRecord (length m)) m bytes
 
 -- ---- encode and Encoder
 
-abbrev pub lengthIn : E.Answer → ℕ
+abbrev pub lengthIn : E.EncodeAnswer → ℕ
 lengthIn (length-is n) = n
-lengthIn (E.refused n) = 0
+lengthIn (E.noFrame n) = 0
 
 -- the frame's length, or 0 if it is refused
-abbrev pub encoded : List ℕ → List ℕ → Counted
+abbrev pub encoded : List ℕ → List ℕ → CountedIn
 encoded bytes m = counted (lengthIn (encodeTo bytes m .answer)) (encodeTo bytes m .output)
 
 unfoldable pub sum : List ℕ → ℕ
@@ -69,7 +69,7 @@ isEvent (failed f) = false
 unfoldable pub eventsFrom : ℕ → List ℕ → ℕ → ℕ → ℕ → ℕ
 eventsFrom zero input at start pending = 0
 eventsFrom (suc k) input at start pending =
-    let a : N.After = nextAt input at start pending in
+    let a : N.ReaderAfter = nextAt input at start pending in
     cond (isEvent (a .said)) (suc (eventsFrom k input (a .place) (a .start) (a .pending))) 0
 
 -- from a new reader; an event takes a byte at least, so there are no more of them than bytes

@@ -8,7 +8,7 @@ ghost use Rattle.frame.specs.Frame.{frameOf};
 ghost use Rattle.decoder.specs.Record as D;
 ghost use Rattle.encoder.specs.Encode as E;
 ghost use Rattle.encoder.specs.Encode.{limit};
-ghost use Rattle.encoder.specs.Encoder.{nextOf};
+ghost use Rattle.encoder.specs.Encoder.{nextAnswer};
 ghost use Rattle.streaming.specs.Answers.{said};
 ghost use Rattle.bench.specs.Bench.{counted, one, payloads, lengthIn, encoded, sum, streamed, isEvent, events};
 ghost use Rattle.bench.specs.Given.{isByte, given};
@@ -67,7 +67,7 @@ pub extern "C" fn bench_push_slice(src: &[u8], buf: &mut [u8]) -> u64
     let mut n: u64 = 0;
     let mut i = 0;
     while i < src.len() {
-        let p = slice::push_slice(at, buf, &src[i..]);
+        let p = decoder_slice::push_slice(at, buf, &src[i..]);
         let e = p.event;
         let taken = p.taken;
         at = p.decoder;
@@ -81,7 +81,7 @@ pub extern "C" fn bench_push_slice(src: &[u8], buf: &mut [u8]) -> u64
 }
 
 fn frame_length(r: Encoded) -> u64
-    ensures { λ k. ⌜ k ≡ lengthIn (E.answerOf r) ⌝ }
+    ensures { λ k. ⌜ k ≡ lengthIn (E.encodeAnswer r) ⌝ }
 {
     match r {
         Encoded::Frame(n) => n as u64,
@@ -100,7 +100,7 @@ pub extern "C" fn bench_encode(payload: &[u8], out: &mut [u8]) -> u64
 }
 
 fn is_byte(answer: Item) -> bool
-    ensures { λ r. ⌜ r ≡ isByte (nextOf answer) ⌝ }
+    ensures { λ r. ⌜ r ≡ isByte (nextAnswer answer) ⌝ }
 {
     match answer {
         Item::Byte(_) => true,
@@ -112,7 +112,7 @@ fn is_byte(answer: Item) -> bool
 
 // The byte given, or 0 if none was.
 fn byte_of(answer: Item) -> u64
-    ensures { λ r. ⌜ (r ≡ given (nextOf answer)) × (r ≤ 255) ⌝ }
+    ensures { λ r. ⌜ (r ≡ given (nextAnswer answer)) × (r ≤ 255) ⌝ }
 {
     match answer {
         Item::Byte(b) => b as u64,

@@ -7,8 +7,8 @@ use Rattle.tlf.specs.declared.Span.{Span}
 use Rattle.tlf.proofs.Read.{Ok, ok-guard, ok-weak, byte-ok}
 use Rattle.tlf.proofs.Lengths.{list-of-ok}
 use Rattle.tlf.proofs.Found.{Found, Any, any, from, on, found}
-use Rattle.num.specs.Numbers.{unsignedAt, signedAt}
-use Rattle.num.proofs.Ahead.{unsigned-found, signed-found}
+use Rattle.numbers.specs.Numbers.{unsignedAt, signedAt}
+use Rattle.numbers.proofs.Ahead.{unsigned-found, signed-found}
 use Rattle.octet_string.specs.Strings.{octetsAt}
 use Rattle.octet_string.specs.Optional.{optional}
 use Rattle.octet_string.proofs.Within.{Within, Has, octets-found, optional-found}

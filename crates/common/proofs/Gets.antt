@@ -8,7 +8,7 @@ use Rattle.tlf.specs.Read.{Read}
 use Rattle.tlf.specs.Lengths.{listOfAt}
 use Rattle.tlf.specs.declared.Span.{Span}
 use Rattle.tlf.proofs.Rest.{Rest, Gets, Reads, Is, gets-is, gets-then, gets-guard, gets-got, byte-gets}
-use Rattle.num.specs.Numbers.{unsignedAt, signedAt}
+use Rattle.numbers.specs.Numbers.{unsignedAt, signedAt}
 use Rattle.octet_string.specs.Strings.{octetsAt}
 use Rattle.octet_string.specs.Optional.{optional}
 use Rattle.value.specs.Values.{Status, Value, timeAt, statusAt, valueAt}

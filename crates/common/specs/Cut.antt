@@ -4,7 +4,7 @@ use mathlib.Core.List.{List}
 use mathlib.Core.Option.{Option}
 use Rattle.tlf.specs.Read.{Read, got, then}
 use Rattle.tlf.specs.declared.Span.{Span}
-use Rattle.num.specs.Numbers.{unsignedAt, signedAt}
+use Rattle.numbers.specs.Numbers.{unsignedAt, signedAt}
 use Rattle.octet_string.specs.Strings.{octetsAt}
 use Rattle.octet_string.specs.Optional.{optional}
 use Rattle.value.specs.Values.{Status, timeAt, valueAt}

@@ -7,7 +7,7 @@ use lib.IntN.{ℤ}
 use Rattle.tlf.specs.Read.{Read, got, then, guard, wrongEnd, byteAt}
 use Rattle.tlf.specs.Lengths.{listOfAt}
 use Rattle.tlf.specs.declared.Span.{Span}
-use Rattle.num.specs.Numbers.{unsignedAt, signedAt}
+use Rattle.numbers.specs.Numbers.{unsignedAt, signedAt}
 use Rattle.octet_string.specs.Strings.{octetsAt}
 use Rattle.octet_string.specs.Optional.{optional}
 use Rattle.value.specs.Values.{Status, Value, timeAt, statusAt, valueAt}

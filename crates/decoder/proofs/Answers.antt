@@ -6,12 +6,12 @@ use Prim.Native.Nat.{ℕ}
 use lib.ListN.{getD}
 use lib.Dec.{eqb}
 use Rattle.decoder.specs.Push as P
-use Rattle.decoder.specs.Record.{Answer, numbered, nothing, payload, count, refused, answerOf, answerAsked, After, leaves, Left, leavesFinal, leavesReset}
+use Rattle.decoder.specs.Record.{Answer, numbered, nothing, payload, count, refusal, answerOf, answerAsked, After, afterPush, Left, afterFinalize, afterReset}
 use Rattle.decoder.specs.declared.Event.{Event}
 use Rattle.decoder.specs.declared.Event.the-variants.{Nothing, Payload, DiscardedBytes, InvalidEsc, OutOfMemory, InvalidMessage, BadState, WrongBuffer}
 use Rattle.decoder.specs.declared.Pushed.{Pushed}
 use Rattle.decoder.specs.declared.Finalized.{Finalized}
-use Rattle.decoder.specs.declared.Resetted.{Resetted}
+use Rattle.decoder.specs.declared.AfterReset.{AfterReset}
 use Rattle.decoder.specs.declared.Asked.{Asked}
 use Rattle.decoder.specs.declared.Asked.the-variants.{Good, BadSpan}
 
@@ -20,7 +20,7 @@ eventOf : Answer → Event
 eventOf nothing = Nothing
 eventOf (payload bytes) = Payload
 eventOf (count n) = Nothing
-eventOf (refused n v) =
+eventOf (refusal n v) =
     cond (eqb n 3) OutOfMemory (cond (eqb n 4) BadState (cond (eqb n 5) WrongBuffer
     (cond (eqb n 6) (DiscardedBytes (getD v 0 0))
     (cond (eqb n 7) (InvalidEsc (getD v 0 0) (getD v 1 0) (getD v 2 0) (getD v 3 0))
@@ -42,13 +42,13 @@ event-one : (e f : Event) (bytes more : List ℕ) → answerOf e bytes ≡ answe
 event-one e f bytes more h = sym (event-back e bytes) ∙ ap eventOf h ∙ event-back f more
 
 -- push: answer, record and memory
-pub push-one : (r s : Pushed) (m n : List ℕ) → leaves r m ≡ leaves s n → (r ≡ s) × (m ≡ n)
-push-one r s m n h =
+pub one-push : (r s : Pushed) (m n : List ℕ) → afterPush r m ≡ afterPush s n → (r ≡ s) × (m ≡ n)
+one-push r s m n h =
     let d : r .decoder ≡ s .decoder = ap (λ (a : After). a .decoder) h in
     let e : r .event ≡ s .event = event-one _ _ _ _ (ap (λ (a : After). a .answer) h) in
     (λ i. record { decoder = d i; event = e i }, ap (λ (a : After). a .memory) h)
 
-pub finalize-one : (r s : Finalized) → leavesFinal r ≡ leavesFinal s → r ≡ s
+pub finalize-one : (r s : Finalized) → afterFinalize r ≡ afterFinalize s → r ≡ s
 finalize-one r s h =
     let d : r .decoder ≡ s .decoder = ap (λ (a : Left). a .decoder) h in
     let e : r .event ≡ s .event = event-one _ _ [] [] (ap (λ (a : Left). a .answer) h) in
@@ -58,9 +58,9 @@ countOf : Answer → ℕ
 countOf nothing = 0
 countOf (payload bytes) = 0
 countOf (count n) = n
-countOf (refused n v) = 0
+countOf (refusal n v) = 0
 
-pub reset-one : (r s : Resetted) → leavesReset r ≡ leavesReset s → r ≡ s
+pub reset-one : (r s : AfterReset) → afterReset r ≡ afterReset s → r ≡ s
 unfolding countOf
 reset-one r s h =
     let d : r .decoder ≡ s .decoder = ap (λ (a : Left). a .decoder) h in
@@ -71,7 +71,7 @@ askedOf : Answer → Asked
 askedOf nothing = Good
 askedOf (payload bytes) = Good
 askedOf (count n) = Good
-askedOf (refused n v) = BadSpan
+askedOf (refusal n v) = BadSpan
 
 asked-back : (a : Asked) → askedOf (answerAsked a) ≡ a
 unfolding askedOf
@@ -83,25 +83,25 @@ ask-one a b h = sym (asked-back a) ∙ ap askedOf h ∙ asked-back b
 
 -- ---- and an answer says the step's event
 
-stepEvent : Answer → P.Event
+stepEvent : Answer → P.PushEvent
 stepEvent nothing = P.silent
-stepEvent (payload bytes) = P.got bytes
+stepEvent (payload bytes) = P.paysOut bytes
 stepEvent (count n) = P.silent
-stepEvent (refused n v) =
+stepEvent (refusal n v) =
     cond (eqb n 3) P.memory
     (cond (eqb n 6) (P.discarded (getD v 0 0))
     (cond (eqb n 7) (P.badEscape (getD v 0 0) (getD v 1 0) (getD v 2 0) (getD v 3 0))
     (P.badMessage (getD v 0 0) (getD v 1 0) (eqb (getD v 2 0) 1) (getD v 3 0))))
 
-step-back : (e : P.Event) → stepEvent (numbered e) ≡ e
+step-back : (e : P.PushEvent) → stepEvent (numbered e) ≡ e
 unfolding stepEvent
 step-back P.silent = refl
 step-back (P.discarded n) = refl
-step-back (P.got bytes) = refl
+step-back (P.paysOut bytes) = refl
 step-back P.memory = refl
 step-back (P.badEscape a b c d) = refl
 step-back (P.badMessage read computed true p) = refl
 step-back (P.badMessage read computed false p) = refl
 
-pub numbered-one : (e f : P.Event) → numbered e ≡ numbered f → e ≡ f
+pub numbered-one : (e f : P.PushEvent) → numbered e ≡ numbered f → e ≡ f
 numbered-one e f h = sym (step-back e) ∙ ap stepEvent h ∙ step-back f

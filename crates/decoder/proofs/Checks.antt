@@ -8,7 +8,7 @@ use lib.ListN.{length, take}
 use lib.Dec.{ltb, eqb}
 use borrow.Author.Tests.{ltb-true, ltb-false, lt-ltb, le-ltb}
 use Rattle.decoder.specs.Push.{silent, discarded, finalized, resetCount}
-use Rattle.decoder.specs.Record.{nothing, refused, count, viewAs, newRecord, badState, wrongBuffer, leavesFinal, leavesReset, finalizeRecord, resetRecord, stands, hasPayload, payloadRecord, askRecord}
+use Rattle.decoder.specs.Record.{nothing, refusal, count, stateAs, newRecord, badDecoder, wrongBuffer, afterFinalize, afterReset, finalizeRecord, resetRecord, stands, hasPayload, payloadRecord, askRecord}
 use Rattle.decoder.specs.Cut.{isFresh, isDone, payloadIn}
 use Rattle.decoder.specs.declared.DecodeState.{DecodeState}
 use Rattle.decoder.specs.declared.DecodeState.the-variants.{LookingForMessageStart, ParsingNormal, ParsingEscChars, ParsingEscPayload, Done}
@@ -26,13 +26,13 @@ ltb-moved a b n false h e = le-ltb (a - b) n (omega (arith, ltb-false a (b + n) 
 ltb-move : (a b n : ℕ) → b ≤ a → ltb (a - b) n ≡ ltb a (b + n)
 ltb-move a b n h = ltb-moved a b n (ltb a (b + n)) h refl
 
-pub bad-normal : (d : Decoder) → d .fill ≤ d .capacity → d .«crc_idx» ≤ d .fill → d .state ≡ ParsingNormal → ltb (d .«raw_msg_len») 8 ≡ badState d
-unfolding badState
+pub bad-normal : (d : Decoder) → d .fill ≤ d .capacity → d .«crc_idx» ≤ d .fill → d .state ≡ ParsingNormal → ltb (d .«raw_msg_len») 8 ≡ badDecoder d
+unfolding badDecoder
 bad-normal d h k s = simp (le-ltb (d .capacity) (d .fill) h, le-ltb (d .fill) (d .«crc_idx») k, s)
 
 pub bad-escape : (d : Decoder) (n : ℕ) → d .fill ≤ d .capacity → d .«crc_idx» ≤ d .fill → d .state ≡ ParsingEscPayload n
-    → 8 ≤ d .«raw_msg_len» → n ≤ 3 → ltb (d .fill - d .«crc_idx») n ≡ badState d
-unfolding badState
+    → 8 ≤ d .«raw_msg_len» → n ≤ 3 → ltb (d .fill - d .«crc_idx») n ≡ badDecoder d
+unfolding badDecoder
 bad-escape d n h k s r e =
     simp (le-ltb (d .capacity) (d .fill) h, le-ltb (d .fill) (d .«crc_idx») k, s, le-ltb (d .«raw_msg_len») 8 r, le-ltb 3 n e, ltb-move (d .fill) (d .«crc_idx») n k)
 
@@ -42,7 +42,7 @@ cond-cond : {A : Type 0} (s t : Bool) (x y : A) → cond s (cond t x y) y ≡ co
 cond-cond true t x y = refl
 cond-cond false t x y = refl
 
-final-is : (d : Decoder) (s : DecodeState) → finalized (viewAs s d []) ≡ cond (isFresh s) silent (cond (isDone s) silent (discarded (d .«raw_msg_len»)))
+final-is : (d : Decoder) (s : DecodeState) → finalized (stateAs s d []) ≡ cond (isFresh s) silent (cond (isDone s) silent (discarded (d .«raw_msg_len»)))
 unfolding finalized
 final-is d (LookingForMessageStart n noise) = cond-cond (eqb n 0) (eqb noise 0) silent (discarded (d .«raw_msg_len»))
 final-is d ParsingNormal = refl
@@ -51,24 +51,24 @@ final-is d (ParsingEscPayload k) = refl
 final-is d Done = refl
 
 module _ (d : Decoder) where
-  pub final-bad : badState d ≡ true → leavesFinal (record { decoder = d; event = BadState }) ≡ finalizeRecord d
+  pub final-bad : badDecoder d ≡ true → afterFinalize (record { decoder = d; event = BadState }) ≡ finalizeRecord d
   unfolding finalizeRecord
   final-bad e = rw e
 
-  pub final-fresh : badState d ≡ false → isFresh (d .state) ≡ true → leavesFinal (record { decoder = newRecord (d .capacity); event = Nothing }) ≡ finalizeRecord d
+  pub final-fresh : badDecoder d ≡ false → isFresh (d .state) ≡ true → afterFinalize (record { decoder = newRecord (d .capacity); event = Nothing }) ≡ finalizeRecord d
   unfolding finalizeRecord
   final-fresh e f = rw (e, final-is d (d .state), f)
 
-  pub final-done : badState d ≡ false → isFresh (d .state) ≡ false → isDone (d .state) ≡ true → leavesFinal (record { decoder = newRecord (d .capacity); event = Nothing }) ≡ finalizeRecord d
+  pub final-done : badDecoder d ≡ false → isFresh (d .state) ≡ false → isDone (d .state) ≡ true → afterFinalize (record { decoder = newRecord (d .capacity); event = Nothing }) ≡ finalizeRecord d
   unfolding finalizeRecord
   final-done e f g = rw (e, final-is d (d .state), f, g)
 
-  pub final-lost : badState d ≡ false → isFresh (d .state) ≡ false → isDone (d .state) ≡ false
-      → leavesFinal (record { decoder = newRecord (d .capacity); event = DiscardedBytes (d .«raw_msg_len») }) ≡ finalizeRecord d
+  pub final-lost : badDecoder d ≡ false → isFresh (d .state) ≡ false → isDone (d .state) ≡ false
+      → afterFinalize (record { decoder = newRecord (d .capacity); event = DiscardedBytes (d .«raw_msg_len») }) ≡ finalizeRecord d
   unfolding finalizeRecord
   final-lost e f g = rw (e, final-is d (d .state), f, g)
 
-reset-is : (d : Decoder) (s : DecodeState) → resetCount (viewAs s d []) ≡ cond (isDone s) 0 (d .«raw_msg_len»)
+reset-is : (d : Decoder) (s : DecodeState) → resetCount (stateAs s d []) ≡ cond (isDone s) 0 (d .«raw_msg_len»)
 unfolding resetCount
 reset-is d (LookingForMessageStart n noise) = refl
 reset-is d ParsingNormal = refl
@@ -77,17 +77,17 @@ reset-is d (ParsingEscPayload k) = refl
 reset-is d Done = refl
 
 module _ (d : Decoder) where
-  pub reset-done : isDone (d .state) ≡ true → leavesReset (record { decoder = newRecord (d .capacity); count = 0 }) ≡ resetRecord d
+  pub reset-done : isDone (d .state) ≡ true → afterReset (record { decoder = newRecord (d .capacity); count = 0 }) ≡ resetRecord d
   unfolding resetRecord
   reset-done e = rw (reset-is d (d .state), e)
 
-  pub reset-lost : isDone (d .state) ≡ false → leavesReset (record { decoder = newRecord (d .capacity); count = d .«raw_msg_len» }) ≡ resetRecord d
+  pub reset-lost : isDone (d .state) ≡ false → afterReset (record { decoder = newRecord (d .capacity); count = d .«raw_msg_len» }) ≡ resetRecord d
   unfolding resetRecord
   reset-lost e = rw (reset-is d (d .state), e)
 
 -- ---- the payload
 
-stands-is : (d : Decoder) (m : List ℕ) (s : DecodeState) → isDone s ≡ stands (viewAs s d m)
+stands-is : (d : Decoder) (m : List ℕ) (s : DecodeState) → isDone s ≡ stands (stateAs s d m)
 stands-is d m (LookingForMessageStart n noise) = refl
 stands-is d m ParsingNormal = refl
 stands-is d m (ParsingEscChars n) = refl
@@ -111,7 +111,7 @@ module _ (d : Decoder) (m : List ℕ) where
   unfolding askRecord
   ask-is e = rw (sym has-is ∙ e)
 
-  pub ask-no : payloadIn d (length m) ≡ false → refused 16 [] ≡ askRecord d m
+  pub ask-no : payloadIn d (length m) ≡ false → refusal 16 [] ≡ askRecord d m
   unfolding askRecord
   ask-no e = rw (sym has-is ∙ e)
 
@@ -122,6 +122,6 @@ both-false false b e = (refl, e)
 pub payload-room : (d : Decoder) (lent : ℕ) → payloadIn d lent ≡ true → d .fill ≤ lent
 unfolding payloadIn
 payload-room d lent e =
-    let p = both-false (badState d) _ e in
+    let p = both-false (badDecoder d) _ e in
     let q = both-false (wrongBuffer (d .capacity) lent) _ (p .1) in
     omega (arith, sane d (p .0) .0, right-buffer (d .capacity) lent (q .0) .0)

@@ -5,18 +5,18 @@ use Prim.Native.Nat.{ℕ, suc, _-_, _≤_}
 use native.Mathlib.Omega.{arith}
 use lib.ListN.{length}
 use Rattle.frame.proofs.Cases.{by-eq}
-use Rattle.decoder.specs.Push.{Setup, Mem, State, search, body, escape, done, Event, silent, discarded, got, memory, badEscape, badMessage, Out, begun, noticed, fresh, stopped, step}
-use Rattle.decoder.specs.Record.{After, after, nothing, view, newRecord}
+use Rattle.decoder.specs.Push.{Setup, Mem, State, search, body, escape, done, PushEvent, silent, discarded, paysOut, memory, badEscape, badMessage, Out, begun, noticed, fresh, stopped, step}
+use Rattle.decoder.specs.Record.{After, after, nothing, stateOf, newRecord}
 use Rattle.decoder.specs.Run.{Op, push, finalize, reset, behind, actState, stateBehind}
-use Rattle.decoder.specs.Saw.{Judged, is-data, restarts, good, bad, shifts, refused, Saw, matched, began, missed, again, waits, opens, stores, full, reads, judges, full′}
+use Rattle.decoder.specs.Saw.{Judged, is-data, restarts, good, bad, shifts, unknown, Saw, matched, began, missed, again, waits, opens, stores, full, reads, judges, full′}
 use Rattle.decoder.proofs.Saw.{saw}
 use Rattle.decoder.proofs.Runs.{leads, new-fit}
 
 -- the bytes since the search began, or since the first of the running frame's eight start bytes; none behind a payload
-abbrev pub since : Event → ℕ → ℕ
+abbrev pub since : PushEvent → ℕ → ℕ
 since silent n = suc n
 since (discarded k) n = 8
-since (got bytes) n = 0
+since (paysOut bytes) n = 0
 since memory n = 0
 since (badEscape a b c d) n = 0
 since (badMessage a b c d) n = 0
@@ -38,7 +38,7 @@ Counted (escape k m) n = (8 ≤ n) × (m .raw ≡ stopped n)
 Counted (done bytes) n = n ≡ 0
 
 counted-begun : (noise n : ℕ) → 7 ≤ n → noise ≡ stopped (n - 7) → Counted begun (since (noticed noise) n)
-counted-begun noise n h e = by-eq (λ (v : Event). Counted begun (since v n)) noise 0 _ _ (λ z. omega arith) (λ z. omega arith)
+counted-begun noise n h e = by-eq (λ (v : PushEvent). Counted begun (since v n)) noise 0 _ _ (λ z. omega arith) (λ z. omega arith)
 
 counted-judged : (m : Mem) (four : List ℕ) (o : Out) (n : ℕ) → 7 ≤ n → m .raw ≡ stopped (suc n) → Judged m four o → Counted (o .state) (since (o .event) n)
 counted-judged m four o n h r (is-data e) = omega arith
@@ -46,7 +46,7 @@ counted-judged m four o n h r (restarts e) = omega arith
 counted-judged m four o n h r (good e p) = refl
 counted-judged m four o n h r (bad e p) = omega arith
 counted-judged m four o n h r (shifts a e lo hi t) = omega arith
-counted-judged m four o n h r (refused a b c d) = omega arith
+counted-judged m four o n h r (unknown a b c d) = omega arith
 
 counted-saw : (C : Setup) (s : State) (b : ℕ) (o : Out) (n : ℕ) → Counted s n → Saw C s b o → Counted (o .state) (since (o .event) n)
 counted-saw C s b o n c (matched t ne) = omega arith
@@ -78,7 +78,7 @@ counts C os = counted C os fresh 0 (omega arith)
 
 -- and so every record that is reached from a new one, with a buffer of its capacity
 pub record-counts : (C : ℕ) (m : List ℕ) (os : List Op) → length m ≡ C → C ≤ 1048576
-    → let a : After = behind (after nothing (newRecord C) m) os in Counted (view (a .decoder) (a .memory)) (sinceBehind (record { capacity = C }) fresh 0 os)
+    → let a : After = behind (after nothing (newRecord C) m) os in Counted (stateOf (a .decoder) (a .memory)) (sinceBehind (record { capacity = C }) fresh 0 os)
 record-counts C m os l le =
     let r = leads os (after nothing (newRecord C) m) (new-fit C m l le) in
     subst (λ (s : State). Counted s (sinceBehind (record { capacity = C }) fresh 0 os)) (sym (r .view′)) (counts (record { capacity = C }) os)

@@ -5,9 +5,9 @@ use mathlib.Core.List.{List}
 use Prim.Native.Nat.{ℕ}
 use lib.ListN.{length}
 use Rattle.frame.proofs.Cases.{by-eq, by-test}
-use Rattle.decoder.specs.Push.{Setup, Mem, State, done, Event, got, Out, noticed, fresh, step}
-use Rattle.decoder.specs.Record.{Answer, nothing, payload, count, refused, After, numbered, setup, view, pack, badState, wrongBuffer, pushed, pushRecord}
-use Rattle.decoder.specs.Saw.{Judged, is-data, restarts, good, bad, shifts, refused, Saw, matched, began, missed, again, waits, opens, stores, full, reads, judges, full′}
+use Rattle.decoder.specs.Push.{Setup, Mem, State, done, PushEvent, paysOut, Out, noticed, fresh, step}
+use Rattle.decoder.specs.Record.{Answer, nothing, payload, count, refusal, After, numbered, setup, stateOf, recordOf, badDecoder, wrongBuffer, pushed, pushRecord}
+use Rattle.decoder.specs.Saw.{Judged, is-data, restarts, good, bad, shifts, unknown, Saw, matched, began, missed, again, waits, opens, stores, full, reads, judges, full′}
 use Rattle.decoder.specs.declared.DecodeState.the-variants.{Done}
 use Rattle.decoder.specs.declared.Decoder.{Decoder}
 use Rattle.decoder.proofs.Saw.{saw}
@@ -23,18 +23,18 @@ paid-judged m four o (restarts e) bytes h = cc
 paid-judged m four o (good e p) bytes h = cc
 paid-judged m four o (bad e p) bytes h = cc
 paid-judged m four o (shifts a e lo hi t) bytes h = cc
-paid-judged m four o (refused a b c d) bytes h = cc
+paid-judged m four o (unknown a b c d) bytes h = cc
 
 no-payload : Answer → Bool
 no-payload nothing = true
 no-payload (payload bytes) = false
 no-payload (count n) = true
-no-payload (refused n values) = true
+no-payload (refusal n values) = true
 
 noticed-not : (noise : ℕ) (bytes : List ℕ) → numbered (noticed noise) ≡ payload bytes → ⊥
 unfolding no-payload
 noticed-not noise bytes =
-    by-eq (λ (v : Event). numbered v ≡ payload bytes → ⊥) noise 0 _ _ (λ e h. false≢true (sym (ap no-payload h))) (λ e h. false≢true (sym (ap no-payload h)))
+    by-eq (λ (v : PushEvent). numbered v ≡ payload bytes → ⊥) noise 0 _ _ (λ e h. false≢true (sym (ap no-payload h))) (λ e h. false≢true (sym (ap no-payload h)))
 
 paid : (C : Setup) (s : State) (b : ℕ) (o : Out) → Saw C s b o → Paid o
 unfolding Paid
@@ -55,10 +55,10 @@ pub payload-leaves : (d : Decoder) (m : List ℕ) (b : ℕ) (bytes : List ℕ) �
     → pushRecord d m b .decoder ≡ record { capacity = d .capacity; fill = length bytes; «raw_msg_len» = 0; crc = 0xffff; «crc_idx» = 0; state = Done }
 unfolding pushRecord pushed Paid
 payload-leaves d m b bytes =
-    by-test (λ (a : After). a .answer ≡ payload bytes → a .decoder ≡ pack (setup d) (done bytes)) (badState d) _ _ (λ t h. cc) (λ f.
-    by-test (λ (a : After). a .answer ≡ payload bytes → a .decoder ≡ pack (setup d) (done bytes)) (wrongBuffer (d .capacity) (length m)) _ _ (λ t h. cc) (λ g h.
-    ap (pack (setup d)) (paid (setup d) (view d m) b (step (setup d) (view d m) b) (saw (setup d) (view d m) b) bytes h)))
+    by-test (λ (a : After). a .answer ≡ payload bytes → a .decoder ≡ recordOf (setup d) (done bytes)) (badDecoder d) _ _ (λ t h. cc) (λ f.
+    by-test (λ (a : After). a .answer ≡ payload bytes → a .decoder ≡ recordOf (setup d) (done bytes)) (wrongBuffer (d .capacity) (length m)) _ _ (λ t h. cc) (λ g h.
+    ap (recordOf (setup d)) (paid (setup d) (stateOf d m) b (step (setup d) (stateOf d m) b) (saw (setup d) (stateOf d m) b) bytes h)))
 
-pub got-done : (C : Setup) (s : State) (b : ℕ) (bytes : List ℕ) → (step C s b) .event ≡ got bytes → (step C s b) .state ≡ done bytes
+pub got-done : (C : Setup) (s : State) (b : ℕ) (bytes : List ℕ) → (step C s b) .event ≡ paysOut bytes → (step C s b) .state ≡ done bytes
 unfolding Paid
 got-done C s b bytes h = paid C s b (step C s b) (saw C s b) bytes (ap numbered h)

@@ -8,15 +8,15 @@ use borrow.Author.Tests.{leb-false, ltb-false, eqb-true, le-ltb}
 use lib.ListN.{length}
 use lib.Seq.{sets}
 use lib.Dec.{ltb, leb, eqb}
-use Rattle.decoder.specs.Record.{badState, wrongBuffer, pushRecord}
-use Rattle.decoder.specs.Cut.{told, cut, quiet, grown, isNormal, plain, normalStep, stepOf}
+use Rattle.decoder.specs.Record.{badDecoder, wrongBuffer, pushRecord}
+use Rattle.decoder.specs.Cut.{toldCut, cut, quiet, storedOn, isNormal, plainByte, normalStep, stepCut}
 use Rattle.decoder.specs.declared.Decoder.{Decoder}
 use Rattle.decoder.specs.declared.DecodeState.{DecodeState}
 use Rattle.decoder.specs.declared.DecodeState.the-variants.{LookingForMessageStart, ParsingNormal, ParsingEscChars, ParsingEscPayload, Done}
 use Rattle.decoder.proofs.Tests.{lt-room}
 use Rattle.decoder.proofs.Tied.{push-step}
 
-pub record Plain (d : Decoder) (lent b : ℕ) : Type 0 where
+pub record IsPlain (d : Decoder) (lent b : ℕ) : Type 0 where
   pub byte : eqb b 0x1b ≡ false
   pub room : d .fill < lent
   pub index : ltb (d .fill) (d .«crc_idx») ≡ false
@@ -40,8 +40,8 @@ normal-is (ParsingEscChars n) e = cc
 normal-is (ParsingEscPayload k) e = cc
 normal-is Done e = cc
 
-pub plain-says : (d : Decoder) (lent b : ℕ) → plain d lent b ≡ true → Plain d lent b
-unfolding plain
+pub plain-says : (d : Decoder) (lent b : ℕ) → plainByte d lent b ≡ true → IsPlain d lent b
+unfolding plainByte
 plain-says d lent b e =
     let p₁ = not-left (eqb b 0x1b) _ e in
     let p₂ = not-left (leb lent (d .fill)) _ (p₁ .1) in
@@ -59,27 +59,27 @@ plain-says d lent b e =
       state = normal-is (d .state) (p₆ .1);
     }
 
-plain-good : (d : Decoder) (lent b : ℕ) → Plain d lent b → badState d ≡ false
-unfolding badState
+plain-good : (d : Decoder) (lent b : ℕ) → IsPlain d lent b → badDecoder d ≡ false
+unfolding badDecoder
 plain-good d lent b p =
     let c : lent ≡ d .capacity = eqb-true _ _ (p .lent-is) in
     let f : ltb (d .capacity) (d .fill) ≡ false = le-ltb (d .capacity) (d .fill) (omega (arith, p .room, c)) in
     rw (f, p .index, p .state, p .raw)
 
-plain-right : (d : Decoder) (lent b : ℕ) → Plain d lent b → wrongBuffer (d .capacity) lent ≡ false
+plain-right : (d : Decoder) (lent b : ℕ) → IsPlain d lent b → wrongBuffer (d .capacity) lent ≡ false
 unfolding wrongBuffer
 plain-right d lent b p = rw (p .lent-is, p .small)
 
 -- the fill has room to grow
-pub plain-fits : (d : Decoder) (lent b : ℕ) → plain d lent b ≡ true → d .fill + 1 < 2 ^ 64
+pub plain-fits : (d : Decoder) (lent b : ℕ) → plainByte d lent b ≡ true → d .fill + 1 < 2 ^ 64
 plain-fits d lent b e =
     let p = plain-says d lent b e in
     omega (arith, p .room, ltb-false 1048576 lent (p .small))
 
 -- the law of the short way
-pub push-plain : (d : Decoder) (m : List ℕ) (b : ℕ) → plain d (length m) b ≡ true
-    → told (cut (quiet (grown d 1 ParsingNormal)) (sets m (d .fill) (b ∷ []))) ≡ pushRecord d m b
-unfolding stepOf normalStep
+pub push-plain : (d : Decoder) (m : List ℕ) (b : ℕ) → plainByte d (length m) b ≡ true
+    → toldCut (cut (quiet (storedOn d 1 ParsingNormal)) (sets m (d .fill) (b ∷ []))) ≡ pushRecord d m b
+unfolding stepCut normalStep
 push-plain d m b e =
     let p = plain-says d (length m) b e in
-    push-step d m b ParsingNormal (cut (quiet (grown d 1 ParsingNormal)) (sets m (d .fill) (b ∷ []))) (plain-good d _ b p) (plain-right d _ b p) (p .state) (rw (p .byte, lt-room _ _ (p .room)))
+    push-step d m b ParsingNormal (cut (quiet (storedOn d 1 ParsingNormal)) (sets m (d .fill) (b ∷ []))) (plain-good d _ b p) (plain-right d _ b p) (p .state) (rw (p .byte, lt-room _ _ (p .room)))

@@ -7,7 +7,7 @@ use native.Mathlib.Omega.{arith}
 use lib.ListN.{length}
 use borrow.Author.Tests.{eq-eqb, le-ltb}
 use Rattle.decoder.specs.Push.{Setup, fresh, finalized, resetCount}
-use Rattle.decoder.specs.Record.{Answer, nothing, count, After, after, numbered, setup, viewAs, view, pack, badState, wrongBuffer, finalizeRecord, resetRecord, newRecord}
+use Rattle.decoder.specs.Record.{Answer, nothing, count, After, after, numbered, setup, stateAs, stateOf, recordOf, badDecoder, wrongBuffer, finalizeRecord, resetRecord, newRecord}
 use Rattle.decoder.specs.Run.{Op, push, finalize, reset, act, run, behind, actState, answerState, runState, stateBehind}
 use Rattle.decoder.specs.declared.DecodeState.{DecodeState}
 use Rattle.decoder.specs.declared.DecodeState.the-variants.{LookingForMessageStart, ParsingNormal, ParsingEscChars, ParsingEscPayload, Done}
@@ -17,13 +17,13 @@ use Rattle.decoder.proofs.Faithful.{Fit, push-is-step}
 
 -- an operation over the record is the operation over its state
 pub record Acts (d : Decoder) (m : List ℕ) (o : Op) (a : After) : Type 0 where
-  pub answer : a .answer ≡ answerState (setup d) (view d m) o
+  pub answer : a .answer ≡ answerState (setup d) (stateOf d m) o
   pub fit : Fit (a .decoder) (a .memory)
   pub setup′ : setup (a .decoder) ≡ setup d
-  pub view′ : view (a .decoder) (a .memory) ≡ actState (setup d) (view d m) o
+  pub view′ : stateOf (a .decoder) (a .memory) ≡ actState (setup d) (stateOf d m) o
 
 -- finalize and reset look at no stored byte
-final-as : (d : Decoder) (m n : List ℕ) (s : DecodeState) → finalized (viewAs s d m) ≡ finalized (viewAs s d n)
+final-as : (d : Decoder) (m n : List ℕ) (s : DecodeState) → finalized (stateAs s d m) ≡ finalized (stateAs s d n)
 unfolding finalized
 final-as d m n (LookingForMessageStart k noise) = refl
 final-as d m n ParsingNormal = refl
@@ -31,7 +31,7 @@ final-as d m n (ParsingEscChars k) = refl
 final-as d m n (ParsingEscPayload k) = refl
 final-as d m n Done = refl
 
-reset-as : (d : Decoder) (m n : List ℕ) (s : DecodeState) → resetCount (viewAs s d m) ≡ resetCount (viewAs s d n)
+reset-as : (d : Decoder) (m n : List ℕ) (s : DecodeState) → resetCount (stateAs s d m) ≡ resetCount (stateAs s d n)
 unfolding resetCount
 reset-as d m n (LookingForMessageStart k noise) = refl
 reset-as d m n ParsingNormal = refl
@@ -39,7 +39,7 @@ reset-as d m n (ParsingEscChars k) = refl
 reset-as d m n (ParsingEscPayload k) = refl
 reset-as d m n Done = refl
 
-fresh-fit : (d : Decoder) (m : List ℕ) → Fit d m → Fit (pack (setup d) fresh) m
+fresh-fit : (d : Decoder) (m : List ℕ) → Fit d m → Fit (recordOf (setup d) fresh) m
 fresh-fit d m f = record { state = not-bad (setup d) fresh (omega arith); buffer = f .buffer }
 
 pub acts : (d : Decoder) (m : List ℕ) (o : Op) → Fit d m → Acts d m o (act d m o)
@@ -53,19 +53,19 @@ acts d m reset f = record { answer = ap count (reset-as d [] m (d .state)); fit 
 
 -- ---- any number of operations
 
-pub run-is : (os : List Op) (d : Decoder) (m : List ℕ) → Fit d m → run d m os ≡ runState (setup d) (view d m) os
+pub run-is : (os : List Op) (d : Decoder) (m : List ℕ) → Fit d m → run d m os ≡ runState (setup d) (stateOf d m) os
 unfolding run runState
 run-is [] d m f = refl
 run-is (o ∷ os) d m f =
     let a = acts d m o f in
-    rw (a .answer) (ap (λ (l : List Answer). answerState (setup d) (view d m) o ∷ l)
+    rw (a .answer) (ap (λ (l : List Answer). answerState (setup d) (stateOf d m) o ∷ l)
     (run-is os (act d m o .decoder) (act d m o .memory) (a .fit) ∙ rw (a .setup′, a .view′)))
 
 -- where they lead
 pub record Leads (d : Decoder) (m : List ℕ) (os : List Op) (a : After) : Type 0 where
   pub fit : Fit (a .decoder) (a .memory)
   pub setup′ : setup (a .decoder) ≡ setup d
-  pub view′ : view (a .decoder) (a .memory) ≡ stateBehind (setup d) (view d m) os
+  pub view′ : stateOf (a .decoder) (a .memory) ≡ stateBehind (setup d) (stateOf d m) os
 
 pub leads : (os : List Op) (a : After) → Fit (a .decoder) (a .memory) → Leads (a .decoder) (a .memory) os (behind a os)
 unfolding behind stateBehind
@@ -89,7 +89,7 @@ run-new C m os l le = run-is os (newRecord C) m (new-fit C m l le)
 
 -- what is reached from a new decoder is never refused with 4 or 5
 pub never-bad : (C : ℕ) (m : List ℕ) (os : List Op) → length m ≡ C → C ≤ 1048576
-    → let a : After = behind (after nothing (newRecord C) m) os in (badState (a .decoder) ≡ false) × (a .decoder .capacity ≡ C)
+    → let a : After = behind (after nothing (newRecord C) m) os in (badDecoder (a .decoder) ≡ false) × (a .decoder .capacity ≡ C)
 never-bad C m os l le =
     let r = leads os (after nothing (newRecord C) m) (new-fit C m l le) in
     (r .fit .state, ap (λ (x : Setup). x .capacity) (r .setup′))

@@ -9,7 +9,7 @@ use borrow.Author.Tests.{leb-true, eq-eqb, le-leb}
 use Rattle.frame.specs.Frame.{missing, escSeq, restartSeq}
 use Rattle.frame.proofs.Cases.{by-test, by-eq, by-le, by-lt}
 use Rattle.decoder.specs.Push.{Setup, Mem, State, search, body, escape, done, searching, store, same, starts, early, sound?, computed, padOf, crcRead, judge, finish, step}
-use Rattle.decoder.specs.Saw.{Passed, Judged, is-data, restarts, good, bad, shifts, refused, Saw, matched, began, missed, again, waits, opens, stores, full, reads, judges, full′}
+use Rattle.decoder.specs.Saw.{Passed, Judged, is-data, restarts, good, bad, shifts, unknown, Saw, matched, began, missed, again, waits, opens, stores, full, reads, judges, full′}
 
 -- two lists that `same` finds equal are equal, and the other way round
 pub same-true : (a b : List ℕ) → same a b ≡ true → a ≡ b
@@ -59,7 +59,7 @@ judged m four =
     by-eq (Judged m four) (getD four 0 0) 0x1a _ _ (λ e. finished m four e) (λ f₃.
     by-test (Judged m four) (early (missing (length (m .stored))) four) _ _
     (λ t. let e = early-is (missing (length (m .stored))) four t in shifts (missing (length (m .stored))) refl (e .0) (omega arith) (e .1))
-    (λ f₄. refused (same-false four escSeq f₁) (same-false four restartSeq f₂) f₃ f₄))))
+    (λ f₄. unknown (same-false four escSeq f₁) (same-false four restartSeq f₂) f₃ f₄))))
 
 searched : (C : Setup) (n noise raw b : ℕ) → Saw C (search n noise raw) b (searching n noise raw b)
 unfolding searching

@@ -15,8 +15,8 @@ use Rattle.frame.specs.Frame.{missing, escSeq, restartSeq}
 use Rattle.frame.proofs.Cases.{either}
 use Rattle.decoder.specs.Push as P
 use Rattle.decoder.specs.Push.{Setup, Mem, State, body, escape, done, silent, discarded, badEscape, says, put, searching, store, judge, finish, begun, fresh, early, same, sound?, computed, padOf, crcRead, step}
-use Rattle.decoder.specs.Record.{after, answerOf, numbered, setup, memOf, viewAs, view, waiting, packed, pack, wrote, written, badState, wrongBuffer, pushed, pushRecord, Answer, payload}
-use Rattle.decoder.specs.Cut.{codeEvent, code, Cut, cut, told, grown, freshWith, storeStep, normalStep, escapeAt, waitStep, four, judgedAt, sound, verdict, computedCrc, endStep, otherStep, judgeStep, escapeStep, stepOf}
+use Rattle.decoder.specs.Record.{after, answerOf, numbered, setup, memOf, stateAs, stateOf, waiting, recordWith, recordOf, wrote, written, badDecoder, wrongBuffer, pushed, pushRecord, Answer, payload}
+use Rattle.decoder.specs.Cut.{codeEvent, code, Cut, cut, toldCut, storedOn, freshWith, storeStep, normalStep, escapeAt, waitStep, four, judgedAt, sound, verdict, computedCrc, endStep, otherStep, judgeStep, escapeStep, stepCut}
 use Rattle.decoder.specs.declared.DecodeState.{DecodeState}
 use Rattle.decoder.specs.declared.DecodeState.the-variants.{LookingForMessageStart, ParsingNormal, ParsingEscChars, ParsingEscPayload, Done}
 use Rattle.decoder.specs.declared.Decoder.{Decoder}
@@ -26,7 +26,7 @@ use Rattle.decoder.specs.declared.Pushed.{Pushed}
 use Rattle.decoder.proofs.Valid.{sane, sane-wait, sane-escape}
 use Rattle.decoder.proofs.Split.{cases, split}
 use Rattle.decoder.proofs.Payload.{got-done}
-use Rattle.decoder.proofs.Faithful.{contents, Holds, kept-first, holds-view, fill-view, Fit, fit-length, push-good}
+use Rattle.decoder.proofs.Faithful.{contents, HeldIn, kept-first, holds-view, fill-view, Fit, fit-length, push-good}
 
 -- the code's answer, made from the step
 abbrev pub coded : Setup → List ℕ → State → ℕ → Cut
@@ -62,7 +62,7 @@ module _ (C : Setup) (b : ℕ) (m : List ℕ) (q : Mem) (holds : take (length (q
   f = length (q .stored)
 
   -- one law for the bytes stored behind n waiting ones
-  tied-store : (n : ℕ) → (b ≡ 0x1b → ⊥) → (d : Decoder) → d ≡ pack C (body n q) → storeStep d m (replicate n 0x1b ++ b ∷ []) ≡ coded C m (body n q) b
+  tied-store : (n : ℕ) → (b ≡ 0x1b → ⊥) → (d : Decoder) → d ≡ recordOf C (body n q) → storeStep d m (replicate n 0x1b ++ b ∷ []) ≡ coded C m (body n q) b
   unfolding step wrote store
   tied-store n ne d e =
       let w : List ℕ = replicate n 0x1b ++ b ∷ [] in
@@ -73,18 +73,18 @@ module _ (C : Setup) (b : ℕ) (m : List ℕ) (q : Mem) (holds : take (length (q
   unseen : take (f - q .idx) (drop (q .idx) m) ≡ drop (q .idx) (q .stored)
   unseen = sym (drop-take (q .idx) f m) ∙ ap (drop (q .idx)) holds
 
-  tied-body : (n : ℕ) → stepOf (waiting n) (pack C (body n q)) m b ≡ coded C m (body n q) b
-  unfolding stepOf normalStep waitStep escapeAt step wrote
+  tied-body : (n : ℕ) → stepCut (waiting n) (recordOf C (body n q)) m b ≡ coded C m (body n q) b
+  unfolding stepCut normalStep waitStep escapeAt step wrote
   tied-body zero =
       either b 0x1b
       (λ e. rw (eq-eqb b 0x1b e, written-nil m f))
-      (λ ne. normal-other (pack C (body 0 q)) m b ne ∙ tied-store 0 ne (pack C (body 0 q)) refl)
+      (λ ne. normal-other (recordOf C (body 0 q)) m b ne ∙ tied-store 0 ne (recordOf C (body 0 q)) refl)
   tied-body (suc n) =
       either b 0x1b
       (λ e. either (suc n) 3
       (λ g. rw (eq-eqb b 0x1b e, eq-eqb (suc n) 3 g, unseen, written-nil m f))
       (λ g. rw (eq-eqb b 0x1b e, ne-eqb (suc n) 3 g, add-one (suc n), written-nil m f)))
-      (λ ne. wait-other (pack C (body (suc n) q)) m (suc n) b ne ∙ tied-store (suc n) ne (pack C (body (suc n) q)) refl)
+      (λ ne. wait-other (recordOf C (body (suc n) q)) m (suc n) b ne ∙ tied-store (suc n) ne (recordOf C (body (suc n) q)) refl)
 
 -- ---- the judge
 
@@ -96,7 +96,7 @@ module _ (C : Setup) (m : List ℕ) (q : Mem) (holds : take (length (q .stored))
   last = drop (g - 4) (q .stored)
 
   abbrev d : Decoder
-  d = pack C (escape 3 q)
+  d = recordOf C (escape 3 q)
 
   four-is : four g m ≡ last
   four-is =
@@ -148,19 +148,19 @@ module _ (C : Setup) (m : List ℕ) (q : Mem) (holds : take (length (q .stored))
 -- ---- an escape
 
 tied-last : (C : Setup) (b k : ℕ) (m : List ℕ) (q : Mem) → take (length (q .stored)) m ≡ q .stored → length (q .stored) + 1 ≤ length m → 3 ≤ length (q .stored)
-    → judgeStep (grown (pack C (escape k q)) 1 (ParsingEscPayload 3)) (sets m (length (q .stored)) (b ∷ []))
+    → judgeStep (storedOn (recordOf C (escape k q)) 1 (ParsingEscPayload 3)) (sets m (length (q .stored)) (b ∷ []))
     ≡ code C (judge (put q (b ∷ [])) (drop (length (q .stored ++ b ∷ []) - 4) (q .stored ++ b ∷ [])))
 tied-last C b k m q holds fit long =
     let f : ℕ = length (q .stored) in
     let M : List ℕ = sets m f (b ∷ []) in
-    let d : grown (pack C (escape k q)) 1 (ParsingEscPayload 3) ≡ pack C (escape 3 (put q (b ∷ []))) = rw (length-append (q .stored) (b ∷ [])) in
+    let d : storedOn (recordOf C (escape k q)) 1 (ParsingEscPayload 3) ≡ recordOf C (escape 3 (put q (b ∷ []))) = rw (length-append (q .stored) (b ∷ [])) in
     let w : M ≡ (q .stored ++ b ∷ []) ++ drop (f + 1) m = written-sets m (b ∷ []) f fit ∙ rw holds (sym (append-assoc (q .stored) (b ∷ []) (drop (f + 1) m))) in
     let h : take (length (q .stored ++ b ∷ [])) M ≡ q .stored ++ b ∷ [] = rw w (take-at (q .stored ++ b ∷ []) (drop (f + 1) m) (length (q .stored ++ b ∷ [])) refl) in
     ap (λ (x : Decoder). judgeStep x M) d ∙ tied-judge C M (put q (b ∷ [])) h (simp length-append (omega arith))
 
 tied-escape : (C : Setup) (b k : ℕ) (m : List ℕ) (q : Mem) → take (length (q .stored)) m ≡ q .stored → length m ≡ C .capacity → k ≤ 3 → k ≤ length (q .stored)
-    → stepOf (ParsingEscPayload k) (pack C (escape k q)) m b ≡ coded C m (escape k q) b
-unfolding stepOf escapeStep step wrote store
+    → stepCut (ParsingEscPayload k) (recordOf C (escape k q)) m b ≡ coded C m (escape k q) b
+unfolding stepCut escapeStep step wrote store
 tied-escape C b k m q holds lent le long =
     split (f + 1) (C .capacity)
     (λ fit.
@@ -177,20 +177,20 @@ tied-escape C b k m q holds lent le long =
 
 -- inside a frame a record is the packed form of its state
 same-record : (d : Decoder) (m : List ℕ) (s : DecodeState) → d .state ≡ s → d .fill ≤ length m
-    → d ≡ packed (setup d) (length (take (d .fill) m)) (d .«raw_msg_len») (d .crc) (d .«crc_idx») s
+    → d ≡ recordWith (setup d) (length (take (d .fill) m)) (d .«raw_msg_len») (d .crc) (d .«crc_idx») s
 same-record d m s e l =
     let n : d .fill ≡ length (take (d .fill) m) = sym (length-take-le (d .fill) m l) in
     λ i. record { capacity = d .capacity; fill = n i; «raw_msg_len» = d .«raw_msg_len»; crc = d .crc; «crc_idx» = d .«crc_idx»; state = e i }
 
 tied-wait : (d : Decoder) (m : List ℕ) (b n : ℕ) → d .state ≡ waiting n → d .fill ≤ length m → length m ≡ d .capacity
-    → stepOf (waiting n) d m b ≡ coded (setup d) m (body n (memOf d m)) b
+    → stepCut (waiting n) d m b ≡ coded (setup d) m (body n (memOf d m)) b
 tied-wait d m b n e l lent =
-    ap (λ (x : Decoder). stepOf (waiting n) x m b) (same-record d m (waiting n) e l)
+    ap (λ (x : Decoder). stepCut (waiting n) x m b) (same-record d m (waiting n) e l)
     ∙ tied-body (setup d) b m (memOf d m) (rw (length-take-le (d .fill) m l)) lent n
 
-tied-as : (d : Decoder) (m : List ℕ) (b : ℕ) (s : DecodeState) → d .state ≡ s → badState d ≡ false → length m ≡ d .capacity
-    → stepOf s d m b ≡ coded (setup d) m (viewAs s d m) b
-unfolding stepOf step wrote
+tied-as : (d : Decoder) (m : List ℕ) (b : ℕ) (s : DecodeState) → d .state ≡ s → badDecoder d ≡ false → length m ≡ d .capacity
+    → stepCut s d m b ≡ coded (setup d) m (stateAs s d m) b
+unfolding stepCut step wrote
 tied-as d m b (LookingForMessageStart n noise) e g lent = refl
 tied-as d m b Done e g lent = ap (cut (code (setup d) (searching 0 0 0 b))) (sym (written-nil m (length (take (d .fill) m))))
 tied-as d m b ParsingNormal e g lent = tied-wait d m b 0 e (omega (arith, sane d g .0)) lent
@@ -200,55 +200,55 @@ tied-as d m b (ParsingEscPayload k) e g lent =
     let l : d .fill ≤ length m = omega (arith, sane d g .0) in
     let h = sane-escape d g k e in
     let n : length (take (d .fill) m) ≡ d .fill = length-take-le (d .fill) m l in
-    ap (λ (x : Decoder). stepOf (ParsingEscPayload k) x m b) (same-record d m (ParsingEscPayload k) e l)
+    ap (λ (x : Decoder). stepCut (ParsingEscPayload k) x m b) (same-record d m (ParsingEscPayload k) e l)
     ∙ tied-escape (setup d) b k m (memOf d m) (rw n) lent (h .1) (rw n (omega arith))
 
 -- the code's event has document 01's number and values of the step's; a payload is the first bytes of the memory
-told-event : (e : P.Event) (bytes : List ℕ) → ((l : List ℕ) → e ≡ P.got l → bytes ≡ l) → answerOf (codeEvent e) bytes ≡ numbered e
+told-event : (e : P.PushEvent) (bytes : List ℕ) → ((l : List ℕ) → e ≡ P.paysOut l → bytes ≡ l) → answerOf (codeEvent e) bytes ≡ numbered e
 told-event P.silent bytes h = refl
 told-event (P.discarded n) bytes h = refl
-told-event (P.got l) bytes h = ap payload (h l refl)
+told-event (P.paysOut l) bytes h = ap payload (h l refl)
 told-event P.memory bytes h = refl
 told-event (P.badEscape a b c d) bytes h = refl
 told-event (P.badMessage read c mis p) bytes h = refl
 
-held : (C : Setup) (s : State) (m l : List ℕ) → s ≡ done l → Holds s m → take (pack C s .fill) m ≡ l
-unfolding Holds
+held : (C : Setup) (s : State) (m l : List ℕ) → s ≡ done l → HeldIn s m → take (recordOf C s .fill) m ≡ l
+unfolding HeldIn
 held C s m l e h =
-    let k : Holds (done l) m = rw e at h in
+    let k : HeldIn (done l) m = rw e at h in
     rw e k
 
-told-coded : (C : Setup) (m : List ℕ) (s : State) (b : ℕ) → Holds s m
-    → told (coded C m s b) ≡ after (numbered ((step C s b) .event)) (pack C ((step C s b) .state)) (written m (length (contents s)) (wrote C s b))
+told-coded : (C : Setup) (m : List ℕ) (s : State) (b : ℕ) → HeldIn s m
+    → toldCut (coded C m s b) ≡ after (numbered ((step C s b) .event)) (recordOf C ((step C s b) .state)) (written m (length (contents s)) (wrote C s b))
 told-coded C m s b h =
-    ap (λ (a : Answer). after a (pack C ((step C s b) .state)) (written m (length (contents s)) (wrote C s b)))
+    ap (λ (a : Answer). after a (recordOf C ((step C s b) .state)) (written m (length (contents s)) (wrote C s b)))
     (told-event ((step C s b) .event) _ (λ l e. held C ((step C s b) .state) _ l (got-done C s b l e) (kept-first C s b m h)))
 
 -- the law
-pub tied : (d : Decoder) (m : List ℕ) (b : ℕ) → Fit d m → told (stepOf (d .state) d m b) ≡ pushRecord d m b
+pub tied : (d : Decoder) (m : List ℕ) (b : ℕ) → Fit d m → toldCut (stepCut (d .state) d m b) ≡ pushRecord d m b
 unfolding pushed
 tied d m b f =
     let lent : length m ≡ d .capacity = fit-length d m f in
-    ap told (tied-as d m b (d .state) refl (f .state) lent)
-    ∙ told-coded (setup d) m (view d m) b (holds-view d m (f .state) lent)
-    ∙ ap (λ (n : ℕ). after (numbered ((step (setup d) (view d m) b) .event)) (pack (setup d) ((step (setup d) (view d m) b) .state)) (written m n (wrote (setup d) (view d m) b)))
+    ap toldCut (tied-as d m b (d .state) refl (f .state) lent)
+    ∙ told-coded (setup d) m (stateOf d m) b (holds-view d m (f .state) lent)
+    ∙ ap (λ (n : ℕ). after (numbered ((step (setup d) (stateOf d m) b) .event)) (recordOf (setup d) ((step (setup d) (stateOf d m) b) .state)) (written m n (wrote (setup d) (stateOf d m) b)))
     (sym (fill-view d m (f .state) lent))
     ∙ sym (push-good d m b f)
 
 -- ---- a push, by what the tests said
 
-pub push-bad : (d : Decoder) (m : List ℕ) (b : ℕ) → badState d ≡ true → told (cut (record { decoder = d; event = BadState }) m) ≡ pushRecord d m b
+pub push-bad : (d : Decoder) (m : List ℕ) (b : ℕ) → badDecoder d ≡ true → toldCut (cut (record { decoder = d; event = BadState }) m) ≡ pushRecord d m b
 unfolding pushRecord
 push-bad d m b e = rw e
 
-pub push-wrong : (d : Decoder) (m : List ℕ) (b : ℕ) → badState d ≡ false → wrongBuffer (d .capacity) (length m) ≡ true
-    → told (cut (record { decoder = d; event = WrongBuffer }) m) ≡ pushRecord d m b
+pub push-wrong : (d : Decoder) (m : List ℕ) (b : ℕ) → badDecoder d ≡ false → wrongBuffer (d .capacity) (length m) ≡ true
+    → toldCut (cut (record { decoder = d; event = WrongBuffer }) m) ≡ pushRecord d m b
 unfolding pushRecord
 push-wrong d m b e w = rw (e, w)
 
-pub push-step : (d : Decoder) (m : List ℕ) (b : ℕ) (s : DecodeState) (r : Cut) → badState d ≡ false → wrongBuffer (d .capacity) (length m) ≡ false
-    → d .state ≡ s → r ≡ stepOf s d m b → told r ≡ pushRecord d m b
-push-step d m b s r e w q h = ap told (h ∙ ap (λ (x : DecodeState). stepOf x d m b) (sym q)) ∙ tied d m b (record { state = e; buffer = w })
+pub push-step : (d : Decoder) (m : List ℕ) (b : ℕ) (s : DecodeState) (r : Cut) → badDecoder d ≡ false → wrongBuffer (d .capacity) (length m) ≡ false
+    → d .state ≡ s → r ≡ stepCut s d m b → toldCut r ≡ pushRecord d m b
+push-step d m b s r e w q h = ap toldCut (h ∙ ap (λ (x : DecodeState). stepCut x d m b) (sym q)) ∙ tied d m b (record { state = e; buffer = w })
 
 -- ---- and the last of the four bytes, in the code's words
 

@@ -9,8 +9,8 @@ use lib.Seq.{length-take-le}
 use lib.Dec.{eqb, ltb}
 use borrow.Author.Tests.{ltb-false, eqb-true, eqb-false, le-ltb, ne-eqb}
 use Rattle.decoder.specs.Push.{Setup, Mem, State, search, body, escape, done, Out, fresh, step, put}
-use Rattle.decoder.specs.Record.{setup, viewAs, view, pack, badIn, badState, wrongBuffer}
-use Rattle.decoder.specs.Saw.{Judged, is-data, restarts, good, bad, shifts, refused, Saw, matched, began, missed, again, waits, opens, stores, full, reads, judges, full′}
+use Rattle.decoder.specs.Record.{setup, stateAs, stateOf, recordOf, badIn, badDecoder, wrongBuffer}
+use Rattle.decoder.specs.Saw.{Judged, is-data, restarts, good, bad, shifts, unknown, Saw, matched, began, missed, again, waits, opens, stores, full, reads, judges, full′}
 use Rattle.decoder.specs.declared.DecodeState.{DecodeState}
 use Rattle.decoder.specs.declared.DecodeState.the-variants.{LookingForMessageStart, ParsingNormal, ParsingEscChars, ParsingEscPayload, Done}
 use Rattle.decoder.specs.declared.Decoder.{Decoder}
@@ -29,7 +29,7 @@ valid-judged C m four o f i r (restarts e) = omega arith
 valid-judged C m four o f i r (good e h) = simp length-take (omega arith)
 valid-judged C m four o f i r (bad e h) = omega arith
 valid-judged C m four o f i r (shifts a e lo hi t) = omega arith
-valid-judged C m four o f i r (refused a b c d) = omega arith
+valid-judged C m four o f i r (unknown a b c d) = omega arith
 
 valid-saw : (C : Setup) (s : State) (b : ℕ) (o : Out) → Valid C s → Saw C s b o → Valid C (o .state)
 valid-saw C s b o v (matched t ne) = omega arith
@@ -48,8 +48,8 @@ valid-saw C s b o v (full′ h) = omega arith
 pub valid-step : (C : Setup) (s : State) (b : ℕ) → Valid C s → Valid C ((step C s b) .state)
 valid-step C s b v = valid-saw C s b (step C s b) v (saw C s b)
 
-pub not-bad : (C : Setup) (s : State) → Valid C s → badState (pack C s) ≡ false
-unfolding badState
+pub not-bad : (C : Setup) (s : State) → Valid C s → badDecoder (recordOf C s) ≡ false
+unfolding badDecoder
 not-bad C (search n noise raw) v = rw (le-ltb (C .capacity) 0 (omega arith), le-ltb 7 n v)
 not-bad C (body zero q) v = rw (le-ltb (C .capacity) (length (q .stored)) (v .1), le-ltb (length (q .stored)) (q .idx) (v .2), le-ltb (q .raw) 8 (v .3))
 not-bad C (body (suc n) q) v =
@@ -68,15 +68,15 @@ pub if-false : (a b : Bool) → cond a b true ≡ false → (a ≡ true) × (b �
 if-false true b e = (refl, e)
 if-false false b e = (cc, cc)
 
-pub sane : (d : Decoder) → badState d ≡ false
+pub sane : (d : Decoder) → badDecoder d ≡ false
     → (d .fill ≤ d .capacity) × (d .«crc_idx» ≤ d .fill) × (badIn (d .fill) (d .«crc_idx») (d .«raw_msg_len») (d .state) ≡ false)
-unfolding badState
+unfolding badDecoder
 sane d e =
     let p = or-false (ltb (d .capacity) (d .fill)) _ e in
     let q = or-false (ltb (d .fill) (d .«crc_idx»)) _ (p .1) in
     (ltb-false _ _ (p .0), ltb-false _ _ (q .0), q .1)
 
-module _ (d : Decoder) (g : badState d ≡ false) where
+module _ (d : Decoder) (g : badDecoder d ≡ false) where
   pub sane-search : (noise n : ℕ) → d .state ≡ LookingForMessageStart n noise → (d .fill ≡ 0) × (n < 8)
   sane-search noise n s =
       let h : cond (eqb (d .fill) 0) (ltb 7 n) true ≡ false = rw s at (sane d g .2) in
@@ -110,7 +110,7 @@ right-buffer C n e =
     (eqb-true n C (p .0), ltb-false 1048576 n (p .1))
 
 -- the state of a record that is not refused, with a buffer of the recorded length
-valid-as : (d : Decoder) (m : List ℕ) (s : DecodeState) → d .state ≡ s → badState d ≡ false → length m ≡ d .capacity → Valid (setup d) (viewAs s d m)
+valid-as : (d : Decoder) (m : List ℕ) (s : DecodeState) → d .state ≡ s → badDecoder d ≡ false → length m ≡ d .capacity → Valid (setup d) (stateAs s d m)
 valid-as d m (LookingForMessageStart n noise) e g l = omega (arith, sane-search d g noise n e .1)
 valid-as d m ParsingNormal e g l =
     let n = length-take-le (d .fill) m (omega (arith, sane d g .0)) in
@@ -123,5 +123,5 @@ valid-as d m (ParsingEscPayload k) e g l =
     rw n (sane-escape d g k e .1, sane d g .0, sane-escape d g k e .0, sane-escape d g k e .2)
 valid-as d m Done e g l = rw (length-take-le (d .fill) m (omega (arith, sane d g .0))) (sane d g .0)
 
-pub valid-view : (d : Decoder) (m : List ℕ) → badState d ≡ false → length m ≡ d .capacity → Valid (setup d) (view d m)
+pub valid-view : (d : Decoder) (m : List ℕ) → badDecoder d ≡ false → length m ≡ d .capacity → Valid (setup d) (stateOf d m)
 valid-view d m g l = valid-as d m (d .state) refl g l

@@ -9,7 +9,7 @@ use Rattle.crc_x25.specs.Crc.{register, finalXor}
 use Rattle.frame.specs.Frame.{escSeq, restartSeq, missing}
 use Rattle.decoder.specs.Push as P
 use Rattle.decoder.specs.Push.{Setup, Out, fresh, begun, stopped, searching, same, early}
-use Rattle.decoder.specs.Record.{After, leaves, setup, packed, pack, badState, wrongBuffer}
+use Rattle.decoder.specs.Record.{After, afterPush, setup, recordWith, recordOf, badDecoder, wrongBuffer}
 use Rattle.decoder.specs.declared.DecodeState.{DecodeState}
 use Rattle.decoder.specs.declared.DecodeState.the-variants.{LookingForMessageStart, ParsingNormal, ParsingEscChars, ParsingEscPayload, Done}
 use Rattle.decoder.specs.declared.Decoder.{Decoder}
@@ -19,16 +19,16 @@ use Rattle.decoder.specs.declared.Pushed.{Pushed}
 
 -- ---- the code's words for what a step says
 
-abbrev pub codeEvent : P.Event → Event
+abbrev pub codeEvent : P.PushEvent → Event
 codeEvent P.silent = Nothing
 codeEvent (P.discarded n) = DiscardedBytes n
-codeEvent (P.got bytes) = Payload
+codeEvent (P.paysOut bytes) = Payload
 codeEvent P.memory = OutOfMemory
 codeEvent (P.badEscape a b c d) = InvalidEsc a b c d
 codeEvent (P.badMessage read computed misaligned p) = InvalidMessage read computed misaligned p
 
 abbrev pub code : Setup → Out → Pushed
-code C o = record { decoder = pack C (o .state); event = codeEvent (o .event) }
+code C o = record { decoder = recordOf C (o .state); event = codeEvent (o .event) }
 
 -- what a function gave, and the memory as it is then
 pub record Cut : Type 0 where
@@ -38,48 +38,48 @@ pub record Cut : Type 0 where
 abbrev pub cut : Pushed → List ℕ → Cut
 cut r m = record { answer = r; memory = m }
 
-abbrev pub told : Cut → After
-told c = leaves (c .answer) (c .memory)
+abbrev pub toldCut : Cut → After
+toldCut c = afterPush (c .answer) (c .memory)
 
 -- ---- records made from a record
 
 -- one byte more pushed and k stored, in state s
-abbrev pub grown : Decoder → ℕ → DecodeState → Decoder
-grown d k s = packed (setup d) (d .fill + k) (stopped (suc (d .«raw_msg_len»))) (d .crc) (d .«crc_idx») s
+abbrev pub storedOn : Decoder → ℕ → DecodeState → Decoder
+storedOn d k s = recordWith (setup d) (d .fill + k) (stopped (suc (d .«raw_msg_len»))) (d .crc) (d .«crc_idx») s
 
 -- one byte more pushed and none stored
-abbrev pub moved : Decoder → DecodeState → Decoder
-moved d s = packed (setup d) (d .fill) (stopped (suc (d .«raw_msg_len»))) (d .crc) (d .«crc_idx») s
+abbrev pub pushedOn : Decoder → DecodeState → Decoder
+pushedOn d s = recordWith (setup d) (d .fill) (stopped (suc (d .«raw_msg_len»))) (d .crc) (d .«crc_idx») s
 
 abbrev pub inState : Decoder → DecodeState → Decoder
-inState d s = packed (setup d) (d .fill) (d .«raw_msg_len») (d .crc) (d .«crc_idx») s
+inState d s = recordWith (setup d) (d .fill) (d .«raw_msg_len») (d .crc) (d .«crc_idx») s
 
 abbrev pub quiet : Decoder → Pushed
 quiet d = record { decoder = d; event = Nothing }
 
 abbrev pub freshWith : ℕ → Event → Pushed
-freshWith capacity e = record { decoder = pack (record { capacity = capacity }) fresh; event = e }
+freshWith capacity e = record { decoder = recordOf (record { capacity = capacity }) fresh; event = e }
 
 -- ---- storing
 
 abbrev pub storeStep : Decoder → List ℕ → List ℕ → Cut
 storeStep d m vs =
     cond (leb (d .fill + length vs) (length m))
-    (cut (quiet (grown d (length vs) ParsingNormal)) (sets m (d .fill) vs))
+    (cut (quiet (storedOn d (length vs) ParsingNormal)) (sets m (d .fill) vs))
     (cut (freshWith (d .capacity) OutOfMemory) m)
 
 unfoldable pub normalStep : Decoder → List ℕ → ℕ → Cut
-normalStep d m b = cond (eqb b 0x1b) (cut (quiet (moved d (ParsingEscChars 1))) m) (storeStep d m (b ∷ []))
+normalStep d m b = cond (eqb b 0x1b) (cut (quiet (pushedOn d (ParsingEscChars 1))) m) (storeStep d m (b ∷ []))
 
 unfoldable pub escapeAt : Decoder → List ℕ → Decoder
 escapeAt d m =
-    packed (setup d) (d .fill) (stopped (suc (d .«raw_msg_len»)))
+    recordWith (setup d) (d .fill) (stopped (suc (d .«raw_msg_len»)))
     (register (register (d .crc) (take (d .fill - d .«crc_idx») (drop (d .«crc_idx») m))) escSeq) (d .fill) (ParsingEscPayload 0)
 
 unfoldable pub waitStep : Decoder → List ℕ → ℕ → ℕ → Cut
 waitStep d m n b =
     cond (eqb b 0x1b)
-    (cond (eqb n 3) (cut (quiet (escapeAt d m)) m) (cut (quiet (moved d (ParsingEscChars (n + 1)))) m))
+    (cond (eqb n 3) (cut (quiet (escapeAt d m)) m) (cut (quiet (pushedOn d (ParsingEscChars (n + 1)))) m))
     (storeStep d m (replicate n 0x1b ++ (b ∷ [])))
 
 -- ---- judging, where the last of the four bytes has been stored
@@ -97,7 +97,7 @@ sound f read computed p = cond (eqb read computed) (cond (eqb (f % 4) 0) (cond (
 unfoldable pub verdict : ℕ → ℕ → ℕ → ℕ → ℕ → Pushed
 verdict capacity f read computed p =
     cond (sound f read computed p)
-    (record { decoder = packed (record { capacity = capacity }) (f - (p + 4)) 0 0xffff 0 Done; event = Payload })
+    (record { decoder = recordWith (record { capacity = capacity }) (f - (p + 4)) 0 0xffff 0 Done; event = Payload })
     (freshWith capacity (InvalidMessage read computed (not (eqb (f % 4) 0)) p))
 
 abbrev pub computedCrc : Decoder → List ℕ → ℕ
@@ -118,25 +118,25 @@ judgeStep d m =
     cond (same (four (d .fill) m) escSeq)
     (quiet (inState d ParsingNormal))
     (cond (same (four (d .fill) m) restartSeq)
-    (record { decoder = pack (setup d) begun; event = DiscardedBytes (d .«raw_msg_len» - 8) })
+    (record { decoder = recordOf (setup d) begun; event = DiscardedBytes (d .«raw_msg_len» - 8) })
     (cond (eqb (judgedAt (d .fill) m 0) 0x1a) (endStep d m) (otherStep d m)))
 
 unfoldable pub escapeStep : Decoder → List ℕ → ℕ → ℕ → Cut
 escapeStep d m k b =
     cond (leb (d .fill + 1) (length m))
     (cond (ltb k 3)
-    (cut (quiet (grown d 1 (ParsingEscPayload (k + 1)))) (sets m (d .fill) (b ∷ [])))
-    (cut (judgeStep (grown d 1 (ParsingEscPayload 3)) (sets m (d .fill) (b ∷ []))) (sets m (d .fill) (b ∷ []))))
+    (cut (quiet (storedOn d 1 (ParsingEscPayload (k + 1)))) (sets m (d .fill) (b ∷ [])))
+    (cut (judgeStep (storedOn d 1 (ParsingEscPayload 3)) (sets m (d .fill) (b ∷ []))) (sets m (d .fill) (b ∷ []))))
     (cut (freshWith (d .capacity) OutOfMemory) m)
 
 -- ---- a push that is not refused
 
-unfoldable pub stepOf : DecodeState → Decoder → List ℕ → ℕ → Cut
-stepOf (LookingForMessageStart n noise) d m b = cut (code (setup d) (searching n noise (d .«raw_msg_len») b)) m
-stepOf ParsingNormal d m b = normalStep d m b
-stepOf (ParsingEscChars n) d m b = waitStep d m n b
-stepOf (ParsingEscPayload k) d m b = escapeStep d m k b
-stepOf Done d m b = cut (code (setup d) (searching 0 0 0 b)) m
+unfoldable pub stepCut : DecodeState → Decoder → List ℕ → ℕ → Cut
+stepCut (LookingForMessageStart n noise) d m b = cut (code (setup d) (searching n noise (d .«raw_msg_len») b)) m
+stepCut ParsingNormal d m b = normalStep d m b
+stepCut (ParsingEscChars n) d m b = waitStep d m n b
+stepCut (ParsingEscPayload k) d m b = escapeStep d m k b
+stepCut Done d m b = cut (code (setup d) (searching 0 0 0 b)) m
 
 -- ---- what finalize and reset ask
 
@@ -164,8 +164,8 @@ isNormal (ParsingEscPayload k) = false
 isNormal Done = false
 
 -- a byte of a frame that is no 1b and has room, with record and buffer as they should be
-unfoldable pub plain : Decoder → ℕ → ℕ → Bool
-plain d lent b =
+unfoldable pub plainByte : Decoder → ℕ → ℕ → Bool
+plainByte d lent b =
     cond (eqb b 0x1b) false
     (cond (leb lent (d .fill)) false
     (cond (ltb (d .fill) (d .«crc_idx»)) false
@@ -174,4 +174,4 @@ plain d lent b =
 -- ---- a payload in the buffer
 
 unfoldable pub payloadIn : Decoder → ℕ → Bool
-payloadIn d lent = cond (badState d) false (cond (wrongBuffer (d .capacity) lent) false (isDone (d .state)))
+payloadIn d lent = cond (badDecoder d) false (cond (wrongBuffer (d .capacity) lent) false (isDone (d .state)))

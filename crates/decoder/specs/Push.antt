@@ -24,19 +24,19 @@ pub data State : Type 0 where
   escape : ℕ → Mem → State  -- 0 to 3 bytes behind an escape read
   done : List ℕ → State  -- behind a payload
 
-pub data Event : Type 0 where
-  silent : Event
-  discarded : ℕ → Event
-  got : List ℕ → Event
-  memory : Event
-  badEscape : ℕ → ℕ → ℕ → ℕ → Event
-  badMessage : ℕ → ℕ → Bool → ℕ → Event  -- CRC read, CRC computed, misaligned, pad count
+pub data PushEvent : Type 0 where
+  silent : PushEvent
+  discarded : ℕ → PushEvent
+  paysOut : List ℕ → PushEvent
+  memory : PushEvent
+  badEscape : ℕ → ℕ → ℕ → ℕ → PushEvent
+  badMessage : ℕ → ℕ → Bool → ℕ → PushEvent  -- CRC read, CRC computed, misaligned, pad count
 
 pub record Out : Type 0 where
   pub state : State
-  pub event : Event
+  pub event : PushEvent
 
-abbrev pub says : State → Event → Out
+abbrev pub says : State → PushEvent → Out
 says s e = record { state = s; event = e }
 
 -- counts stop at 4,294,967,295
@@ -53,7 +53,7 @@ begun = body 0 (record { stored = []; reg = register start startSeq; idx = 0; ra
 -- ---- searching
 
 -- noise over 0 is an event
-abbrev pub noticed : ℕ → Event
+abbrev pub noticed : ℕ → PushEvent
 noticed noise = cond (eqb noise 0) silent (discarded noise)
 
 -- behind n matched start bytes, is b the next one?
@@ -115,7 +115,7 @@ sound? m p read =
 unfoldable pub finish : Mem → ℕ → ℕ → Out
 finish m p read =
     let payload : List ℕ = take (length (m .stored) - 4 - p) (m .stored) in
-    cond (sound? m p read) (says (done payload) (got payload)) (says fresh (badMessage read (computed m) (misaligned m) p))
+    cond (sound? m p read) (says (done payload) (paysOut payload)) (says fresh (badMessage read (computed m) (misaligned m) p))
 
 -- a > 0, the first a of the four are 1b and the next is 1a
 abbrev pub early : ℕ → List ℕ → Bool
@@ -152,7 +152,7 @@ step C (escape k m) b =
 -- ---- finalize and reset, both of which leave the state fresh
 
 -- no event on a fresh search or behind a payload
-unfoldable pub finalized : State → Event
+unfoldable pub finalized : State → PushEvent
 finalized (search n noise raw) = cond (eqb n 0) (cond (eqb noise 0) silent (discarded raw)) (discarded raw)
 finalized (body n m) = discarded (m .raw)
 finalized (escape k m) = discarded (m .raw)

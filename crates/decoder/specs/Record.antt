@@ -14,7 +14,7 @@ use Rattle.decoder.specs.declared.Event.{Event}
 use Rattle.decoder.specs.declared.Event.the-variants.{Nothing, Payload, DiscardedBytes, InvalidEsc, OutOfMemory, InvalidMessage, BadState, WrongBuffer}
 use Rattle.decoder.specs.declared.Pushed.{Pushed}
 use Rattle.decoder.specs.declared.Finalized.{Finalized}
-use Rattle.decoder.specs.declared.Resetted.{Resetted}
+use Rattle.decoder.specs.declared.AfterReset.{AfterReset}
 use Rattle.decoder.specs.declared.Asked.{Asked}
 use Rattle.decoder.specs.declared.Asked.the-variants.{Good, BadSpan}
 
@@ -24,31 +24,31 @@ pub data Answer : Type 0 where
   nothing : Answer
   payload : List ℕ → Answer  -- the payload's bytes
   count : ℕ → Answer  -- what reset gives
-  refused : ℕ → List ℕ → Answer  -- document 01's number, and the values
+  refusal : ℕ → List ℕ → Answer  -- document 01's number, and the values
 
 -- misaligned 1, aligned 0
 abbrev pub flag : Bool → ℕ
 flag true = 1
 flag false = 0
 
-abbrev pub numbered : P.Event → Answer
+abbrev pub numbered : P.PushEvent → Answer
 numbered P.silent = nothing
-numbered (P.got bytes) = payload bytes
-numbered P.memory = refused 3 []
-numbered (P.discarded n) = refused 6 (n ∷ [])
-numbered (P.badEscape a b c d) = refused 7 (a ∷ b ∷ c ∷ d ∷ [])
-numbered (P.badMessage read computed misaligned p) = refused 8 (read ∷ computed ∷ flag misaligned ∷ p ∷ [])
+numbered (P.paysOut bytes) = payload bytes
+numbered P.memory = refusal 3 []
+numbered (P.discarded n) = refusal 6 (n ∷ [])
+numbered (P.badEscape a b c d) = refusal 7 (a ∷ b ∷ c ∷ d ∷ [])
+numbered (P.badMessage read computed misaligned p) = refusal 8 (read ∷ computed ∷ flag misaligned ∷ p ∷ [])
 
 -- the code's event; `bytes` are those of a payload
 abbrev pub answerOf : Event → List ℕ → Answer
 answerOf Nothing bytes = nothing
 answerOf Payload bytes = payload bytes
-answerOf OutOfMemory bytes = refused 3 []
-answerOf BadState bytes = refused 4 []
-answerOf WrongBuffer bytes = refused 5 []
-answerOf (DiscardedBytes n) bytes = refused 6 (n ∷ [])
-answerOf (InvalidEsc a b c d) bytes = refused 7 (a ∷ b ∷ c ∷ d ∷ [])
-answerOf (InvalidMessage read computed misaligned p) bytes = refused 8 (read ∷ computed ∷ flag misaligned ∷ p ∷ [])
+answerOf OutOfMemory bytes = refusal 3 []
+answerOf BadState bytes = refusal 4 []
+answerOf WrongBuffer bytes = refusal 5 []
+answerOf (DiscardedBytes n) bytes = refusal 6 (n ∷ [])
+answerOf (InvalidEsc a b c d) bytes = refusal 7 (a ∷ b ∷ c ∷ d ∷ [])
+answerOf (InvalidMessage read computed misaligned p) bytes = refusal 8 (read ∷ computed ∷ flag misaligned ∷ p ∷ [])
 
 -- an answer, with the record and the lent memory as they are then
 pub record After : Type 0 where
@@ -60,8 +60,8 @@ abbrev pub after : Answer → Decoder → List ℕ → After
 after a d m = record { answer = a; decoder = d; memory = m }
 
 -- what a push gave; a payload is the first bytes of the lent memory m
-abbrev pub leaves : Pushed → List ℕ → After
-leaves r m = after (answerOf (r .event) (take (r .decoder .fill) m)) (r .decoder) m
+abbrev pub afterPush : Pushed → List ℕ → After
+afterPush r m = after (answerOf (r .event) (take (r .decoder .fill) m)) (r .decoder) m
 
 -- an answer, with the record as it is then
 pub record Left : Type 0 where
@@ -71,15 +71,15 @@ pub record Left : Type 0 where
 abbrev pub left : Answer → Decoder → Left
 left a d = record { answer = a; decoder = d }
 
-abbrev pub leavesFinal : Finalized → Left
-leavesFinal r = left (answerOf (r .event) []) (r .decoder)
+abbrev pub afterFinalize : Finalized → Left
+afterFinalize r = left (answerOf (r .event) []) (r .decoder)
 
-abbrev pub leavesReset : Resetted → Left
-leavesReset r = left (count (r .count)) (r .decoder)
+abbrev pub afterReset : AfterReset → Left
+afterReset r = left (count (r .count)) (r .decoder)
 
 abbrev pub answerAsked : Asked → Answer
 answerAsked Good = nothing
-answerAsked BadSpan = refused 16 []
+answerAsked BadSpan = refusal 16 []
 
 -- ---- the record's state, and the record of a state
 
@@ -90,29 +90,29 @@ setup d = record { capacity = d .capacity }
 abbrev pub memOf : Decoder → List ℕ → Mem
 memOf d m = record { stored = take (d .fill) m; reg = d .crc; idx = d .«crc_idx»; raw = d .«raw_msg_len» }
 
-abbrev pub viewAs : DecodeState → Decoder → List ℕ → State
-viewAs (LookingForMessageStart n noise) d m = search n noise (d .«raw_msg_len»)
-viewAs ParsingNormal d m = body 0 (memOf d m)
-viewAs (ParsingEscChars n) d m = body n (memOf d m)
-viewAs (ParsingEscPayload k) d m = escape k (memOf d m)
-viewAs Done d m = done (take (d .fill) m)
+abbrev pub stateAs : DecodeState → Decoder → List ℕ → State
+stateAs (LookingForMessageStart n noise) d m = search n noise (d .«raw_msg_len»)
+stateAs ParsingNormal d m = body 0 (memOf d m)
+stateAs (ParsingEscChars n) d m = body n (memOf d m)
+stateAs (ParsingEscPayload k) d m = escape k (memOf d m)
+stateAs Done d m = done (take (d .fill) m)
 
-abbrev pub view : Decoder → List ℕ → State
-view d m = viewAs (d .state) d m
+abbrev pub stateOf : Decoder → List ℕ → State
+stateOf d m = stateAs (d .state) d m
 
 abbrev pub waiting : ℕ → DecodeState
 waiting zero = ParsingNormal
 waiting (suc n) = ParsingEscChars (suc n)
 
-abbrev pub packed : Setup → ℕ → ℕ → ℕ → ℕ → DecodeState → Decoder
-packed C fill raw reg idx s = record { capacity = C .capacity; fill = fill; «raw_msg_len» = raw; crc = reg; «crc_idx» = idx; state = s }
+abbrev pub recordWith : Setup → ℕ → ℕ → ℕ → ℕ → DecodeState → Decoder
+recordWith C fill raw reg idx s = record { capacity = C .capacity; fill = fill; «raw_msg_len» = raw; crc = reg; «crc_idx» = idx; state = s }
 
 -- counts that a state doesn't use are 0, and its CRC register is ffff
-abbrev pub pack : Setup → State → Decoder
-pack C (search n noise raw) = packed C 0 raw start 0 (LookingForMessageStart n noise)
-pack C (body n m) = packed C (length (m .stored)) (m .raw) (m .reg) (m .idx) (waiting n)
-pack C (escape k m) = packed C (length (m .stored)) (m .raw) (m .reg) (m .idx) (ParsingEscPayload k)
-pack C (done bytes) = packed C (length bytes) 0 start 0 Done
+abbrev pub recordOf : Setup → State → Decoder
+recordOf C (search n noise raw) = recordWith C 0 raw start 0 (LookingForMessageStart n noise)
+recordOf C (body n m) = recordWith C (length (m .stored)) (m .raw) (m .reg) (m .idx) (waiting n)
+recordOf C (escape k m) = recordWith C (length (m .stored)) (m .raw) (m .reg) (m .idx) (ParsingEscPayload k)
+recordOf C (done bytes) = recordWith C (length bytes) 0 start 0 Done
 
 -- ---- what a push writes
 
@@ -140,8 +140,8 @@ badIn fill idx raw (ParsingEscPayload k) = cond (ltb raw 8) true (cond (ltb 3 k)
 badIn fill idx raw Done = false
 
 -- fill over the recorded capacity; CRC index over fill; or by the state
-unfoldable pub badState : Decoder → Bool
-badState d =
+unfoldable pub badDecoder : Decoder → Bool
+badDecoder d =
     cond (ltb (d .capacity) (d .fill)) true
     (cond (ltb (d .fill) (d .«crc_idx»)) true (badIn (d .fill) (d .«crc_idx») (d .«raw_msg_len») (d .state)))
 
@@ -152,23 +152,23 @@ wrongBuffer recorded lent = cond (eqb lent recorded) (ltb 1048576 lent) true
 -- ---- the public functions
 
 unfoldable pub pushed : Decoder → List ℕ → ℕ → Out → After
-pushed d m b o = after (numbered (o .event)) (pack (setup d) (o .state)) (written m (d .fill) (wrote (setup d) (view d m) b))
+pushed d m b o = after (numbered (o .event)) (recordOf (setup d) (o .state)) (written m (d .fill) (wrote (setup d) (stateOf d m) b))
 
 -- a push: the checks for 4 and 5, then the step
 unfoldable pub pushRecord : Decoder → List ℕ → ℕ → After
 pushRecord d m b =
-    cond (badState d) (after (refused 4 []) d m)
-    (cond (wrongBuffer (d .capacity) (length m)) (after (refused 5 []) d m) (pushed d m b (step (setup d) (view d m) b)))
+    cond (badDecoder d) (after (refusal 4 []) d m)
+    (cond (wrongBuffer (d .capacity) (length m)) (after (refusal 5 []) d m) (pushed d m b (step (setup d) (stateOf d m) b)))
 
 -- finalize and reset look at no stored byte, so the view is over no memory
 unfoldable pub finalizeRecord : Decoder → Left
-finalizeRecord d = cond (badState d) (left (refused 4 []) d) (left (numbered (finalized (view d []))) (pack (setup d) fresh))
+finalizeRecord d = cond (badDecoder d) (left (refusal 4 []) d) (left (numbered (finalized (stateOf d []))) (recordOf (setup d) fresh))
 
 unfoldable pub resetRecord : Decoder → Left
-resetRecord d = left (count (resetCount (view d []))) (pack (setup d) fresh)
+resetRecord d = left (count (resetCount (stateOf d []))) (recordOf (setup d) fresh)
 
 abbrev pub newRecord : ℕ → Decoder
-newRecord capacity = pack (record { capacity = capacity }) fresh
+newRecord capacity = recordOf (record { capacity = capacity }) fresh
 
 -- does a payload stand in the lent memory?
 abbrev pub stands : State → Bool
@@ -178,7 +178,7 @@ stands (escape k m) = false
 stands (done bytes) = true
 
 unfoldable pub hasPayload : Decoder → List ℕ → Bool
-hasPayload d m = cond (badState d) false (cond (wrongBuffer (d .capacity) (length m)) false (stands (view d m)))
+hasPayload d m = cond (badDecoder d) false (cond (wrongBuffer (d .capacity) (length m)) false (stands (stateOf d m)))
 
 -- its part of the memory, or the empty part
 unfoldable pub payloadRecord : Decoder → List ℕ → List ℕ
@@ -186,4 +186,4 @@ payloadRecord d m = cond (hasPayload d m) (take (d .fill) m) []
 
 -- the question behind an empty part: 16 if no payload stands there
 unfoldable pub askRecord : Decoder → List ℕ → Answer
-askRecord d m = cond (hasPayload d m) nothing (refused 16 [])
+askRecord d m = cond (hasPayload d m) nothing (refusal 16 [])

@@ -5,7 +5,7 @@ use mathlib.Core.List.{List, [], _∷_, _++_}
 use Prim.Native.Nat.{ℕ, suc, _+_, _-_, _%_, _≤_, _<_}
 use lib.ListN.{length, replicate, drop, take, getD}
 use Rattle.frame.specs.Frame.{missing, escSeq, restartSeq}
-use Rattle.decoder.specs.Push.{Setup, Mem, State, search, body, escape, done, silent, discarded, got, memory, badEscape, badMessage, Out, begun, says, put, tick, opened, starts, early, computed, misaligned, padOf, crcRead, noticed, fresh, stopped}
+use Rattle.decoder.specs.Push.{Setup, Mem, State, search, body, escape, done, silent, discarded, paysOut, memory, badEscape, badMessage, Out, begun, says, put, tick, opened, starts, early, computed, misaligned, padOf, crcRead, noticed, fresh, stopped}
 
 -- what a good end sequence has: the right CRC, a fill that is a multiple of 4, p at most 3 and at most the fill less 4
 abbrev pub Passed : Mem → ℕ → ℕ → Type 0
@@ -16,12 +16,12 @@ pub data Judged (m : Mem) (four : List ℕ) : Out → Type 0 where
   is-data : four ≡ escSeq → Judged m four (says (body 0 m) silent)
   restarts : four ≡ restartSeq → Judged m four (says begun (discarded (m .raw - 8)))
   good : getD four 0 0 ≡ 0x1a → Passed m (padOf four) (crcRead four)
-      → Judged m four (says (done (take (length (m .stored) - 4 - padOf four) (m .stored))) (got (take (length (m .stored) - 4 - padOf four) (m .stored))))
+      → Judged m four (says (done (take (length (m .stored) - 4 - padOf four) (m .stored))) (paysOut (take (length (m .stored) - 4 - padOf four) (m .stored))))
   bad : getD four 0 0 ≡ 0x1a → (Passed m (padOf four) (crcRead four) → ⊥)
       → Judged m four (says fresh (badMessage (crcRead four) (computed m) (misaligned m) (padOf four)))
   shifts : (a : ℕ) → a ≡ missing (length (m .stored)) → 1 ≤ a → a ≤ 3 → take (suc a) four ≡ replicate a 0x1b ++ 0x1a ∷ []
       → Judged m four (says (escape (4 - a) m) silent)
-  refused : (four ≡ escSeq → ⊥) → (four ≡ restartSeq → ⊥) → (getD four 0 0 ≡ 0x1a → ⊥) → early (missing (length (m .stored))) four ≡ false
+  unknown : (four ≡ escSeq → ⊥) → (four ≡ restartSeq → ⊥) → (getD four 0 0 ≡ 0x1a → ⊥) → early (missing (length (m .stored))) four ≡ false
       → Judged m four (says fresh (badEscape (getD four 0 0) (getD four 1 0) (getD four 2 0) (getD four 3 0)))
 
 pub data Saw (C : Setup) : State → ℕ → Out → Type 0 where

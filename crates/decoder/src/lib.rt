@@ -5,8 +5,8 @@ ghost use Prim.Native.Nat.{suc, _+_, _*_, _-_, _^_, _<_, _≤_};
 ghost use lib.ListN.{length, replicate};
 ghost use lib.Seq.{sets};
 ghost use Rattle.decoder.specs.Push.{stopped, starts, searching, begun, search, same, early};
-ghost use Rattle.decoder.specs.Record.{setup, pack, leaves, leavesFinal, leavesReset, answerAsked, badState, wrongBuffer, newRecord, pushRecord, finalizeRecord, resetRecord, payloadRecord, askRecord};
-ghost use Rattle.decoder.specs.Cut.{code, cut, grown, moved, inState, quiet, freshWith, normalStep, escapeAt, waitStep, sound, verdict, endStep, otherStep, judgeStep, escapeStep, isFresh, isDone, isNormal, plain, payloadIn};
+ghost use Rattle.decoder.specs.Record.{setup, recordOf, afterPush, afterFinalize, afterReset, answerAsked, badDecoder, wrongBuffer, newRecord, pushRecord, finalizeRecord, resetRecord, payloadRecord, askRecord};
+ghost use Rattle.decoder.specs.Cut.{code, cut, storedOn, pushedOn, inState, quiet, freshWith, normalStep, escapeAt, waitStep, sound, verdict, endStep, otherStep, judgeStep, escapeStep, isFresh, isDone, isNormal, plainByte, payloadIn};
 
 pub enum DecodeState {
     LookingForMessageStart {
@@ -55,7 +55,7 @@ pub struct Finalized {
     pub event: Event,
 }
 
-pub struct Resetted {
+pub struct AfterReset {
     pub decoder: Decoder,
     pub count: u32,
 }
@@ -73,8 +73,8 @@ impl Decoder {
     // The length of the start sequence, with which a frame's raw length begins.
     pub const START_LEN: u32 = 8;
 
-    // The bytes of the end sequence that are stored: those behind its escape.
-    pub const END_LEN: usize = 4;
+    // The bytes behind an escape, which are stored and judged together.
+    pub const ESC_PAYLOAD_LEN: usize = 4;
 
     pub fn new(capacity: usize) -> Decoder
         ensures { λ r. ⌜ r ≡ newRecord capacity ⌝ }
@@ -123,7 +123,7 @@ fn quietly(d: Decoder) -> Pushed
 }
 
 // Fresh again, with an event.
-fn refused(capacity: usize, e: Event) -> Pushed
+fn fresh_with(capacity: usize, e: Event) -> Pushed
     ensures { λ r. ⌜ r ≡ freshWith capacity e ⌝ }
 {
     Pushed {
@@ -147,8 +147,8 @@ fn in_state(d: Decoder, s: DecodeState) -> Decoder
 }
 
 // One byte more pushed, and none stored.
-fn moved_on(d: Decoder, s: DecodeState) -> Decoder
-    ensures { λ r. ⌜ r ≡ moved d s ⌝ }
+fn pushed_on(d: Decoder, s: DecodeState) -> Decoder
+    ensures { λ r. ⌜ r ≡ pushedOn d s ⌝ }
 {
     Decoder {
         capacity: d.capacity,
@@ -163,7 +163,7 @@ fn moved_on(d: Decoder, s: DecodeState) -> Decoder
 // One byte more pushed, and k stored.
 fn stored_on(d: Decoder, k: usize, s: DecodeState) -> Decoder
     requires { ⌜ d .fill + k < 2 ^ 64 ⌝ }
-    ensures { λ r. ⌜ r ≡ grown d k s ⌝ }
+    ensures { λ r. ⌜ r ≡ storedOn d k s ⌝ }
 {
     Decoder {
         capacity: d.capacity,
@@ -177,7 +177,7 @@ fn stored_on(d: Decoder, k: usize, s: DecodeState) -> Decoder
 
 // A frame begins: the CRC has gone over the start sequence.
 fn begun_frame(capacity: usize) -> Decoder
-    ensures { λ r. ⌜ r ≡ pack (record { capacity = capacity }) begun ⌝ }
+    ensures { λ r. ⌜ r ≡ recordOf (record { capacity = capacity }) begun ⌝ }
 {
     Decoder {
         capacity: capacity,
@@ -191,7 +191,7 @@ fn begun_frame(capacity: usize) -> Decoder
 
 // A search goes on, or begins: nothing is stored, and no CRC runs.
 fn looking(d: Decoder, noise: u32, n: u8) -> Decoder
-    ensures { λ r. ⌜ r ≡ pack (setup d) (search n noise (stopped (suc (d .«raw_msg_len»)))) ⌝ }
+    ensures { λ r. ⌜ r ≡ recordOf (setup d) (search n noise (stopped (suc (d .«raw_msg_len»)))) ⌝ }
 {
     Decoder {
         capacity: d.capacity,
@@ -213,7 +213,7 @@ pub fn matching(n: u8, b: u8) -> bool
     if n < 4 { b == Decoder::ESC } else { b == 0x01 }
 }
 
-fn look(d: Decoder, noise: u32, n: u8, b: u8) -> Pushed
+fn looking_for_message_start(d: Decoder, noise: u32, n: u8, b: u8) -> Pushed
     requires { ⌜ n < 8 ⌝ }
     ensures { λ r. ⌜ r ≡ code (setup d) (searching n noise (d .«raw_msg_len») b) ⌝ }
 {
@@ -233,18 +233,18 @@ fn look(d: Decoder, noise: u32, n: u8, b: u8) -> Pushed
     quietly(looking(d, more_noise(noise, n), 0))
 }
 
-fn normal(d: Decoder, buf: &mut [u8], b: u8) -> Pushed
+fn parsing_normal(d: Decoder, buf: &mut [u8], b: u8) -> Pushed
     ensures { λ r. ⌜ cut r (now (buf .exit)) ≡ normalStep d (now (buf .entry)) b ⌝ }
 {
     if b == Decoder::ESC {
-        return quietly(moved_on(d, DecodeState::ParsingEscChars(1)));
+        return quietly(pushed_on(d, DecodeState::ParsingEscChars(1)));
     }
     let at = d.fill;
     if at < buf.len() {
         buf[at] = b;
         return quietly(stored_on(d, 1, DecodeState::ParsingNormal));
     }
-    refused(d.capacity, Event::OutOfMemory)
+    fresh_with(d.capacity, Event::OutOfMemory)
 }
 
 // n bytes 1b from `at` on.
@@ -286,7 +286,7 @@ fn opened(d: Decoder, buf: &[u8]) -> Decoder
     }
 }
 
-fn waiting(d: Decoder, buf: &mut [u8], n: u8, b: u8) -> Pushed
+fn parsing_esc_chars(d: Decoder, buf: &mut [u8], n: u8, b: u8) -> Pushed
     requires { ⌜ (d .fill ≤ length (now buf)) × (d .«crc_idx» ≤ d .fill) × (n ≤ 3) ⌝ }
     ensures { λ r. ⌜ cut r (now (buf .exit)) ≡ waitStep d (now (buf .entry)) n b ⌝ }
 {
@@ -294,7 +294,7 @@ fn waiting(d: Decoder, buf: &mut [u8], n: u8, b: u8) -> Pushed
         if n == 3 {
             return quietly(opened(d, &buf[..]));
         }
-        return quietly(moved_on(d, DecodeState::ParsingEscChars(n + 1)));
+        return quietly(pushed_on(d, DecodeState::ParsingEscChars(n + 1)));
     }
     let at = d.fill;
     let k = n as usize;
@@ -302,11 +302,11 @@ fn waiting(d: Decoder, buf: &mut [u8], n: u8, b: u8) -> Pushed
         put_run_and(buf, at, k, b);
         return quietly(stored_on(d, k + 1, DecodeState::ParsingNormal));
     }
-    refused(d.capacity, Event::OutOfMemory)
+    fresh_with(d.capacity, Event::OutOfMemory)
 }
 
 // The two slices hold the same bytes.
-fn is(s: &[u8], t: &[u8]) -> bool
+fn same_bytes(s: &[u8], t: &[u8]) -> bool
     ensures { λ r. ⌜ r ≡ same (now (s .entry)) (now (t .entry)) ⌝ }
 {
     if s.len() != t.len() {
@@ -328,7 +328,7 @@ fn le16(lo: u8, hi: u8) -> u16
     (lo as u16) + (hi as u16) * 256
 }
 
-fn is_sound(fill: usize, read_crc: u16, calculated_crc: u16, p: u8) -> bool
+fn is_sound_end(fill: usize, read_crc: u16, calculated_crc: u16, p: u8) -> bool
     requires { ⌜ 4 ≤ fill ⌝ }
     ensures { λ r. ⌜ r ≡ sound fill «read_crc» «calculated_crc» p ⌝ }
 {
@@ -341,7 +341,7 @@ fn is_sound(fill: usize, read_crc: u16, calculated_crc: u16, p: u8) -> bool
     if 3 < p {
         return false;
     }
-    p as usize + Decoder::END_LEN <= fill
+    p as usize + Decoder::ESC_PAYLOAD_LEN <= fill
 }
 
 // An end sequence with the pad count p: a payload, or no valid message.
@@ -349,11 +349,11 @@ fn judged_end(capacity: usize, fill: usize, read_crc: u16, calculated_crc: u16, 
     requires { ⌜ 4 ≤ fill ⌝ }
     ensures { λ r. ⌜ r ≡ verdict capacity fill «read_crc» «calculated_crc» p ⌝ }
 {
-    if is_sound(fill, read_crc, calculated_crc, p) {
+    if is_sound_end(fill, read_crc, calculated_crc, p) {
         return Pushed {
             decoder: Decoder {
                 capacity: capacity,
-                fill: fill - (p as usize + Decoder::END_LEN),
+                fill: fill - (p as usize + Decoder::ESC_PAYLOAD_LEN),
                 raw_msg_len: 0,
                 crc: 0xffff,
                 crc_idx: 0,
@@ -362,7 +362,7 @@ fn judged_end(capacity: usize, fill: usize, read_crc: u16, calculated_crc: u16, 
             event: Event::Payload,
         };
     }
-    refused(
+    fresh_with(
         capacity,
         Event::InvalidMessage {
             read_crc: read_crc,
@@ -374,13 +374,13 @@ fn judged_end(capacity: usize, fill: usize, read_crc: u16, calculated_crc: u16, 
 }
 
 // The end sequence: 1a, the pad count, the CRC low byte first. The CRC goes over all but itself.
-fn end(d: Decoder, buf: &[u8]) -> Pushed
+fn end_sequence(d: Decoder, buf: &[u8]) -> Pushed
     requires { ⌜ (4 ≤ d .fill) × (d .fill ≤ length (now buf)) × (d .«crc_idx» + 4 ≤ d .fill) ⌝ }
     ensures { λ r. ⌜ r ≡ endStep d (now (buf .entry)) ⌝ }
 {
     let fill = d.fill;
     let from = d.crc_idx;
-    let at = fill - Decoder::END_LEN;
+    let at = fill - Decoder::ESC_PAYLOAD_LEN;
     let to = fill - 2;
     let read = le16(buf[at + 2], buf[at + 3]);
     let seen = crc_x25::update(d.crc, &buf[from..to]);
@@ -399,22 +399,22 @@ fn is_cut_end(a: usize, q: &[u8]) -> bool
     let t: &[u8] = b"\x1b\x1b\x1b\x1a";
     let from = 3 - a;
     let to = a + 1;
-    is(&q[..to], &t[from..])
+    same_bytes(&q[..to], &t[from..])
 }
 
 // Behind an escape none of the known sequences: the message ends with 1 to 3 bytes 1b and the end sequence behind them is cut, or the escape is invalid.
-fn other(d: Decoder, buf: &[u8]) -> Pushed
+fn other_escape(d: Decoder, buf: &[u8]) -> Pushed
     requires { ⌜ (4 ≤ d .fill) × (d .fill ≤ length (now buf)) ⌝ }
     ensures { λ r. ⌜ r ≡ otherStep d (now (buf .entry)) ⌝ }
 {
     let fill = d.fill;
-    let at = fill - Decoder::END_LEN;
+    let at = fill - Decoder::ESC_PAYLOAD_LEN;
     let bytes_until_alignment = (4 - fill % 4) % 4;
     if is_cut_end(bytes_until_alignment, &buf[at..at + 4]) {
         let read = (4 - bytes_until_alignment) as u8;
         return quietly(in_state(d, DecodeState::ParsingEscPayload(read)));
     }
-    refused(
+    fresh_with(
         d.capacity,
         Event::InvalidEsc(buf[at], buf[at + 1], buf[at + 2], buf[at + 3]),
     )
@@ -425,11 +425,11 @@ fn judge(d: Decoder, buf: &[u8]) -> Pushed
     requires { ⌜ (4 ≤ d .fill) × (d .fill ≤ length (now buf)) × (d .«crc_idx» + 4 ≤ d .fill) × (8 ≤ d .«raw_msg_len») ⌝ }
     ensures { λ r. ⌜ r ≡ judgeStep d (now (buf .entry)) ⌝ }
 {
-    let at = d.fill - Decoder::END_LEN;
-    if is(&buf[at..at + 4], &frame::ESCAPE) {
+    let at = d.fill - Decoder::ESC_PAYLOAD_LEN;
+    if same_bytes(&buf[at..at + 4], &frame::ESCAPE) {
         return quietly(in_state(d, DecodeState::ParsingNormal));
     }
-    if is(&buf[at..at + 4], &frame::RESTART) {
+    if same_bytes(&buf[at..at + 4], &frame::RESTART) {
         let ignored_bytes = d.raw_msg_len - Decoder::START_LEN;
         return Pushed {
             decoder: begun_frame(d.capacity),
@@ -437,12 +437,12 @@ fn judge(d: Decoder, buf: &[u8]) -> Pushed
         };
     }
     if buf[at] == 0x1a {
-        return end(d, buf);
+        return end_sequence(d, buf);
     }
-    other(d, buf)
+    other_escape(d, buf)
 }
 
-fn escape(d: Decoder, buf: &mut [u8], n: u8, b: u8) -> Pushed
+fn parsing_esc_payload(d: Decoder, buf: &mut [u8], n: u8, b: u8) -> Pushed
     requires { ⌜ (d .«crc_idx» + n ≤ d .fill) × (n ≤ 3) × (8 ≤ d .«raw_msg_len») ⌝ }
     ensures { λ r. ⌜ cut r (now (buf .exit)) ≡ escapeStep d (now (buf .entry)) n b ⌝ }
 {
@@ -454,12 +454,12 @@ fn escape(d: Decoder, buf: &mut [u8], n: u8, b: u8) -> Pushed
         }
         return judge(stored_on(d, 1, DecodeState::ParsingEscPayload(3)), &buf[..]);
     }
-    refused(d.capacity, Event::OutOfMemory)
+    fresh_with(d.capacity, Event::OutOfMemory)
 }
 
 // A record that no pushes lead to.
-pub fn bad_state(d: Decoder) -> bool
-    ensures { λ r. ⌜ r ≡ badState d ⌝ }
+pub fn bad_decoder(d: Decoder) -> bool
+    ensures { λ r. ⌜ r ≡ badDecoder d ⌝ }
 {
     if d.capacity < d.fill {
         return true;
@@ -527,7 +527,7 @@ fn is_normal(s: DecodeState) -> bool
 
 // A byte of a frame that is no 1b and has room, with record and buffer as they should be: what most bytes are.
 fn is_plain(d: Decoder, lent: usize, b: u8) -> bool
-    ensures { λ r. ⌜ r ≡ plain d lent b ⌝ }
+    ensures { λ r. ⌜ r ≡ plainByte d lent b ⌝ }
 {
     if b == Decoder::ESC {
         return false;
@@ -553,9 +553,9 @@ fn is_plain(d: Decoder, lent: usize, b: u8) -> bool
 
 // Pushes a byte: the checks of record and buffer, then one step. A push of a slice calls this at the bytes that are not plain.
 pub fn push_any(d: Decoder, buf: &mut [u8], b: u8) -> Pushed
-    ensures { λ r. ⌜ leaves r (now (buf .exit)) ≡ pushRecord d (now (buf .entry)) b ⌝ }
+    ensures { λ r. ⌜ afterPush r (now (buf .exit)) ≡ pushRecord d (now (buf .entry)) b ⌝ }
 {
-    if bad_state(d) {
+    if bad_decoder(d) {
         return Pushed {
             decoder: d,
             event: Event::BadState,
@@ -572,11 +572,11 @@ pub fn push_any(d: Decoder, buf: &mut [u8], b: u8) -> Pushed
         DecodeState::LookingForMessageStart {
             num_discarded_bytes,
             num_init_seq_bytes,
-        } => { look(d, num_discarded_bytes, num_init_seq_bytes, b) }
-        DecodeState::ParsingNormal => normal(d, buf, b),
-        DecodeState::ParsingEscChars(n) => waiting(d, buf, n, b),
-        DecodeState::ParsingEscPayload(n) => escape(d, buf, n, b),
-        DecodeState::Done => look(Decoder::new(d.capacity), 0, 0, b),
+        } => { looking_for_message_start(d, num_discarded_bytes, num_init_seq_bytes, b) }
+        DecodeState::ParsingNormal => parsing_normal(d, buf, b),
+        DecodeState::ParsingEscChars(n) => parsing_esc_chars(d, buf, n, b),
+        DecodeState::ParsingEscPayload(n) => parsing_esc_payload(d, buf, n, b),
+        DecodeState::Done => looking_for_message_start(Decoder::new(d.capacity), 0, 0, b),
     }
 }
 
@@ -620,7 +620,7 @@ fn is_done(s: DecodeState) -> bool
 impl Decoder {
     // Pushes a byte: a plain one by the short way, any other by its state. The record is made anew on both ways, so that it can stay in registers.
     pub fn push_byte(self, buf: &mut [u8], b: u8) -> Pushed
-        ensures { λ r. ⌜ leaves r (now (buf .exit)) ≡ pushRecord self (now (buf .entry)) b ⌝ }
+        ensures { λ r. ⌜ afterPush r (now (buf .exit)) ≡ pushRecord self (now (buf .entry)) b ⌝ }
     {
         let at = self.fill;
         let s = self.state;
@@ -640,9 +640,9 @@ impl Decoder {
 
     // Says how many bytes are lost, if any, and begins again.
     pub fn finalize(self) -> Finalized
-        ensures { λ r. ⌜ leavesFinal r ≡ finalizeRecord self ⌝ }
+        ensures { λ r. ⌜ afterFinalize r ≡ finalizeRecord self ⌝ }
     {
-        if bad_state(self) {
+        if bad_decoder(self) {
             return Finalized {
                 decoder: self,
                 event: Event::BadState,
@@ -669,18 +669,18 @@ impl Decoder {
     }
 
     // Begins again, and gives the number of bytes that are lost. Any record will do.
-    pub fn reset(self) -> Resetted
-        ensures { λ r. ⌜ leavesReset r ≡ resetRecord self ⌝ }
+    pub fn reset(self) -> AfterReset
+        ensures { λ r. ⌜ afterReset r ≡ resetRecord self ⌝ }
     {
         let f = Decoder::new(self.capacity);
         let s = self.state;
         if is_done(s) {
-            return Resetted {
+            return AfterReset {
                 decoder: f,
                 count: 0,
             };
         }
-        Resetted {
+        AfterReset {
             decoder: f,
             count: self.raw_msg_len,
         }
@@ -712,7 +712,7 @@ impl Decoder {
 fn has_payload(d: Decoder, lent: usize) -> bool
     ensures { λ r. ⌜ r ≡ payloadIn d lent ⌝ }
 {
-    if bad_state(d) {
+    if bad_decoder(d) {
         return false;
     }
     if wrong_buffer(d.capacity, lent) {

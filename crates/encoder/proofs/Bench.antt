@@ -5,9 +5,9 @@ use Prim.Native.Nat.{ℕ}
 use lib.ListN.{replicate}
 use Rattle.crc_x25.specs.Crc.{reflect, polynomial, bitStep, bitSteps, byteStep, register, finalXor, crcOf}
 use Rattle.frame.specs.Frame.{escaped, closed, frameOf}
-use Rattle.encoder.specs.Encode.{length-is, leaves, encodeTo}
+use Rattle.encoder.specs.Encode.{length-is, afterEncode, encodeTo}
 use Rattle.encoder.specs.Encode as E
-use Rattle.encoder.specs.Encoder.{byte, finished, refused, stepTo, encoderAt, fresh, ended, looked, stepFrom, badState, nextStep}
+use Rattle.encoder.specs.Encoder.{byte, finished, noByte, stepTo, encoderAt, freshEncoder, ended, looked, stepFrom, badEncoder, nextStep}
 use Rattle.encoder.specs.declared.EncoderState.{EncoderState}
 use Rattle.encoder.specs.declared.EncoderState.the-variants.{Init, LookingForEscape, HandlingEscape, End}
 use lib.IntN.{pos, negsuc}
@@ -40,7 +40,7 @@ unfolding reflect polynomial bitStep bitSteps byteStep register finalXor crcOf e
 frames = refl
 
 -- encode's own: an output of 20 bytes takes the frame, one of 22 keeps its last two, one of 19 refuses
-encodes : map (λ n. encodeTo p1 (replicate n 0xff)) (20 ∷ 22 ∷ 19 ∷ []) ≡ leaves (length-is 20) f1 ∷ leaves (length-is 20) (f1 ++ 0xff ∷ 0xff ∷ []) ∷ leaves (E.refused 2) (replicate 19 0xff) ∷ []
+encodes : map (λ n. encodeTo p1 (replicate n 0xff)) (20 ∷ 22 ∷ 19 ∷ []) ≡ afterEncode (length-is 20) f1 ∷ afterEncode (length-is 20) (f1 ++ 0xff ∷ 0xff ∷ []) ∷ afterEncode (E.noFrame 2) (replicate 19 0xff) ∷ []
 unfolding reflect polynomial bitStep bitSteps byteStep register finalXor crcOf escaped closed frameOf encodeTo
 encodes = refl
 
@@ -50,18 +50,18 @@ unfolding escaped
 escape-example = refl
 
 -- encode_streaming's: the same bytes, one a call, then finished
-streams : map (calls 25 fresh) (p1 ∷ p4 ∷ []) ≡ (map byte f1 ++ replicate 5 finished) ∷ (map byte f4 ++ replicate 1 finished) ∷ []
-unfolding reflect polynomial bitStep bitSteps byteStep register finalXor fresh ended looked stepFrom badState nextStep calls
+streams : map (calls 25 freshEncoder) (p1 ∷ p4 ∷ []) ≡ (map byte f1 ++ replicate 5 finished) ∷ (map byte f4 ++ replicate 1 finished) ∷ []
+unfolding reflect polynomial bitStep bitSteps byteStep register finalXor freshEncoder ended looked stepFrom badEncoder nextStep calls
 streams = refl
 
 abbrev states : List EncoderState
 states = Init 9 ∷ LookingForEscape 5 ∷ HandlingEscape 5 ∷ End (negsuc 3) ∷ End (pos 9) ∷ []
 
 -- each bad state that document 01 lists is answered with 4 and left as it is: place, Init, both escape counts, End on both sides
-bad-states : map (λ e. nextStep e p1) (map (λ s. encoderAt s 0 0) states) ≡ map (λ e. stepTo (refused 4) e) (map (λ s. encoderAt s 0 0) states)
-unfolding badState nextStep
+bad-states : map (λ e. nextStep e p1) (map (λ s. encoderAt s 0 0) states) ≡ map (λ e. stepTo (noByte 4) e) (map (λ s. encoderAt s 0 0) states)
+unfolding badEncoder nextStep
 bad-states = refl
 
-bad-place : nextStep (encoderAt (Init 0) 5 0) p1 ≡ stepTo (refused 4) (encoderAt (Init 0) 5 0)
-unfolding badState nextStep
+bad-place : nextStep (encoderAt (Init 0) 5 0) p1 ≡ stepTo (noByte 4) (encoderAt (Init 0) 5 0)
+unfolding badEncoder nextStep
 bad-place = refl

@@ -20,7 +20,7 @@ use Rattle.encoder.specs.declared.Encoder.{Encoder}
 use Rattle.encoder.specs.declared.EncoderState.{EncoderState}
 use Rattle.encoder.specs.declared.EncoderState.the-variants.{Init, LookingForEscape, HandlingEscape, End}
 use Rattle.encoder.specs.Encode.{limit}
-use Rattle.encoder.specs.Encoder.{Next, byte, finished, Step, stepTo, encoderAt, fresh, endOf, badEnd, lastEnd, ended, runOf, looked, stepFrom, badCount, nextStep}
+use Rattle.encoder.specs.Encoder.{NextAnswer, byte, finished, Step, stepTo, encoderAt, freshEncoder, endOf, badEnd, lastEnd, ended, runOf, looked, stepFrom, badCount, nextStep}
 use Rattle.encoder.specs.Calls.{calls, GivesTheFrame}
 use Rattle.encoder.proofs.Ends.{not-last}
 use Rattle.encoder.proofs.Steps.{next-good, bad-inside}
@@ -151,12 +151,12 @@ module _ (P : List ℕ) (lim : length P ≤ limit) where
   call more b l x ih (gives b′ s place reg e g h) =
       let f : b ≡ b′ = cc in
       let k : coming s place reg P ≡ l = cc in
-      rw f (ap (λ (q : List Next). byte b′ ∷ q) (ih s place reg k g h))
+      rw f (ap (λ (q : List NextAnswer). byte b′ ∷ q) (ih s place reg k g h))
   call more b l x ih (gave s place reg e k g h) = let z : _≡_ {A = ℕ} 0 1 = cc in absurd (omega arith)
 
   over : (more : ℕ) (x : Step) → All more [] → Gives P [] x → x .answer ∷ calls (0 + more) (x .encoder) P ≡ finished ∷ replicate more finished
   over more x ih (gives b s place reg e g h) = let z : _≡_ {A = ℕ} 0 1 = cc in absurd (omega arith)
-  over more x ih (gave s place reg e k g h) = ap (λ (q : List Next). finished ∷ q) (ih s place reg k g h)
+  over more x ih (gave s place reg e k g h) = ap (λ (q : List NextAnswer). finished ∷ q) (ih s place reg k g h)
 
   calls-suc : (n : ℕ) (e : Encoder) → calls (suc n) e P ≡ nextStep e P .answer ∷ calls n (nextStep e P .encoder) P
   unfolding calls
@@ -195,5 +195,5 @@ coming-frame P =
     ∙ sym (frame-parts P)
 
 pub gives-the-frame : GivesTheFrame
-unfolding fresh
-gives-the-frame P lim more = ap (λ (l : List ℕ). calls (length l + more) fresh P) (sym (coming-frame P)) ∙ says P lim _ more (Init 0) 0 (register start startSeq) refl refl (omega arith) ∙ ap (λ (l : List ℕ). map byte l ++ replicate more finished) (coming-frame P)
+unfolding freshEncoder
+gives-the-frame P lim more = ap (λ (l : List ℕ). calls (length l + more) freshEncoder P) (sym (coming-frame P)) ∙ says P lim _ more (Init 0) 0 (register start startSeq) refl refl (omega arith) ∙ ap (λ (l : List ℕ). map byte l ++ replicate more finished) (coming-frame P)

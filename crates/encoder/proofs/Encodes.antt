@@ -11,21 +11,21 @@ use lib.ListN.{length, drop}
 use lib.Seq.{sets-eq}
 use Rattle.frame.specs.Frame.{escaped, missing, frameOf}
 use Rattle.frame.proofs.Frames.{escaped-short, length-frame}
-use Rattle.encoder.specs.Encode.{limit, length-is, refused, leaves, encodeTo}
+use Rattle.encoder.specs.Encode.{limit, length-is, noFrame, afterEncode, encodeTo}
 use Rattle.encoder.specs.Encoder.{endOf}
 use Rattle.encoder.specs.Parts.{Stored}
 use Rattle.encoder.proofs.Stores.{length-end}
 
-pub encode-long : (P out : List ℕ) → limit < length P → leaves (refused 1) out ≡ encodeTo P out
+pub encode-long : (P out : List ℕ) → limit < length P → afterEncode (noFrame 1) out ≡ encodeTo P out
 unfolding encodeTo
 encode-long P out h = rw (lt-leb (length P) limit h)
 
-pub encode-full : (P out : List ℕ) → length P ≤ limit → leb (length (frameOf P)) (length out) ≡ false → leaves (refused 2) out ≡ encodeTo P out
+pub encode-full : (P out : List ℕ) → length P ≤ limit → leb (length (frameOf P)) (length out) ≡ false → afterEncode (noFrame 2) out ≡ encodeTo P out
 unfolding encodeTo
 encode-full P out h e = rw (le-leb (length P) limit h, e)
 
 pub encode-whole : (P out m : List ℕ) (r : ℕ) → length P ≤ limit → leb (length (frameOf P)) (length out) ≡ true → length (frameOf P) ≤ length out
-    → Stored m r out 0 (frameOf P) → leaves (length-is r) m ≡ encodeTo P out
+    → Stored m r out 0 (frameOf P) → afterEncode (length-is r) m ≡ encodeTo P out
 unfolding encodeTo
 encode-whole P out m r h e k s =
     let l : r ≡ length (frameOf P) = omega (arith, s .1) in

@@ -16,7 +16,7 @@ use Rattle.encoder.specs.declared.Encoder.{Encoder}
 use Rattle.encoder.specs.declared.EncoderState.{EncoderState}
 use Rattle.encoder.specs.declared.EncoderState.the-variants.{Init, LookingForEscape, HandlingEscape, End}
 use Rattle.encoder.specs.Encode.{limit}
-use Rattle.encoder.specs.Encoder.{Next, Step, byte, finished, refused, stepTo, encoderAt, fresh, endOf, endByte, lastEnd, ended, runOf, looked, stepFrom, badCount, badState, nextStep}
+use Rattle.encoder.specs.Encoder.{NextAnswer, Step, byte, finished, noByte, stepTo, encoderAt, freshEncoder, endOf, endByte, lastEnd, ended, runOf, looked, stepFrom, badCount, badEncoder, nextStep}
 use Rattle.encoder.proofs.Stores.{zeros-take}
 
 -- the register over the end, part by part
@@ -27,8 +27,8 @@ end-register reg pad a b c h e f g =
     g ∙ ap (λ (x : ℕ). register x (0x1a ∷ pad ∷ [])) (f ∙ ap (λ (x : ℕ). register x escSeq) z ∙ sym (register-append reg (replicate pad 0x00) escSeq))
     ∙ sym (register-append reg (replicate pad 0x00 ++ escSeq) (0x1a ∷ pad ∷ []))
 
-pub new-is : (d x : ℕ) → d ≡ start → x ≡ register d startSeq → encoderAt (Init 0) 0 x ≡ fresh
-unfolding fresh
+pub new-is : (d x : ℕ) → d ≡ start → x ≡ register d startSeq → encoderAt (Init 0) 0 x ≡ freshEncoder
+unfolding freshEncoder
 new-is d x e f = rw (f, e)
 
 pub ended-is : (n z : ℤ) (place reg pad b x : ℕ) → pad ≡ missing place → x ≡ finalXor reg → b ≡ endByte n pad x → z ≡ sucℤ n
@@ -80,53 +80,53 @@ module _ (place reg : ℕ) (p : List ℕ) where
   at-end s n q e = rw (q, e)
 
 module _ (e : Encoder) where
-  pub bad-beyond : (len : ℕ) → len < e .place → true ≡ badState e len
-  unfolding badState
+  pub bad-beyond : (len : ℕ) → len < e .place → true ≡ badEncoder e len
+  unfolding badEncoder
   bad-beyond len h = rw (lt-ltb len (e .place) h)
 
-  pub bad-inside : (len : ℕ) → e .place ≤ len → badCount (e .state) ≡ badState e len
-  unfolding badState
+  pub bad-inside : (len : ℕ) → e .place ≤ len → badCount (e .state) ≡ badEncoder e len
+  unfolding badEncoder
   bad-inside len h = rw (le-ltb len (e .place) h)
 
 module _ (e : Encoder) (p : List ℕ) where
-  pub next-long : limit < length p → stepTo (refused 1) e ≡ nextStep e p
+  pub next-long : limit < length p → stepTo (noByte 1) e ≡ nextStep e p
   unfolding nextStep
   next-long h = rw (lt-leb (length p) limit h)
 
-  pub next-bad : length p ≤ limit → badState e (length p) ≡ true → stepTo (refused 4) e ≡ nextStep e p
+  pub next-bad : length p ≤ limit → badEncoder e (length p) ≡ true → stepTo (noByte 4) e ≡ nextStep e p
   unfolding nextStep
   next-bad h b = rw (le-leb (length p) limit h, b)
 
-  pub next-good : length p ≤ limit → badState e (length p) ≡ false → stepFrom (e .state) (e .place) (e .crc) p ≡ nextStep e p
+  pub next-good : length p ≤ limit → badEncoder e (length p) ≡ false → stepFrom (e .state) (e .place) (e .crc) p ≡ nextStep e p
   unfolding nextStep
   next-good h b = rw (le-leb (length p) limit h, b)
 
 -- a call that gives no byte leaves the Encoder as it was
-pub data Kept (e : Encoder) : Step → Type 0 where
-  moves : (b : ℕ) (e′ : Encoder) → Kept e (stepTo (byte b) e′)
-  stays : (a : Next) → Kept e (stepTo a e)
+pub data StepsKept (e : Encoder) : Step → Type 0 where
+  moves : (b : ℕ) (e′ : Encoder) → StepsKept e (stepTo (byte b) e′)
+  stays : (a : NextAnswer) → StepsKept e (stepTo a e)
 
-ended-moves : (e : Encoder) (n : ℤ) (place reg : ℕ) → Kept e (ended n place reg)
+ended-moves : (e : Encoder) (n : ℤ) (place reg : ℕ) → StepsKept e (ended n place reg)
 unfolding ended
 ended-moves e n place reg = moves _ _
 
-looked-moves : (e : Encoder) (n place reg : ℕ) (p : List ℕ) → Kept e (looked n place reg p)
+looked-moves : (e : Encoder) (n place reg : ℕ) (p : List ℕ) → StepsKept e (looked n place reg p)
 unfolding looked
-looked-moves e n place reg p = by-test (Kept e) (ltb place (length p)) _ _ (λ t. moves _ _) (λ f. ended-moves e _ place _)
+looked-moves e n place reg p = by-test (StepsKept e) (ltb place (length p)) _ _ (λ t. moves _ _) (λ f. ended-moves e _ place _)
 
-step-keeps : (e : Encoder) (p : List ℕ) (s : EncoderState) → e .state ≡ s → Kept e (stepFrom s (e .place) (e .crc) p)
+step-keeps : (e : Encoder) (p : List ℕ) (s : EncoderState) → e .state ≡ s → StepsKept e (stepFrom s (e .place) (e .crc) p)
 unfolding stepFrom
-step-keeps e p (Init n) q = by-test (Kept e) (ltb n 8) _ _ (λ t. moves _ _) (λ f. looked-moves e 0 (e .place) (e .crc) p)
-step-keeps e p (LookingForEscape n) q = by-test (Kept e) (ltb n 4) _ _ (λ t. looked-moves e n (e .place) (e .crc) p) (λ f. moves _ _)
-step-keeps e p (HandlingEscape n) q = by-test (Kept e) (ltb n 4) _ _ (λ t. moves _ _) (λ f. looked-moves e 0 (e .place) (e .crc) p)
+step-keeps e p (Init n) q = by-test (StepsKept e) (ltb n 8) _ _ (λ t. moves _ _) (λ f. looked-moves e 0 (e .place) (e .crc) p)
+step-keeps e p (LookingForEscape n) q = by-test (StepsKept e) (ltb n 4) _ _ (λ t. looked-moves e n (e .place) (e .crc) p) (λ f. moves _ _)
+step-keeps e p (HandlingEscape n) q = by-test (StepsKept e) (ltb n 4) _ _ (λ t. moves _ _) (λ f. looked-moves e 0 (e .place) (e .crc) p)
 step-keeps e p (End n) q =
-    by-test (Kept e) (lastEnd n) _ _
-    (λ t. subst (λ (s : EncoderState). Kept e (stepTo finished (encoderAt s (e .place) (e .crc)))) q (stays finished))
+    by-test (StepsKept e) (lastEnd n) _ _
+    (λ t. subst (λ (s : EncoderState). StepsKept e (stepTo finished (encoderAt s (e .place) (e .crc)))) q (stays finished))
     (λ f. ended-moves e n (e .place) (e .crc))
 
-pub next-keeps : (e : Encoder) (p : List ℕ) → Kept e (nextStep e p)
+pub next-keeps : (e : Encoder) (p : List ℕ) → StepsKept e (nextStep e p)
 unfolding nextStep
 next-keeps e p =
-    by-test (Kept e) (leb (length p) limit) _ _
-    (λ t. by-test (Kept e) (badState e (length p)) _ _ (λ b. stays (refused 4)) (λ g. step-keeps e p (e .state) refl))
-    (λ f. stays (refused 1))
+    by-test (StepsKept e) (leb (length p) limit) _ _
+    (λ t. by-test (StepsKept e) (badEncoder e (length p)) _ _ (λ b. stays (noByte 4)) (λ g. step-keeps e p (e .state) refl))
+    (λ f. stays (noByte 1))

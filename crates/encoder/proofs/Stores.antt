@@ -50,8 +50,8 @@ some-run k n =
     let h : k + 1 ≡ 0 → ⊥ = λ e. absurd (omega arith) in
     simp (ne-eqb (k + 1) 0 h)
 
-pub none-yet : (m p : List ℕ) (o n i : ℕ) → Writes m (o + 0) (runAfter 0 n) (i + 0) m o n i p
-none-yet m p o n i = rw (add-zero o, add-zero i) (refl, refl)
+pub none-written : (m p : List ℕ) (o n i : ℕ) → Writes m (o + 0) (runAfter 0 n) (i + 0) m o n i p
+none-written m p o n i = rw (add-zero o, add-zero i) (refl, refl)
 
 pub plain-more : (m m₀ p : List ℕ) (o k n i : ℕ) → i + k < length p → (getD p (i + k) 0 ≡ 0x1b → ⊥) → Writes m (o + k) (runAfter k n) (i + k) m₀ o n i p
     → Writes (set m (o + k) (getD p (i + k) 0)) (o + (k + 1)) (runAfter (k + 1) n) (i + (k + 1)) m₀ o n i p

@@ -6,10 +6,10 @@ use lib.ListN.{length, replicate}
 use Rattle.frame.specs.Frame.{frameOf}
 use Rattle.encoder.specs.declared.Encoder.{Encoder}
 use Rattle.encoder.specs.Encode.{limit}
-use Rattle.encoder.specs.Encoder.{Next, byte, finished, fresh, nextStep}
+use Rattle.encoder.specs.Encoder.{NextAnswer, byte, finished, freshEncoder, nextStep}
 
 -- what n calls answer, each with the Encoder that the one before left
-unfoldable pub calls : ℕ → Encoder → List ℕ → List Next
+unfoldable pub calls : ℕ → Encoder → List ℕ → List NextAnswer
 calls zero e payload = []
 calls (suc n) e payload = nextStep e payload .answer ∷ calls n (nextStep e payload .encoder) payload
 
@@ -17,4 +17,4 @@ calls (suc n) e payload = nextStep e payload .answer ∷ calls n (nextStep e pay
 abbrev pub GivesTheFrame : Type 0
 GivesTheFrame =
     (payload : List ℕ) → length payload ≤ limit
-    → (more : ℕ) → calls (length (frameOf payload) + more) fresh payload ≡ map byte (frameOf payload) ++ replicate more finished
+    → (more : ℕ) → calls (length (frameOf payload) + more) freshEncoder payload ≡ map byte (frameOf payload) ++ replicate more finished

@@ -12,28 +12,28 @@ use Rattle.encoder.specs.declared.Encoded.the-variants.{Frame, PayloadTo
 abbrev pub limit : ℕ
 limit = 1048576
 
-pub data Answer : Type 0 where
-  length-is : ℕ → Answer  -- of the frame
-  refused : ℕ → Answer  -- document 01's number
+pub data EncodeAnswer : Type 0 where
+  length-is : ℕ → EncodeAnswer  -- of the frame
+  noFrame : ℕ → EncodeAnswer  -- document 01's number
 
-abbrev pub answerOf : Encoded → Answer
-answerOf (Frame n) = length-is n
-answerOf PayloadTooLong = refused 1
-answerOf OutOfMemory = refused 2
+abbrev pub encodeAnswer : Encoded → EncodeAnswer
+encodeAnswer (Frame n) = length-is n
+encodeAnswer PayloadTooLong = noFrame 1
+encodeAnswer OutOfMemory = noFrame 2
 
-pub record Leaves : Type 0 where
-  pub answer : Answer
+pub record AfterEncode : Type 0 where
+  pub answer : EncodeAnswer
   pub output : List ℕ
 
-abbrev pub leaves : Answer → List ℕ → Leaves
-leaves answer output = record { answer = answer; output = output }
+abbrev pub afterEncode : EncodeAnswer → List ℕ → AfterEncode
+afterEncode answer output = record { answer = answer; output = output }
 
 -- the frame from the output's first place on, what stands behind it unchanged; a refusal changes nothing
-unfoldable pub encodeTo : List ℕ → List ℕ → Leaves
+unfoldable pub encodeTo : List ℕ → List ℕ → AfterEncode
 encodeTo payload out =
     let frame = frameOf payload in
     cond (leb (length payload) limit)
     (cond (leb (length frame) (length out))
-    (leaves (length-is (length frame)) (frame ++ drop (length frame) out))
-    (leaves (refused 2) out))
-    (leaves (refused 1) out)
+    (afterEncode (length-is (length frame)) (frame ++ drop (length frame) out))
+    (afterEncode (noFrame 2) out))
+    (afterEncode (noFrame 1) out)

@@ -16,34 +16,34 @@ use Rattle.encoder.specs.declared.Item.{Item}
 use Rattle.encoder.specs.declared.Item.the-variants.{Byte, Finished, PayloadTooLong, BadState}
 use Rattle.encoder.specs.Encode.{limit}
 
-pub data Next : Type 0 where
-  byte : ℕ → Next
-  finished : Next
-  refused : ℕ → Next  -- document 01's number
+pub data NextAnswer : Type 0 where
+  byte : ℕ → NextAnswer
+  finished : NextAnswer
+  noByte : ℕ → NextAnswer  -- document 01's number
 
-abbrev pub nextOf : Item → Next
-nextOf (Byte b) = byte b
-nextOf Finished = finished
-nextOf PayloadTooLong = refused 1
-nextOf BadState = refused 4
+abbrev pub nextAnswer : Item → NextAnswer
+nextAnswer (Byte b) = byte b
+nextAnswer Finished = finished
+nextAnswer PayloadTooLong = noByte 1
+nextAnswer BadState = noByte 4
 
 -- an answer, and the Encoder for the next call
 pub record Step : Type 0 where
-  pub answer : Next
+  pub answer : NextAnswer
   pub encoder : Encoder
 
-abbrev pub stepTo : Next → Encoder → Step
+abbrev pub stepTo : NextAnswer → Encoder → Step
 stepTo answer e = record { answer = answer; encoder = e }
 
 abbrev pub stepOf : Given → Step
-stepOf g = stepTo (nextOf (g .answer)) (g .encoder)
+stepOf g = stepTo (nextAnswer (g .answer)) (g .encoder)
 
 abbrev pub encoderAt : EncoderState → ℕ → ℕ → Encoder
 encoderAt state place crc = record { state = state; place = place; crc = crc }
 
 -- an Encoder that gave nothing yet: its register stands behind the start
-unfoldable pub fresh : Encoder
-fresh = encoderAt (Init 0) 0 (register start startSeq)
+unfoldable pub freshEncoder : Encoder
+freshEncoder = encoderAt (Init 0) 0 (register start startSeq)
 
 -- 0 to 3 zero bytes, 1b1b1b1b 1a, the pad count
 abbrev pub endOf : ℕ → List ℕ
@@ -98,11 +98,11 @@ badCount (HandlingEscape n) = ltb 4 n
 badCount (End n) = badEnd n
 
 -- the position beyond its payload, which is len long, or a bad count
-unfoldable pub badState : Encoder → ℕ → Bool
-badState e len = cond (ltb len (e .place)) true (badCount (e .state))
+unfoldable pub badEncoder : Encoder → ℕ → Bool
+badEncoder e len = cond (ltb len (e .place)) true (badCount (e .state))
 
 unfoldable pub nextStep : Encoder → List ℕ → Step
 nextStep e payload =
     cond (leb (length payload) limit)
-    (cond (badState e (length payload)) (stepTo (refused 4) e) (stepFrom (e .state) (e .place) (e .crc) payload))
-    (stepTo (refused 1) e)
+    (cond (badEncoder e (length payload)) (stepTo (noByte 4) e) (stepFrom (e .state) (e .place) (e .crc) payload))
+    (stepTo (noByte 1) e)

@@ -9,8 +9,8 @@ ghost use lib.Signed.{ltZ};
 ghost use lib.Dec.{leb};
 ghost use Rattle.crc_x25.specs.Crc.{register};
 ghost use Rattle.frame.specs.Frame.{runWith, fourMore, escaped, missing, frameOf};
-ghost use Rattle.encoder.specs.Encode.{limit, answerOf, leaves, encodeTo};
-ghost use Rattle.encoder.specs.Encoder.{byte, nextOf, stepOf, stepTo, encoderAt, fresh, endOf, endByte, badEnd, lastEnd, badCount, badState, ended, runOf, looked, stepFrom, nextStep};
+ghost use Rattle.encoder.specs.Encode.{limit, encodeAnswer, afterEncode, encodeTo};
+ghost use Rattle.encoder.specs.Encoder.{byte, nextAnswer, stepOf, stepTo, encoderAt, freshEncoder, endOf, endByte, badEnd, lastEnd, badCount, badEncoder, ended, runOf, looked, stepFrom, nextStep};
 ghost use Rattle.encoder.specs.Parts.{Stored, Writes, runAfter};
 
 // The longest payload.
@@ -61,7 +61,7 @@ fn num_padding_bytes(len: usize) -> usize
 
 // An answer, and the Encoder behind it.
 fn answered(answer: Item, encoder: Encoder) -> Given
-    ensures { λ r. ⌜ stepOf r ≡ stepTo (nextOf answer) encoder ⌝ }
+    ensures { λ r. ⌜ stepOf r ≡ stepTo (nextAnswer answer) encoder ⌝ }
 {
     Given { answer, encoder }
 }
@@ -169,7 +169,7 @@ fn run_of(n: u8, b: u8) -> u8
 }
 
 // The payload's next byte, behind n 1b of a run, or the end's first.
-fn look(n: u8, place: usize, crc: u16, payload: &[u8]) -> Given
+fn looking_for_escape(n: u8, place: usize, crc: u16, payload: &[u8]) -> Given
     requires { ⌜ n ≤ 3 ⌝ }
     ensures { λ r. ⌜ stepOf r ≡ looked n place crc (now (payload .entry)) ⌝ }
 {
@@ -229,13 +229,13 @@ fn step(state: EncoderState, place: usize, crc: u16, payload: &[u8]) -> Given
             return give_end(n, place, crc);
         }
     };
-    look(run, place, crc, payload)
+    looking_for_escape(run, place, crc, payload)
 }
 
 impl Encoder {
     // An Encoder that gave nothing yet.
     pub fn new() -> Encoder
-        ensures { λ r. ⌜ r ≡ fresh ⌝ }
+        ensures { λ r. ⌜ r ≡ freshEncoder ⌝ }
     {
         Encoder {
             state: EncoderState::Init(0),
@@ -245,8 +245,8 @@ impl Encoder {
     }
 
     // Whether no call leaves this Encoder, on a payload of `len` bytes.
-    fn bad_state(self, len: usize) -> bool
-        ensures { λ r. ⌜ r ≡ badState self len ⌝ }
+    fn bad_encoder(self, len: usize) -> bool
+        ensures { λ r. ⌜ r ≡ badEncoder self len ⌝ }
     {
         if len < self.place {
             return true;
@@ -262,7 +262,7 @@ impl Encoder {
         if LIMIT < payload.len() {
             return answered(Item::PayloadTooLong, self);
         }
-        if self.bad_state(payload.len()) {
+        if self.bad_encoder(payload.len()) {
             return answered(Item::BadState, self);
         }
         let state = self.state;
@@ -284,7 +284,7 @@ fn extend_from_slice(out: &mut [u8], at: usize, bytes: &[u8]) -> usize
 }
 
 // The payload's bytes from `from` on that are no 1b go to `out`, from `at` on; answers how many. n 1b of a run stand before them.
-fn put_plain(payload: &[u8], from: usize, n: u8, out: &mut [u8], at: usize) -> usize
+fn put_unescaped(payload: &[u8], from: usize, n: u8, out: &mut [u8], at: usize) -> usize
     requires { ⌜ (from ≤ length (now payload)) × (at + length (escaped n (drop from (now payload))) ≤ length (now out)) ⌝ }
     ensures { λ k. ⌜ (from + k ≤ length (now (payload .entry))) × Writes (now (out .exit)) (at + k) (runAfter k n) (from + k) (now (out .entry)) at n from (now (payload .entry)) ⌝ }
 {
@@ -324,7 +324,7 @@ fn run_with(n: u8, b: u8) -> u8
 }
 
 // One byte of the payload, and the escape behind a fourth 1b; answers the place behind them.
-fn push(out: &mut [u8], at: usize, n: u8, b: u8) -> usize
+fn put_byte(out: &mut [u8], at: usize, n: u8, b: u8) -> usize
     requires { ⌜ at + length (b ∷ fourMore n b) ≤ length (now out) ⌝ }
     ensures { λ r. ⌜ Stored (now (out .exit)) r (now (out .entry)) at (b ∷ fourMore n b) ⌝ }
 {
@@ -347,13 +347,13 @@ fn put_escaped(payload: &[u8], out: &mut [u8], at: usize) -> usize
     let mut n: u8 = 0;
     let mut i = 0;
     while i < payload.len() {
-        let k = put_plain(payload, i, n, out, o);
+        let k = put_unescaped(payload, i, n, out, o);
         n = run_after(k, n);
         i += k;
         o += k;
         if i < payload.len() {
             let b = payload[i];
-            o = push(out, o, n, b);
+            o = put_byte(out, o, n, b);
             n = run_with(n, b);
             i += 1;
         }
@@ -435,7 +435,7 @@ fn put_frame(payload: &[u8], out: &mut [u8]) -> usize
 
 // The payload's frame goes to `out`; what stands behind it there is unchanged. A refusal changes nothing.
 pub fn encode(payload: &[u8], out: &mut [u8]) -> Encoded
-    ensures { λ r. ⌜ leaves (answerOf r) (now (out .exit)) ≡ encodeTo (now (payload .entry)) (now (out .entry)) ⌝ }
+    ensures { λ r. ⌜ afterEncode (encodeAnswer r) (now (out .exit)) ≡ encodeTo (now (payload .entry)) (now (out .entry)) ⌝ }
 {
     if LIMIT < payload.len() {
         return Encoded::PayloadTooLong;

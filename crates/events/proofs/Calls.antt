@@ -17,22 +17,22 @@ use Rattle.message.specs.Messages.{ListStart, ListEnd, Body, opened, closed, li
 use Rattle.message.proofs.Messages.{ListStartWithin, BodyWithin, StartWithin, start-found, list-end-found}
 use Rattle.trailer.specs.Trailer.{trailerAt}
 use Rattle.trailer.proofs.Trailer.{trailer-found}
-use Rattle.streaming.specs.Next.{Event, starts, entry, ends, Said, event, noEvent, failed, After, inputTooLong, onward, pendingOf, beginAt, trailerNext, endNext, entryNext, stepAt, nextAt}
-use Rattle.events.specs.Events.{Answers, nth, answer, says, quiet, atStart, inside, entriesFrom, contentFrom, messagesFrom, eventsOf}
+use Rattle.streaming.specs.Next.{MessageEvent, starts, entry, ends, Said, event, noEvent, failed, ReaderAfter, inputTooLong, onward, pendingOf, beginAt, trailerNext, endNext, entryNext, stepAt, nextAt}
+use Rattle.events.specs.Events.{Answers, nth, answer, saysFirst, noMore, atStart, inside, entriesFrom, contentFrom, messagesFrom, eventsOf}
 use Rattle.events.specs.Calls.{call}
 use Rattle.common.proofs.Ends.{entry-end}
 use Rattle.message.proofs.Ends.{list-end-end}
 use Rattle.trailer.proofs.Ends.{trailer-end}
 
 -- a reader whose numbers are sound
-pub record Sound (s : List ℕ) (at start pending : ℕ) : Type 0 where
+pub record SoundReader (s : List ℕ) (at start pending : ℕ) : Type 0 where
   pub short : length s ≤ 1048576
   pub inside-input : at ≤ length s
   pub begun : start ≤ at
   pub few : pending ≤ 4294967297
 
 -- a sound reader steps
-pub sound-next : (s : List ℕ) (at start pending : ℕ) → Sound s at start pending → nextAt s at start pending ≡ stepAt s at start pending
+pub sound-next : (s : List ℕ) (at start pending : ℕ) → SoundReader s at start pending → nextAt s at start pending ≡ stepAt s at start pending
 unfolding nextAt
 sound-next s at start pending h =
     rw (le-ltb 1048576 (length s) (h .short), le-leb at (length s) (h .inside-input), le-leb start at (h .begun), le-leb pending 4294967297 (h .few))
@@ -41,15 +41,15 @@ sound-next s at start pending h =
 pub record Gives (s : List ℕ) (at start pending : ℕ) (a : Answers) : Type 0 where
   pub gives : (k : ℕ) → call k s at start pending ≡ answer a k
 
-gives-event : {s : List ℕ} {at start pending : ℕ} (e : Event Span) (place start′ pending′ : ℕ) (a : Answers)
+gives-event : {s : List ℕ} {at start pending : ℕ} (e : MessageEvent Span) (place start′ pending′ : ℕ) (a : Answers)
     → nextAt s at start pending ≡ record { said = event e; place = place; start = start′; pending = pending′ }
-    → Gives s place start′ pending′ a → Gives s at start pending (says e a)
-unfolding call answer nth says
+    → Gives s place start′ pending′ a → Gives s at start pending (saysFirst e a)
+unfolding call answer nth saysFirst
 gives-event {s} {at} {start} {pending} e place start′ pending′ a h g = record { gives = by }
   where
-    by : (k : ℕ) → call k s at start pending ≡ answer (says e a) k
-    by zero = ap (λ (r : After). r .said) h
-    by (suc k) = ap (λ (r : After). call k s (r .place) (r .start) (r .pending)) h ∙ g .gives k
+    by : (k : ℕ) → call k s at start pending ≡ answer (saysFirst e a) k
+    by zero = ap (λ (r : ReaderAfter). r .said) h
+    by (suc k) = ap (λ (r : ReaderAfter). call k s (r .place) (r .start) (r .pending)) h ∙ g .gives k
 
 -- the same answer for ever
 gives-ever : {s : List ℕ} {at start pending : ℕ} (x : Said) → nextAt s at start pending ≡ record { said = x; place = at; start = start; pending = pending }
@@ -58,8 +58,8 @@ unfolding call answer nth
 gives-ever {s} {at} {start} {pending} x h = record { gives = by }
   where
     by : (k : ℕ) → call k s at start pending ≡ answer (record { first = []; later = x }) k
-    by zero = ap (λ (r : After). r .said) h
-    by (suc k) = ap (λ (r : After). call k s (r .place) (r .start) (r .pending)) h ∙ by k
+    by zero = ap (λ (r : ReaderAfter). r .said) h
+    by (suc k) = ap (λ (r : ReaderAfter). call k s (r .place) (r .start) (r .pending)) h ∙ by k
 
 -- a refusal, and then the same answer for ever
 gives-then : {s : List ℕ} {at start pending : ℕ} (x y : Said) (place start′ pending′ : ℕ)
@@ -73,8 +73,8 @@ gives-then {s} {at} {start} {pending} x y place start′ pending′ h g = record
     ever = gives-ever y g
 
     by : (k : ℕ) → call k s at start pending ≡ answer (record { first = x ∷ []; later = y }) k
-    by zero = ap (λ (r : After). r .said) h
-    by (suc k) = ap (λ (r : After). call k s (r .place) (r .start) (r .pending)) h ∙ ever .gives k
+    by zero = ap (λ (r : ReaderAfter). r .said) h
+    by (suc k) = ap (λ (r : ReaderAfter). call k s (r .place) (r .start) (r .pending)) h ∙ ever .gives k
 
 -- two readers that answer alike go on alike
 gives-same : {s : List ℕ} {at start pending place start′ pending′ : ℕ} {a : Answers} → nextAt s at start pending ≡ nextAt s place start′ pending′
@@ -83,11 +83,11 @@ unfolding call
 gives-same {s} {at} {start} {pending} {place} {start′} {pending′} {a} h g = record { gives = by }
   where
     by : (k : ℕ) → call k s at start pending ≡ answer a k
-    by zero = ap (λ (r : After). r .said) h ∙ g .gives zero
-    by (suc k) = ap (λ (r : After). call k s (r .place) (r .start) (r .pending)) h ∙ g .gives (suc k)
+    by zero = ap (λ (r : ReaderAfter). r .said) h ∙ g .gives zero
+    by (suc k) = ap (λ (r : ReaderAfter). call k s (r .place) (r .start) (r .pending)) h ∙ g .gives (suc k)
 
 -- the refused reader inside a message: 10 for ever
-end-ever : (s : List ℕ) (start pending : ℕ) → Sound s (length s) start pending → 1 ≤ pending
+end-ever : (s : List ℕ) (start pending : ℕ) → SoundReader s (length s) start pending → 1 ≤ pending
     → nextAt s (length s) start pending ≡ record { said = failed (eof (length s)); place = length s; start = start; pending = pending }
 unfolding stepAt trailerNext endNext entryNext onward
 end-ever s start zero h p = absurd (omega arith)
@@ -96,13 +96,13 @@ end-ever s start (suc (suc zero)) h p = rw (sound-next s (length s) start (suc (
 end-ever s start (suc (suc (suc k))) h p = rw (sound-next s (length s) start (suc (suc (suc k))) h, entry-end s (length s) (omega arith))
 
 -- the refused reader at a message start, and every reader where the input ends between messages: no event for ever
-begin-ever : (s : List ℕ) (at start : ℕ) → Sound s at start 0 → length s ≤ at → nextAt s at start 0 ≡ record { said = noEvent; place = at; start = start; pending = 0 }
+begin-ever : (s : List ℕ) (at start : ℕ) → SoundReader s at start 0 → length s ≤ at → nextAt s at start 0 ≡ record { said = noEvent; place = at; start = start; pending = 0 }
 unfolding stepAt beginAt
 begin-ever s at start h p = rw (sound-next s at start 0 h, le-leb (length s) at p)
 
 -- a step inside a message: what was read goes on, a refusal stays
-inside-gives : {A : Type 0} {P : A → Type 0} {s : List ℕ} {at start pending : ℕ} (r : Read A) (k : A → ℕ → After) (a : A → ℕ → Answers) → Ok (Found P s at) r
-    → Sound s at start pending → 1 ≤ pending
+inside-gives : {A : Type 0} {P : A → Type 0} {s : List ℕ} {at start pending : ℕ} (r : Read A) (k : A → ℕ → ReaderAfter) (a : A → ℕ → Answers) → Ok (Found P s at) r
+    → SoundReader s at start pending → 1 ≤ pending
     → nextAt s at start pending ≡ onward (length s) start pending r k
     → ((x : A) (n : ℕ) → P x → at < n → n ≤ length s → nextAt s at start pending ≡ k x n → Gives s at start pending (a x n))
     → Gives s at start pending (inside (length s) r a)
@@ -114,7 +114,7 @@ inside-gives {s = s} {at = at} {start = start} {pending = pending} (refused x) k
     gives-then (failed x) (failed (eof (length s))) (length s) start pending e
     (end-ever s start pending (record { short = h .short; inside-input = omega arith; begun = omega arith; few = h .few }) p)
 
-entries-give : (n : ℕ) {s : List ℕ} {at start : ℕ} (k : ℕ → Answers) → Sound s at start (suc (suc n))
+entries-give : (n : ℕ) {s : List ℕ} {at start : ℕ} (k : ℕ → Answers) → SoundReader s at start (suc (suc n))
     → ((m : ℕ) → at ≤ m → m ≤ length s → Gives s m start (suc (suc zero)) (k m)) → Gives s at start (suc (suc n)) (entriesFrom n s at k)
 unfolding entriesFrom stepAt entryNext
 entries-give zero {s} {at} {start} k h g = g at (omega arith) (h .inside-input)
@@ -124,15 +124,15 @@ entries-give (suc n) {s} {at} {start} k h g =
     gives-event (entry e) m start (suc (suc n)) _ x
     (entries-give n k (record { short = h .short; inside-input = q; begun = omega arith; few = omega arith }) (λ i j l. g i (omega arith) l)))
 
-list-end-gives : {s : List ℕ} {at start : ℕ} (k : ℕ → Answers) → Sound s at start (suc (suc zero))
+list-end-gives : {s : List ℕ} {at start : ℕ} (k : ℕ → Answers) → SoundReader s at start (suc (suc zero))
     → ((m : ℕ) → at ≤ m → m ≤ length s → Gives s m start (suc zero) (k m))
-    → Gives s at start (suc (suc zero)) (inside (length s) (listEndAt s at) λ e m. says (ends e) (k m))
+    → Gives s at start (suc (suc zero)) (inside (length s) (listEndAt s at) λ e m. saysFirst (ends e) (k m))
 unfolding stepAt endNext
 list-end-gives {s} {at} {start} k h g =
     inside-gives (listEndAt s at) _ _ (list-end-found s at) h (omega arith) (sound-next s at start (suc (suc zero)) h)
     (λ e m w p q x. gives-event (ends e) m start (suc zero) _ x (g m (omega arith) q))
 
-trailer-gives : {s : List ℕ} {at start : ℕ} (k : ℕ → Answers) → Sound s at start (suc zero)
+trailer-gives : {s : List ℕ} {at start : ℕ} (k : ℕ → Answers) → SoundReader s at start (suc zero)
     → ((m : ℕ) → at < m → m ≤ length s → Gives s m start zero (k m))
     → Gives s at start (suc zero) (inside (length s) (trailerAt s start at) λ trailer m. k m)
 unfolding stepAt trailerNext
@@ -153,22 +153,22 @@ content-gives (listed b) {s} {at} {start} k l p q w g =
     (entries-give (b .count) _ (record { short = l; inside-input = p; begun = q; few = omega arith })
     (λ m i j. list-end-gives _ (record { short = l; inside-input = j; begun = omega arith; few = omega arith }) (λ m′ i′ j′. g m′ (omega arith) j′)))
 
-start-gives : {s : List ℕ} {at start : ℕ} (r : Read (MessageStart Span)) (a : MessageStart Span → ℕ → Answers) → Ok (Found (StartWithin s) s at) r → Sound s at start 0
+start-gives : {s : List ℕ} {at start : ℕ} (r : Read (MessageStart Span)) (a : MessageStart Span → ℕ → Answers) → Ok (Found (StartWithin s) s at) r → SoundReader s at start 0
     → nextAt s at start 0 ≡ (onward (length s) at 0 r λ m n. record { said = event (starts m); place = n; start = at; pending = pendingOf (m .body) })
     → ((m : MessageStart Span) (n : ℕ) → StartWithin s m → at < n → n ≤ length s → Gives s n at (pendingOf (m .body)) (a m n))
-    → Gives s at start 0 (atStart r λ m n. says (starts m) (a m n))
+    → Gives s at start 0 (atStart r λ m n. saysFirst (starts m) (a m n))
 unfolding onward atStart
 start-gives (got m n) a o h e f = let w = o .holds in let v = w .1 in gives-event (starts m) n _ _ (a m n) e (f m n (w .0) (v .ahead) (v .within))
 start-gives {s} {at} {start} (refused x) a o h e f =
     gives-then (failed x) noEvent (length s) at 0 e
     (begin-ever s (length s) at (record { short = h .short; inside-input = omega arith; begun = h .inside-input; few = omega arith }) (omega arith))
 
-pub messages-give : (many : ℕ) {s : List ℕ} (at start : ℕ) → Sound s at start 0 → length s - at < many → Gives s at start 0 (messagesFrom many s at)
+pub messages-give : (many : ℕ) {s : List ℕ} (at start : ℕ) → SoundReader s at start 0 → length s - at < many → Gives s at start 0 (messagesFrom many s at)
 unfolding messagesFrom stepAt beginAt
 messages-give zero at start h m = absurd (omega arith)
 messages-give (suc many) {s} at start h m = by (leb (length s) at) refl (λ n₃ g l. messages-give many n₃ at g l)
   where
-    by : (t : Bool) → leb (length s) at ≡ t → ((n : ℕ) → Sound s n at 0 → length s - n < many → Gives s n at 0 (messagesFrom many s n))
+    by : (t : Bool) → leb (length s) at ≡ t → ((n : ℕ) → SoundReader s n at 0 → length s - n < many → Gives s n at 0 (messagesFrom many s n))
         → Gives s at start 0 (messagesFrom (suc many) s at)
     by true e next = rw e (gives-ever noEvent (begin-ever s at start h (leb-true (length s) at e)))
     by false e next =

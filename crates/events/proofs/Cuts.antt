@@ -7,14 +7,14 @@ use lib.ListN.{take}
 use Rattle.crc_x25.specs.Crc.{reflect, polynomial, bitStep, bitSteps, byteStep, register, finalXor, crcOf}
 use Rattle.tlf.specs.Read.{Refusal, then, guard, need, eof, byteAt, spanAt}
 use Rattle.tlf.specs.Lengths.{tlfAt, lengthFrom, lessOwn, listOfAt}
-use Rattle.num.specs.Numbers.{number, bytesAt, rawFrom, rawAt, unsignedAt, signedOf, signedAt, boolFrom, boolAt}
+use Rattle.numbers.specs.Numbers.{number, bytesAt, rawFrom, rawAt, unsignedAt, signedOf, signedAt, boolFrom, boolAt}
 use Rattle.octet_string.specs.Strings.{octetsAt}
 use Rattle.octet_string.specs.Optional.{absentAt, optional}
 use Rattle.value.specs.Values.{timeAt, statusOf, statusAt, signedValue, unsignedValue, listTypeAt, valueOf, valueAt}
 use Rattle.common.specs.Fields.{openAt, closeAt, entryAt, messageEndAt}
 use Rattle.message.specs.Messages.{listStartAt, listEndAt, contentAt, bodyAt, startAt}
 use Rattle.trailer.specs.Trailer.{crcFrom, trailerAt}
-use Rattle.events.specs.Events.{says, atStart, inside, entriesFrom, contentFrom, messagesFrom, eventsOf}
+use Rattle.events.specs.Events.{saysFirst, atStart, inside, entriesFrom, contentFrom, messagesFrom, eventsOf}
 use Rattle.events.specs.Telling.{firstRefusal}
 
 abbrev pub openMessage : List ℕ
@@ -41,5 +41,5 @@ pub record Cuts : Type 0 where
   pub close-cut : cuts closeMessage 17 ≡ ends-of-input 17
 
 pub all-cuts : Cuts
-unfolding then guard need byteAt spanAt tlfAt lengthFrom lessOwn listOfAt number bytesAt rawFrom rawAt unsignedAt signedOf signedAt boolFrom boolAt octetsAt absentAt optional timeAt statusOf statusAt signedValue unsignedValue listTypeAt valueOf valueAt openAt closeAt entryAt messageEndAt listStartAt listEndAt contentAt bodyAt startAt reflect polynomial bitStep bitSteps byteStep register finalXor crcOf crcFrom trailerAt says atStart inside entriesFrom contentFrom messagesFrom eventsOf firstRefusal cuts ends-of-input
+unfolding then guard need byteAt spanAt tlfAt lengthFrom lessOwn listOfAt number bytesAt rawFrom rawAt unsignedAt signedOf signedAt boolFrom boolAt octetsAt absentAt optional timeAt statusOf statusAt signedValue unsignedValue listTypeAt valueOf valueAt openAt closeAt entryAt messageEndAt listStartAt listEndAt contentAt bodyAt startAt reflect polynomial bitStep bitSteps byteStep register finalXor crcOf crcFrom trailerAt saysFirst atStart inside entriesFrom contentFrom messagesFrom eventsOf firstRefusal cuts ends-of-input
 all-cuts = record { open-cut = refl; list-cut = refl; close-cut = refl }

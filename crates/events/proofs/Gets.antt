@@ -7,7 +7,7 @@ use Rattle.crc_x25.specs.Crc.{crcOf}
 use Rattle.tlf.specs.Read.{Read}
 use Rattle.tlf.specs.declared.Span.{Span}
 use Rattle.tlf.proofs.Rest.{Rest, Gets, Reads, Is, Made, gets-then, gets-is, gets-got}
-use Rattle.num.specs.Numbers.{unsignedAt}
+use Rattle.numbers.specs.Numbers.{unsignedAt}
 use Rattle.common.specs.Fields.{OpenResponse, CloseResponse, ListEntry, entryAt, messageEndAt}
 use Rattle.message.specs.Messages.{ListStart, ListEnd, Body, opened, closed, listed, MessageStart, startAt, listEndAt}
 use Rattle.message.proofs.Gets.{ListStartHas}

@@ -7,20 +7,20 @@ use Rattle.tlf.specs.Read.{Read, got, refused, Refusal}
 use Rattle.tlf.specs.declared.Span.{Span}
 use Rattle.common.specs.Fields.{ListEntry, entryAt}
 use Rattle.message.specs.Messages.{ListStart, ListEnd, listed, listEndAt}
-use Rattle.streaming.specs.Next.{Event, entry, ends, Said, failed}
-use Rattle.events.specs.Events.{Answers, says, inside, entriesFrom, contentFrom}
+use Rattle.streaming.specs.Next.{MessageEvent, entry, ends, Said, failed}
+use Rattle.events.specs.Events.{Answers, saysFirst, inside, entriesFrom, contentFrom}
 
 pub data Listing : ℕ → Answers → Type 0 where
   stops : {n : ℕ} (f : Refusal) (x : Said) → Listing n (record { first = failed f ∷ []; later = x })
-  lists : {n : ℕ} (e : ListEntry Span) {a : Answers} → Listing n a → Listing (suc n) (says (entry e) a)
-  ended : (e : ListEnd Span) (a : Answers) → Listing 0 (says (ends e) a)
+  lists : {n : ℕ} (e : ListEntry Span) {a : Answers} → Listing n a → Listing (suc n) (saysFirst (entry e) a)
+  ended : (e : ListEnd Span) (a : Answers) → Listing 0 (saysFirst (ends e) a)
 
-end-lists : (end : ℕ) (r : Read (ListEnd Span)) (k : ℕ → Answers) → Listing 0 (inside end r λ e m. says (ends e) (k m))
+end-lists : (end : ℕ) (r : Read (ListEnd Span)) (k : ℕ → Answers) → Listing 0 (inside end r λ e m. saysFirst (ends e) (k m))
 unfolding inside
 end-lists end (got e m) k = ended e (k m)
 end-lists end (refused f) k = stops f _
 
-entry-lists : (n end : ℕ) (r : Read (ListEntry Span)) (k : ℕ → Answers) → ((m : ℕ) → Listing n (k m)) → Listing (suc n) (inside end r λ e m. says (entry e) (k m))
+entry-lists : (n end : ℕ) (r : Read (ListEntry Span)) (k : ℕ → Answers) → ((m : ℕ) → Listing n (k m)) → Listing (suc n) (inside end r λ e m. saysFirst (entry e) (k m))
 unfolding inside
 entry-lists n end (got e m) k h = lists e (h m)
 entry-lists n end (refused f) k h = stops f _

@@ -12,7 +12,7 @@ use Rattle.octet_string.proofs.Gets.{Part}
 use Rattle.value.specs.Values.{Status, Value, truth, bytes, signed, unsigned, listTime}
 use Rattle.common.specs.Fields.{OpenResponse, CloseResponse, ListEntry}
 use Rattle.message.specs.Messages.{ListStart, ListEnd, Body, opened, closed, listed, MessageStart}
-use Rattle.streaming.specs.Next.{Event, starts, entry, ends}
+use Rattle.streaming.specs.Next.{MessageEvent, starts, entry, ends}
 use Rattle.events.specs.Meaning.{each, statusMeans, valueMeans, entryMeans, openMeans, closeMeans, listStartMeans, listEndMeans, bodyMeans, startMeans, meaning}
 
 -- any width will do
@@ -148,34 +148,34 @@ end-one : (s t : List ℕ) (x y : ListEnd Span) → EndAlike s t x y → listEnd
 end-one s t x y h = rw (h .signature, h .time)
 
 -- two events alike: of one kind, and alike field by field
-abbrev pub EventAlike : List ℕ → List ℕ → Event Span → Event Span → Type 0
+abbrev pub EventAlike : List ℕ → List ℕ → MessageEvent Span → MessageEvent Span → Type 0
 EventAlike s t (starts a) y = Made starts (λ u b. StartAlike s u a b) t y
 EventAlike s t (entry a) y = Made entry (λ u b. EntryAlike s u a b) t y
 EventAlike s t (ends a) y = Made ends (λ u b. EndAlike s u a b) t y
 
 -- the events of an input that have a meaning
-abbrev EventSays : List ℕ → Event (List ℕ) → Event Span → Type 0
+abbrev EventSays : List ℕ → MessageEvent (List ℕ) → MessageEvent Span → Type 0
 EventSays t (starts m) y = Made starts (λ u a. startMeans u a ≡ m) t y
 EventSays t (entry m) y = Made entry (λ u a. entryMeans u a ≡ m) t y
 EventSays t (ends m) y = Made ends (λ u a. listEndMeans u a ≡ m) t y
 
-event-own : (t : List ℕ) (y : Event Span) → EventSays t (meaning t y) y
+event-own : (t : List ℕ) (y : MessageEvent Span) → EventSays t (meaning t y) y
 unfolding meaning
 event-own t (starts a) = record { of = a; is = refl; has = refl }
 event-own t (entry a) = record { of = a; is = refl; has = refl }
 event-own t (ends a) = record { of = a; is = refl; has = refl }
 
-event-says : (s t : List ℕ) (x y : Event Span) → EventSays t (meaning s x) y → EventAlike s t x y
+event-says : (s t : List ℕ) (x y : MessageEvent Span) → EventSays t (meaning s x) y → EventAlike s t x y
 unfolding meaning
 event-says s t (starts a) y h = record { of = h .of; is = h .is; has = start-alike s t a (h .of) (sym (h .has)) }
 event-says s t (entry a) y h = record { of = h .of; is = h .is; has = entry-alike s t a (h .of) (sym (h .has)) }
 event-says s t (ends a) y h = record { of = h .of; is = h .is; has = end-alike s t a (h .of) (sym (h .has)) }
 
 -- two events have one meaning exactly if they are alike
-pub events-alike : (s t : List ℕ) (x y : Event Span) → meaning s x ≡ meaning t y → EventAlike s t x y
+pub events-alike : (s t : List ℕ) (x y : MessageEvent Span) → meaning s x ≡ meaning t y → EventAlike s t x y
 events-alike s t x y e = event-says s t x y (rw e (event-own t y))
 
-pub events-mean : (s t : List ℕ) (x y : Event Span) → EventAlike s t x y → meaning s x ≡ meaning t y
+pub events-mean : (s t : List ℕ) (x y : MessageEvent Span) → EventAlike s t x y → meaning s x ≡ meaning t y
 unfolding meaning
 events-mean s t (starts a) y h = ap starts (start-one s t a (h .of) (h .has)) ∙ ap (meaning t) (sym (h .is))
 events-mean s t (entry a) y h = ap entry (entry-one s t a (h .of) (h .has)) ∙ ap (meaning t) (sym (h .is))

@@ -7,33 +7,33 @@ use lib.IntN.{pos, negsuc}
 use Rattle.crc_x25.specs.Crc.{reflect, polynomial, bitStep, bitSteps, byteStep, register, finalXor, crcOf}
 use Rattle.tlf.specs.Read.{Read, got, then, guard, need, byteAt, spanAt}
 use Rattle.tlf.specs.Lengths.{tlfAt, lengthFrom, lessOwn, listOfAt}
-use Rattle.num.specs.Numbers.{number, bytesAt, rawFrom, rawAt, unsignedAt, signedOf, signedAt, boolFrom, boolAt}
+use Rattle.numbers.specs.Numbers.{number, bytesAt, rawFrom, rawAt, unsignedAt, signedOf, signedAt, boolFrom, boolAt}
 use Rattle.octet_string.specs.Strings.{octetsAt, isWithin, partOf}
 use Rattle.octet_string.specs.Optional.{absentAt, optional}
 use Rattle.value.specs.Values.{bytes, signed, unsigned, timeAt, statusOf, statusAt, signedValue, unsignedValue, listTypeAt, valueOf, valueAt}
 use Rattle.common.specs.Fields.{openAt, closeAt, entryAt, messageEndAt}
 use Rattle.message.specs.Messages.{opened, closed, listed, listStartAt, listEndAt, contentAt, bodyAt, startAt}
 use Rattle.trailer.specs.Trailer.{crcFrom, trailerAt}
-use Rattle.streaming.specs.Next.{Event, starts, entry, ends, Said, event, noEvent, failed}
-use Rattle.events.specs.Events.{says, atStart, inside, entriesFrom, contentFrom, messagesFrom, eventsOf}
+use Rattle.streaming.specs.Next.{MessageEvent, starts, entry, ends, Said, event, noEvent, failed}
+use Rattle.events.specs.Events.{saysFirst, atStart, inside, entriesFrom, contentFrom, messagesFrom, eventsOf}
 use Rattle.events.specs.Meaning.{meaning}
 use Rattle.events.proofs.Cuts.{openMessage, listMessage, closeMessage}
 
 -- the meanings of the events that the calls answer on an input
-unfoldable pub meaningsIn : List ℕ → List Said → List (Event (List ℕ))
+unfoldable pub meaningsIn : List ℕ → List Said → List (MessageEvent (List ℕ))
 meaningsIn s [] = []
 meaningsIn s (event e ∷ xs) = meaning s e ∷ meaningsIn s xs
 meaningsIn s (noEvent ∷ xs) = meaningsIn s xs
 meaningsIn s (failed f ∷ xs) = meaningsIn s xs
 
-unfoldable pub meaningsOf : List ℕ → List (Event (List ℕ))
+unfoldable pub meaningsOf : List ℕ → List (MessageEvent (List ℕ))
 meaningsOf s = meaningsIn s (eventsOf s .first)
 
 -- the meaning of the entry at an input's start
-unfoldable pub entryOf : List ℕ → Read (Event (List ℕ))
+unfoldable pub entryOf : List ℕ → Read (MessageEvent (List ℕ))
 entryOf s = then (entryAt s 0) λ e n. got (meaning s (entry e)) n
 
-abbrev seven : Event (List ℕ)
+abbrev seven : MessageEvent (List ℕ)
 seven = entry (record { name = 9 ∷ []; status = some (record { width = 8; number = 5 }); time = none; unit = none; scaler = none; value = unsigned 8 7; signature = none })
 
 pub record Meanings : Type 0 where
@@ -44,5 +44,5 @@ pub record Meanings : Type 0 where
   pub long-form : entryOf (0x77 ∷ 0x80 ∷ 0x03 ∷ 0x09 ∷ 0x63 ∷ 0x00 ∷ 0x05 ∷ 0x01 ∷ 0x01 ∷ 0x01 ∷ 0x65 ∷ 0x00 ∷ 0x00 ∷ 0x00 ∷ 0x07 ∷ 0x01 ∷ []) ≡ got seven 16
 
 pub meanings : Meanings
-unfolding then guard need byteAt spanAt tlfAt lengthFrom lessOwn listOfAt number bytesAt rawFrom rawAt unsignedAt signedOf signedAt boolFrom boolAt octetsAt isWithin partOf absentAt optional timeAt statusOf statusAt signedValue unsignedValue listTypeAt valueOf valueAt openAt closeAt entryAt messageEndAt listStartAt listEndAt contentAt bodyAt startAt reflect polynomial bitStep bitSteps byteStep register finalXor crcOf crcFrom trailerAt says atStart inside entriesFrom contentFrom messagesFrom eventsOf meaning meaningsIn meaningsOf entryOf
+unfolding then guard need byteAt spanAt tlfAt lengthFrom lessOwn listOfAt number bytesAt rawFrom rawAt unsignedAt signedOf signedAt boolFrom boolAt octetsAt isWithin partOf absentAt optional timeAt statusOf statusAt signedValue unsignedValue listTypeAt valueOf valueAt openAt closeAt entryAt messageEndAt listStartAt listEndAt contentAt bodyAt startAt reflect polynomial bitStep bitSteps byteStep register finalXor crcOf crcFrom trailerAt saysFirst atStart inside entriesFrom contentFrom messagesFrom eventsOf meaning meaningsIn meaningsOf entryOf
 meanings = record { open-means = refl; list-means = refl; close-means = refl; short-form = refl; long-form = refl }

@@ -14,9 +14,9 @@ use Rattle.common.specs.Fields.{OpenResponse, CloseResponse, ListEntry}
 use Rattle.common.proofs.Fields.{OpenWithin, CloseWithin, EntryWithin}
 use Rattle.message.specs.Messages.{ListStart, ListEnd, Body, opened, closed, listed, MessageStart}
 use Rattle.message.proofs.Messages.{ListStartWithin, ListEndWithin, BodyWithin, StartWithin}
-use Rattle.streaming.specs.Next.{Event, starts, entry, ends, Said, event, noEvent, failed, After, nextAt}
+use Rattle.streaming.specs.Next.{MessageEvent, starts, entry, ends, Said, event, noEvent, failed, ReaderAfter, nextAt}
 use Rattle.events.specs.Meaning.{each, valueMeans, bodyMeans, meaning}
-use Rattle.events.proofs.Calls.{Sound}
+use Rattle.events.proofs.Calls.{SoundReader}
 use Rattle.events.proofs.Places.{EventWithin, SaidWithin, Kept, next-kept}
 
 -- a string that is there, before others
@@ -37,7 +37,7 @@ bodyStrings (closed b) = opt (b .signature) []
 bodyStrings (listed b) = opt (b .clientId) (b .serverId ∷ opt (b .name) [])
 
 -- all strings of an event, in the order of its fields
-abbrev pub stringsOf : {T : Type 0} → Event T → List T
+abbrev pub stringsOf : {T : Type 0} → MessageEvent T → List T
 stringsOf (starts m) = m .transactionId ∷ bodyStrings (m .body)
 stringsOf (entry e) = e .name ∷ valueStrings (e .value) (opt (e .signature) [])
 stringsOf (ends e) = opt (e .signature) []
@@ -59,14 +59,14 @@ map-body s (closed b) = map-opt (partOf s) (b .signature) []
 map-body s (listed b) = rw (map-opt (partOf s) (b .clientId), map-opt (partOf s) (b .name))
 
 -- a meaning's strings are the parts of the event's, one for one
-pub strings-are : (s : List ℕ) (e : Event Span) → stringsOf (meaning s e) ≡ map (partOf s) (stringsOf e)
+pub strings-are : (s : List ℕ) (e : MessageEvent Span) → stringsOf (meaning s e) ≡ map (partOf s) (stringsOf e)
 unfolding meaning
 strings-are s (starts m) = rw (map-body s (m .body))
 strings-are s (entry e) = rw (map-value s (e .value), map-opt (partOf s) (e .signature))
 strings-are s (ends e) = rw (map-opt (partOf s) (e .signature))
 
 -- so events of one meaning have the same strings
-pub same-strings : (s t : List ℕ) (x y : Event Span) → meaning s x ≡ meaning t y → map (partOf s) (stringsOf x) ≡ map (partOf t) (stringsOf y)
+pub same-strings : (s t : List ℕ) (x y : MessageEvent Span) → meaning s x ≡ meaning t y → map (partOf s) (stringsOf x) ≡ map (partOf t) (stringsOf y)
 same-strings s t x y e = sym (strings-are s x) ∙ ap stringsOf e ∙ strings-are t y
 
 -- a span that is never 16: its part are the bytes from its start on
@@ -97,13 +97,13 @@ all-body s (opened b) h = all-opt s (b .codepage) _ (h .codepage) (all-opt s (b 
 all-body s (closed b) h = all-opt s (b .signature) [] (h .signature) tt
 all-body s (listed b) h = all-opt s (b .clientId) _ (h .clientId) (good (h .serverId), all-opt s (b .name) [] (h .name) tt)
 
-all-event : (s : List ℕ) (e : Event Span) → EventWithin s e → All (Good s) (stringsOf e)
+all-event : (s : List ℕ) (e : MessageEvent Span) → EventWithin s e → All (Good s) (stringsOf e)
 all-event s (starts m) h = (good (h .transactionId), all-body s (m .body) (h .body))
 all-event s (entry e) h = (good (h .name), all-value s (e .value) _ (h .value) (all-opt s (e .signature) [] (h .signature) tt))
 all-event s (ends e) h = all-opt s (e .signature) [] (h .signature) tt
 
 -- every string of an event that a sound reader's call answers is good
-pub next-strings : (s : List ℕ) (at start pending : ℕ) (e : Event Span) → Sound s at start pending → nextAt s at start pending .said ≡ event e → All (Good s) (stringsOf e)
+pub next-strings : (s : List ℕ) (at start pending : ℕ) (e : MessageEvent Span) → SoundReader s at start pending → nextAt s at start pending .said ≡ event e → All (Good s) (stringsOf e)
 next-strings s at start pending e h q =
     let k = next-kept s at start pending h in
     let w = rw q at (k .strings) in

@@ -16,11 +16,11 @@ use Rattle.message.specs.Messages.{ListStart, ListEnd, Body, opened, closed, li
 use Rattle.message.proofs.Messages.{ListStartWithin, ListEndWithin, BodyWithin, StartWithin, start-found, list-end-found}
 use Rattle.trailer.specs.Trailer.{trailerAt}
 use Rattle.trailer.proofs.Trailer.{trailer-found}
-use Rattle.streaming.specs.Next.{Event, starts, entry, ends, Said, event, noEvent, failed, After, onward, pendingOf, beginAt, trailerNext, endNext, entryNext, stepAt, nextAt}
-use Rattle.events.proofs.Calls.{Sound, sound-next}
+use Rattle.streaming.specs.Next.{MessageEvent, starts, entry, ends, Said, event, noEvent, failed, ReaderAfter, onward, pendingOf, beginAt, trailerNext, endNext, entryNext, stepAt, nextAt}
+use Rattle.events.proofs.Calls.{SoundReader, sound-next}
 
 -- every string of an event lies within the input
-abbrev pub EventWithin : List ℕ → Event Span → Type 0
+abbrev pub EventWithin : List ℕ → MessageEvent Span → Type 0
 EventWithin s (starts m) = StartWithin s m
 EventWithin s (entry e) = EntryWithin s e
 EventWithin s (ends e) = ListEndWithin s e
@@ -32,7 +32,7 @@ SaidWithin s at place noEvent = Unit {0}
 SaidWithin s at place (failed f) = Unit {0}
 
 -- behind a call: the place has not fallen and lies within the input, the reader is sound again, and an event's strings lie within the input
-pub record Kept (s : List ℕ) (at : ℕ) (r : After) : Type 0 where
+pub record Kept (s : List ℕ) (at : ℕ) (r : ReaderAfter) : Type 0 where
   pub low : at ≤ r .place
   pub high : r .place ≤ length s
   pub begun : r .start ≤ r .place
@@ -44,7 +44,7 @@ few-pending s (opened b) h = omega arith
 few-pending s (closed b) h = omega arith
 few-pending s (listed b) h = let c = h .count in omega arith
 
-kept-on : {A : Type 0} {P : A → Type 0} {s : List ℕ} {at m : ℕ} (start pending : ℕ) (r : Read A) (k : A → ℕ → After) → Ok (Found P s m) r
+kept-on : {A : Type 0} {P : A → Type 0} {s : List ℕ} {at m : ℕ} (start pending : ℕ) (r : Read A) (k : A → ℕ → ReaderAfter) → Ok (Found P s m) r
     → at ≤ length s → start ≤ length s → pending ≤ 4294967297 → ((a : A) (n : ℕ) → P a → m < n → n ≤ length s → Kept s at (k a n)) → Kept s at (onward (length s) start pending r k)
 unfolding onward
 kept-on start pending (got a n) k h p q o f = let w = h .holds in let v = w .1 in f a n (w .0) (v .ahead) (v .within)
@@ -61,7 +61,7 @@ begin-kept s old at start o p q = by (leb (length s) at)
         kept-on at 0 _ _ (start-found s at) (omega arith) p (omega arith)
         (λ m n h i j. record { low = omega arith; high = j; begun = omega arith; few = few-pending s (m .body) (h .body); strings = (h, omega arith) })
 
-step-kept : (s : List ℕ) (at start pending : ℕ) → Sound s at start pending → Kept s at (stepAt s at start pending)
+step-kept : (s : List ℕ) (at start pending : ℕ) → SoundReader s at start pending → Kept s at (stepAt s at start pending)
 unfolding stepAt trailerNext endNext entryNext
 step-kept s at start zero h = begin-kept s at at start (omega arith) (h .inside-input) (h .begun)
 step-kept s at start (suc zero) h =
@@ -82,18 +82,18 @@ step-kept s at start (suc (suc (suc k))) h =
     (λ e n w i j. record { low = omega arith; high = j; begun = omega arith; few = omega arith; strings = (w, i) })
 
 -- of a sound reader
-pub next-kept : (s : List ℕ) (at start pending : ℕ) → Sound s at start pending → Kept s at (nextAt s at start pending)
+pub next-kept : (s : List ℕ) (at start pending : ℕ) → SoundReader s at start pending → Kept s at (nextAt s at start pending)
 next-kept s at start pending h = rw (sound-next s at start pending h) (step-kept s at start pending h)
 
 -- a sound reader stays sound
-pub next-sound : (s : List ℕ) (at start pending : ℕ) → Sound s at start pending
-    → Sound s (nextAt s at start pending .place) (nextAt s at start pending .start) (nextAt s at start pending .pending)
+pub next-sound : (s : List ℕ) (at start pending : ℕ) → SoundReader s at start pending
+    → SoundReader s (nextAt s at start pending .place) (nextAt s at start pending .start) (nextAt s at start pending .pending)
 next-sound s at start pending h =
     let k = next-kept s at start pending h in
     record { short = h .short; inside-input = k .high; begun = k .begun; few = k .few }
 
 -- at an entry: the old place is the entry's first byte, the new one is behind its last
-pub record AtEntry (s : List ℕ) (at : ℕ) (r : After) : Type 0 where
+pub record AtEntry (s : List ℕ) (at : ℕ) (r : ReaderAfter) : Type 0 where
   pub spans : (e : ListEntry Span) → r .said ≡ event (entry e) → entryAt s at ≡ got e (r .place)
 
 abbrev isEntry : Said → ℕ
@@ -110,10 +110,10 @@ theEntry d (event (ends e)) = d
 theEntry d noEvent = d
 theEntry d (failed f) = d
 
-no-entry : {s : List ℕ} {at : ℕ} {r : After} → isEntry (r .said) ≡ 0 → AtEntry s at r
+no-entry : {s : List ℕ} {at : ℕ} {r : ReaderAfter} → isEntry (r .said) ≡ 0 → AtEntry s at r
 no-entry {r = r} h = record { spans = λ e p. let z : _≡_ {A = ℕ} 1 0 = sym (ap isEntry p) ∙ h in absurd (omega arith) }
 
-no-entry-on : {A : Type 0} {s : List ℕ} {at : ℕ} (end start pending : ℕ) (r : Read A) (k : A → ℕ → After) → ((a : A) (n : ℕ) → AtEntry s at (k a n)) → AtEntry s at (onward end start pending r k)
+no-entry-on : {A : Type 0} {s : List ℕ} {at : ℕ} (end start pending : ℕ) (r : Read A) (k : A → ℕ → ReaderAfter) → ((a : A) (n : ℕ) → AtEntry s at (k a n)) → AtEntry s at (onward end start pending r k)
 unfolding onward
 no-entry-on end start pending (got a n) k f = f a n
 no-entry-on end start pending (refused x) k f = no-entry refl
@@ -140,5 +140,5 @@ step-entry s at start (suc zero) = no-entry-on _ _ _ (trailerAt s start at) _ (�
 step-entry s at start (suc (suc zero)) = no-entry-on _ _ _ (listEndAt s at) _ (λ e n. no-entry refl)
 step-entry s at start (suc (suc (suc k))) = entry-on _ _ _ _ (entryAt s at) refl
 
-pub next-entry : (s : List ℕ) (at start pending : ℕ) → Sound s at start pending → AtEntry s at (nextAt s at start pending)
+pub next-entry : (s : List ℕ) (at start pending : ℕ) → SoundReader s at start pending → AtEntry s at (nextAt s at start pending)
 next-entry s at start pending h = rw (sound-next s at start pending h) (step-entry s at start pending)

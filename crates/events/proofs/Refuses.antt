@@ -12,7 +12,7 @@ use Rattle.events.specs.Message.{Message, messageAt}
 use Rattle.events.specs.Events.{Answers, nth, answer, messagesFrom}
 use Rattle.events.specs.Telling.{messageEvents, firstRefusal, Tells}
 use Rattle.events.specs.Calls.{call}
-use Rattle.events.proofs.Calls.{Sound, messages-give}
+use Rattle.events.proofs.Calls.{SoundReader, messages-give}
 use Rattle.events.proofs.Whole.{message-tells}
 
 -- call k is refused with f, and no call before it is refused
@@ -36,7 +36,7 @@ first (event x ∷ l) later f e = one-more (event x) l later f (λ g h. let z : 
 first (noEvent ∷ l) later f e = one-more noEvent l later f (λ g h. let z : _≡_ {A = ℕ} 0 1 = cc in omega arith) (first l later f e)
 first (failed g ∷ l) later f e = let same : g ≡ f = cc in record { k = 0; refuses = ap failed same; before = λ j i h x. omega arith }
 
-pub message-refuses : (s : List ℕ) (at start : ℕ) (f : Refusal) → Sound s at start 0 → at < length s → messageAt s at ≡ refused f → RefusesFirst (λ k. call k s at start 0) f
+pub message-refuses : (s : List ℕ) (at start : ℕ) (f : Refusal) → SoundReader s at start 0 → at < length s → messageAt s at ≡ refused f → RefusesFirst (λ k. call k s at start 0) f
 unfolding answer
 message-refuses s at start f h lt e =
     let a : Answers = messagesFrom (suc (length s)) s at in

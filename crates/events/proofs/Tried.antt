@@ -16,8 +16,8 @@ use Rattle.tlf.specs.declared.TypeLengthField.{TypeLengthField}
 use Rattle.tlf.specs.declared.Span.{Span}
 use Rattle.tlf.proofs.Rest.{Reads, Is, Made}
 use Rattle.tlf.proofs.Gets.{tyNumber, total, lengthBytes, typed, typed-reads, typed-not-one, list-of-reads}
-use Rattle.num.specs.Numbers.{number, unsignedAt, signedOf, signedAt}
-use Rattle.num.proofs.Gets.{unsigned-reads, signed-reads}
+use Rattle.numbers.specs.Numbers.{number, unsignedAt, signedOf, signedAt}
+use Rattle.numbers.proofs.Gets.{unsigned-reads, signed-reads}
 use Rattle.octet_string.specs.Strings.{octetsAt}
 use Rattle.octet_string.specs.Optional.{optional}
 use Rattle.octet_string.proofs.Gets.{Part, octets-reads, absent-reads, present-reads}

@@ -8,7 +8,7 @@ use Rattle.crc_x25.specs.Crc.{reflect, polynomial, bitStep, bitSteps, byteStep,
 use Rattle.tlf.specs.Read.{then, guard, need, eof, mismatch, unexpected, crcMismatch, wrongEnd, byteAt, spanAt}
 use Rattle.tlf.specs.Refusals.{reserved, underflow, nextType, invalidTy}
 use Rattle.tlf.specs.Lengths.{tlfAt, lengthFrom, lessOwn, listOfAt}
-use Rattle.num.specs.Numbers.{number, bytesAt, rawFrom, rawAt, unsignedAt, signedOf, signedAt, boolFrom, boolAt}
+use Rattle.numbers.specs.Numbers.{number, bytesAt, rawFrom, rawAt, unsignedAt, signedOf, signedAt, boolFrom, boolAt}
 use Rattle.octet_string.specs.Strings.{octetsAt}
 use Rattle.octet_string.specs.Optional.{absentAt, optional}
 use Rattle.value.specs.Values.{truth, bytes, signed, unsigned, listTime, timeAt, statusOf, statusAt, signedValue, unsignedValue, listTypeAt, valueOf, valueAt}
@@ -16,7 +16,7 @@ use Rattle.common.specs.Fields.{openAt, closeAt, entryAt, messageEndAt}
 use Rattle.message.specs.Messages.{opened, closed, listed, listStartAt, listEndAt, contentAt, bodyAt, startAt}
 use Rattle.trailer.specs.Trailer.{crcFrom, trailerAt}
 use Rattle.streaming.specs.Next.{starts, entry, ends, event, noEvent, failed}
-use Rattle.events.specs.Events.{says, atStart, inside, entriesFrom, contentFrom, messagesFrom, eventsOf}
+use Rattle.events.specs.Events.{saysFirst, atStart, inside, entriesFrom, contentFrom, messagesFrom, eventsOf}
 
 -- capture 3 is the story: a public key whose length, 83 02, takes two bytes; capture 4 has bare times
 pub record Vectors : Type 0 where
@@ -66,7 +66,7 @@ pub record Vectors : Type 0 where
   pub value-eight : eventsOf (0x76 ∷ 0x02 ∷ 0x07 ∷ 0x62 ∷ 0x00 ∷ 0x62 ∷ 0x00 ∷ 0x72 ∷ 0x63 ∷ 0x07 ∷ 0x01 ∷ 0x77 ∷ 0x02 ∷ 0x01 ∷ 0x03 ∷ 0x02 ∷ 0x03 ∷ 0x02 ∷ 0x04 ∷ 0x72 ∷ 0x62 ∷ 0x01 ∷ 0x62 ∷ 0x2b ∷ 0x72 ∷ 0x77 ∷ 0x02 ∷ 0x05 ∷ 0x63 ∷ 0x01 ∷ 0x80 ∷ 0x72 ∷ 0x62 ∷ 0x01 ∷ 0x65 ∷ 0x00 ∷ 0x00 ∷ 0x01 ∷ 0x00 ∷ 0x62 ∷ 0x1e ∷ 0x52 ∷ 0xff ∷ 0x03 ∷ 0x06 ∷ 0x07 ∷ 0x02 ∷ 0x08 ∷ 0x77 ∷ 0x02 ∷ 0x09 ∷ 0x62 ∷ 0x05 ∷ 0x01 ∷ 0x01 ∷ 0x01 ∷ 0x59 ∷ 0xff ∷ 0xff ∷ 0xff ∷ 0xff ∷ 0xff ∷ 0xff ∷ 0xff ∷ 0xfe ∷ 0x01 ∷ 0x02 ∷ 0x0a ∷ 0x65 ∷ 0x00 ∷ 0x00 ∷ 0x00 ∷ 0x09 ∷ 0x63 ∷ 0x0c ∷ 0xac ∷ 0x00 ∷ []) ≡ record { first = event (starts (record { transactionId = record { start = 2; len = 1 }; groupNo = 0; abortOnError = 0; body = listed (record { clientId = (some (record { start = 13; len = 1 })); serverId = (record { start = 15; len = 2 }); name = (some (record { start = 18; len = 1 })); time = (some 43); count = 2 }) })) ∷ event (entry (record { name = (record { start = 27; len = 1 }); status = (some (record { width = 2; number = 384 })); time = (some 256); unit = (some 30); scaler = (some (negsuc 0)); value = (bytes (record { start = 44; len = 2 })); signature = (some (record { start = 47; len = 1 })) })) ∷ event (entry (record { name = (record { start = 50; len = 1 }); status = (some (record { width = 1; number = 5 })); time = none; unit = none; scaler = none; value = (signed 8 (negsuc 1)); signature = none })) ∷ event (ends (record { signature = (some (record { start = 67; len = 1 })); time = (some 9) })) ∷ []; later = noEvent }
 
 pub vectors : Vectors
-unfolding then guard need byteAt spanAt tlfAt lengthFrom lessOwn listOfAt number bytesAt rawFrom rawAt unsignedAt signedOf signedAt boolFrom boolAt octetsAt absentAt optional timeAt statusOf statusAt signedValue unsignedValue listTypeAt valueOf valueAt openAt closeAt entryAt messageEndAt listStartAt listEndAt contentAt bodyAt startAt reflect polynomial bitStep bitSteps byteStep register finalXor crcOf crcFrom trailerAt says atStart inside entriesFrom contentFrom messagesFrom eventsOf
+unfolding then guard need byteAt spanAt tlfAt lengthFrom lessOwn listOfAt number bytesAt rawFrom rawAt unsignedAt signedOf signedAt boolFrom boolAt octetsAt absentAt optional timeAt statusOf statusAt signedValue unsignedValue listTypeAt valueOf valueAt openAt closeAt entryAt messageEndAt listStartAt listEndAt contentAt bodyAt startAt reflect polynomial bitStep bitSteps byteStep register finalXor crcOf crcFrom trailerAt saysFirst atStart inside entriesFrom contentFrom messagesFrom eventsOf
 vectors =
     record {
       capture-3 = refl;

@@ -1,7 +1,7 @@
 -- What a reader must believe: calling for the next event again and again.
 use Prim.Native.Nat.{ℕ, zero, suc}
 use mathlib.Core.List.{List}
-use Rattle.streaming.specs.Next.{Said, After, nextAt}
+use Rattle.streaming.specs.Next.{Said, ReaderAfter, nextAt}
 
 -- what call k answers, counted from 0, of a reader with these three numbers: each call goes on from the numbers that the one before left
 unfoldable pub call : ℕ → List ℕ → ℕ → ℕ → ℕ → Said

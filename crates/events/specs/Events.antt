@@ -9,7 +9,7 @@ use Rattle.tlf.specs.declared.Span.{Span}
 use Rattle.common.specs.Fields.{entryAt}
 use Rattle.message.specs.Messages.{MessageStart, Body, opened, closed, listed, startAt, listEndAt}
 use Rattle.trailer.specs.Trailer.{trailerAt}
-use Rattle.streaming.specs.Next.{Event, starts, entry, ends, Said, event, noEvent, failed, inputTooLong}
+use Rattle.streaming.specs.Next.{MessageEvent, starts, entry, ends, Said, event, noEvent, failed, inputTooLong}
 
 -- the answers of the first calls, and that of every later one
 pub record Answers : Type 0 where
@@ -26,11 +26,11 @@ unfoldable pub answer : Answers → ℕ → Said
 answer a k = nth (a .first) (a .later) k
 
 -- one event, and then the rest
-unfoldable pub says : Event Span → Answers → Answers
-says e a = record { first = event e ∷ a .first; later = a .later }
+unfoldable pub saysFirst : MessageEvent Span → Answers → Answers
+saysFirst e a = record { first = event e ∷ a .first; later = a .later }
 
-abbrev pub quiet : Answers
-quiet = record { first = []; later = noEvent }
+abbrev pub noMore : Answers
+noMore = record { first = []; later = noEvent }
 
 -- at a message start: after a refusal, no event
 unfoldable pub atStart : {A : Type 0} → Read A → (A → ℕ → Answers) → Answers
@@ -45,7 +45,7 @@ inside end (refused f) k = record { first = failed f ∷ []; later = failed (eof
 -- as many entries as the list's head says, each an event
 unfoldable pub entriesFrom : ℕ → List ℕ → ℕ → (ℕ → Answers) → Answers
 entriesFrom zero s at k = k at
-entriesFrom (suc left) s at k = inside (length s) (entryAt s at) λ e n. says (entry e) (entriesFrom left s n k)
+entriesFrom (suc left) s at k = inside (length s) (entryAt s at) λ e n. saysFirst (entry e) (entriesFrom left s n k)
 
 -- what follows a message's start, up to the trailer
 unfoldable pub contentFrom : Body Span → List ℕ → ℕ → (ℕ → Answers) → Answers
@@ -54,15 +54,15 @@ contentFrom (closed b) s at k = k at
 contentFrom (listed b) s at k =
     entriesFrom (b .count) s at λ n.
     inside (length s) (listEndAt s n) λ e m.
-    says (ends e) (k m)
+    saysFirst (ends e) (k m)
 
 -- at most `many` messages from a place on; the trailer has no event
 unfoldable pub messagesFrom : ℕ → List ℕ → ℕ → Answers
-messagesFrom zero s at = quiet
+messagesFrom zero s at = noMore
 messagesFrom (suc many) s at =
-    cond (leb (length s) at) quiet
+    cond (leb (length s) at) noMore
     (atStart (startAt s at) λ m n₁.
-    says (starts m)
+    saysFirst (starts m)
     (contentFrom (m .body) s n₁ λ n₂.
     inside (length s) (trailerAt s at n₂) λ trailer n₃.
     messagesFrom many s n₃))

@@ -7,7 +7,7 @@ use Rattle.octet_string.specs.Strings.{partOf}
 use Rattle.value.specs.Values.{Status, Value, truth, bytes, signed, unsigned, listTime}
 use Rattle.common.specs.Fields.{OpenResponse, CloseResponse, ListEntry}
 use Rattle.message.specs.Messages.{ListStart, ListEnd, Body, opened, closed, listed, MessageStart}
-use Rattle.streaming.specs.Next.{Event, starts, entry, ends}
+use Rattle.streaming.specs.Next.{MessageEvent, starts, entry, ends}
 
 abbrev pub each : {A B : Type 0} → (A → B) → Option A → Option B
 each f (some a) = some (f a)
@@ -78,7 +78,7 @@ startMeans s x =
     }
 
 -- an event's strings as bytes, value and status as kind and number; `s` is the input
-unfoldable pub meaning : List ℕ → Event Span → Event (List ℕ)
+unfoldable pub meaning : List ℕ → MessageEvent Span → MessageEvent (List ℕ)
 meaning s (starts m) = starts (startMeans s m)
 meaning s (entry e) = entry (entryMeans s e)
 meaning s (ends e) = ends (listEndMeans s e)

@@ -7,26 +7,26 @@ use Rattle.tlf.specs.Read.{Read, got, refused, Refusal}
 use Rattle.tlf.specs.declared.Span.{Span}
 use Rattle.common.specs.Fields.{ListEntry}
 use Rattle.message.specs.Messages.{ListEnd}
-use Rattle.streaming.specs.Next.{Event, starts, entry, ends, Said, event, noEvent, failed}
+use Rattle.streaming.specs.Next.{MessageEvent, starts, entry, ends, Said, event, noEvent, failed}
 use Rattle.events.specs.Message.{Message}
-use Rattle.events.specs.Events.{Answers, says}
+use Rattle.events.specs.Events.{Answers, saysFirst}
 
 -- several events, and then the rest
-unfoldable pub saysAll : List (Event Span) → Answers → Answers
+unfoldable pub saysAll : List (MessageEvent Span) → Answers → Answers
 saysAll [] a = a
-saysAll (e ∷ es) a = says e (saysAll es a)
+saysAll (e ∷ es) a = saysFirst e (saysAll es a)
 
 -- the events of entries, and behind them those of `es`
-unfoldable pub entryEvents : List (ListEntry Span) → List (Event Span) → List (Event Span)
+unfoldable pub entryEvents : List (ListEntry Span) → List (MessageEvent Span) → List (MessageEvent Span)
 entryEvents [] es = es
 entryEvents (x ∷ xs) es = entry x ∷ entryEvents xs es
 
-abbrev pub endEvents : Option (ListEnd Span) → List (Event Span)
+abbrev pub endEvents : Option (ListEnd Span) → List (MessageEvent Span)
 endEvents (some e) = ends e ∷ []
 endEvents none = []
 
 -- the events of a message: its start, its entries, its end
-unfoldable pub messageEvents : Message Span → List (Event Span)
+unfoldable pub messageEvents : Message Span → List (MessageEvent Span)
 messageEvents m = starts (m .start) ∷ entryEvents (m .content .entries) (endEvents (m .content .end))
 
 -- the first answer that is a refusal
@@ -37,9 +37,9 @@ firstRefusal (noEvent ∷ xs) = firstRefusal xs
 firstRefusal (failed f ∷ xs) = some f
 
 -- the answers tell what a reading says: its events and what follows, or its refusal
-abbrev pub Telling : {A : Type 0} → (A → List (Event Span)) → Read A → Answers → (ℕ → Answers) → Type 0
+abbrev pub Telling : {A : Type 0} → (A → List (MessageEvent Span)) → Read A → Answers → (ℕ → Answers) → Type 0
 Telling events (got x n) a k = a ≡ saysAll (events x) (k n)
 Telling events (refused f) a k = firstRefusal (a .first) ≡ some f
 
-pub record Tells {A : Type 0} (events : A → List (Event Span)) (r : Read A) (a : Answers) (k : ℕ → Answers) : Type 0 where
+pub record Tells {A : Type 0} (events : A → List (MessageEvent Span)) (r : Read A) (a : Answers) (k : ℕ → Answers) : Type 0 where
   pub tells : Telling events r a k

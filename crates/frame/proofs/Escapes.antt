@@ -1,4 +1,4 @@
--- Laws of escapes: over two lists one after the other, and case by case. `run` is where a run of 1b stands behind a list.
+-- Laws of escapes: over two lists one after the other, and case by case. `runBehind` is where a run of 1b stands behind a list.
 use mathlib.Core.Path.{_≡_, refl, ap, sym, _∙_}
 use mathlib.Core.Bool.{Bool, true, false, cond}
 use mathlib.Core.List.{List, [], _∷_, _++_, append-assoc, append-nil}
@@ -11,17 +11,17 @@ use borrow.Author.Tests.{eq-eqb, ne-eqb}
 use Rattle.frame.specs.Frame.{escSeq, missing, runWith, fourMore, escaped}
 use Rattle.frame.proofs.Cases.{by-eq}
 
-unfoldable pub run : ℕ → List ℕ → ℕ
-run n [] = n
-run n (b ∷ bs) = run (runWith n b) bs
+unfoldable pub runBehind : ℕ → List ℕ → ℕ
+runBehind n [] = n
+runBehind n (b ∷ bs) = runBehind (runWith n b) bs
 
-pub escaped-append : (r : ℕ) (a b : List ℕ) → escaped r (a ++ b) ≡ escaped r a ++ escaped (run r a) b
-unfolding escaped run
+pub escaped-append : (r : ℕ) (a b : List ℕ) → escaped r (a ++ b) ≡ escaped r a ++ escaped (runBehind r a) b
+unfolding escaped runBehind
 escaped-append r [] b = refl
 escaped-append r (x ∷ a) b = rw (escaped-append (runWith r x) a b, append-assoc (fourMore r x))
 
-pub run-append : (r : ℕ) (a b : List ℕ) → run r (a ++ b) ≡ run (run r a) b
-unfolding run
+pub run-append : (r : ℕ) (a b : List ℕ) → runBehind r (a ++ b) ≡ runBehind (runBehind r a) b
+unfolding runBehind
 run-append r [] b = refl
 run-append r (x ∷ a) b = run-append (runWith r x) a b
 
@@ -29,8 +29,8 @@ after-le : (r x : ℕ) → r ≤ 3 → runWith r x ≤ 3
 after-le r x h =
     by-eq (λ k. k ≤ 3) x 0x1b _ _ (λ e. by-eq (λ k. k ≤ 3) r 3 _ _ (λ e. omega arith) (λ n. omega arith)) (λ n. omega arith)
 
-pub run-le : (r : ℕ) (a : List ℕ) → r ≤ 3 → run r a ≤ 3
-unfolding run
+pub run-le : (r : ℕ) (a : List ℕ) → r ≤ 3 → runBehind r a ≤ 3
+unfolding runBehind
 run-le r [] h = h
 run-le r (x ∷ a) h = run-le (runWith r x) a (after-le r x h)
 
@@ -49,10 +49,10 @@ pub four-wait : (r : ℕ) → (r ≡ 3 → ⊥) → fourMore r 0x1b ≡ []
 four-wait r n = rw (ne-eqb r 3 n)
 
 -- n more 1b in a run that stays below four
-pub run-few : (n r : ℕ) → n + r ≤ 3 → run r (replicate n 0x1b) ≡ n + r
-unfolding run
+pub run-few : (n r : ℕ) → n + r ≤ 3 → runBehind r (replicate n 0x1b) ≡ n + r
+unfolding runBehind
 run-few zero r h = omega arith
-run-few (suc n) r h = ap (λ (k : ℕ). run k (replicate n 0x1b)) (after-wait r (λ e. omega arith)) ∙ run-few n (suc r) (omega arith) ∙ omega arith
+run-few (suc n) r h = ap (λ (k : ℕ). runBehind k (replicate n 0x1b)) (after-wait r (λ e. omega arith)) ∙ run-few n (suc r) (omega arith) ∙ omega arith
 
 pub escaped-few : (n r : ℕ) → n + r ≤ 3 → escaped r (replicate n 0x1b) ≡ replicate n 0x1b
 unfolding escaped
@@ -71,33 +71,33 @@ module _ (r b : ℕ) (p : List ℕ) (ne : b ≡ 0x1b → ⊥) where
   unfolding escaped
   escaped-other = rw (four-other r b ne) (ap (λ (k : ℕ). b ∷ escaped k p) (after-other r b ne))
 
-  pub run-other : run r (b ∷ p) ≡ run 0 p
-  unfolding run
-  run-other = ap (λ (k : ℕ). run k p) (after-other r b ne)
+  pub run-other : runBehind r (b ∷ p) ≡ runBehind 0 p
+  unfolding runBehind
+  run-other = ap (λ (k : ℕ). runBehind k p) (after-other r b ne)
 
 module _ (r : ℕ) (p : List ℕ) (ne : r ≡ 3 → ⊥) where
   pub escaped-wait : escaped r (0x1b ∷ p) ≡ 0x1b ∷ escaped (suc r) p
   unfolding escaped
   escaped-wait = rw (four-wait r ne) (ap (λ (k : ℕ). 0x1b ∷ escaped k p) (after-wait r ne))
 
-  pub run-wait : run r (0x1b ∷ p) ≡ run (suc r) p
-  unfolding run
-  run-wait = ap (λ (k : ℕ). run k p) (after-wait r ne)
+  pub run-wait : runBehind r (0x1b ∷ p) ≡ runBehind (suc r) p
+  unfolding runBehind
+  run-wait = ap (λ (k : ℕ). runBehind k p) (after-wait r ne)
 
 pub escaped-fourth : (p : List ℕ) → escaped 3 (0x1b ∷ p) ≡ 0x1b ∷ escSeq ++ escaped 0 p
 unfolding escaped
 escaped-fourth p = refl
 
-pub run-fourth : (p : List ℕ) → run 3 (0x1b ∷ p) ≡ run 0 p
-unfolding run
+pub run-fourth : (p : List ℕ) → runBehind 3 (0x1b ∷ p) ≡ runBehind 0 p
+unfolding runBehind
 run-fourth p = refl
 
 pub replicate-snoc : (n a : ℕ) → replicate (suc n) a ≡ replicate n a ++ a ∷ []
 replicate-snoc zero a = refl
 replicate-snoc (suc n) a = ap (λ (l : List ℕ). a ∷ l) (replicate-snoc n a)
 
-pub run-nil : (r : ℕ) → run r [] ≡ r
-unfolding run
+pub run-nil : (r : ℕ) → runBehind r [] ≡ r
+unfolding runBehind
 run-nil r = refl
 
 pub escaped-nil : (r : ℕ) → escaped r [] ≡ []

@@ -7,7 +7,7 @@ use lib.ListN.{length, replicate, length-append, length-replicate}
 use lib.Seq.{take-at}
 use Rattle.frame.specs.Frame.{escSeq, startSeq, runWith, fourMore, missing, escaped, closed, frameOf, framed, Sound}
 use Rattle.frame.proofs.Cases.{either}
-use Rattle.frame.proofs.Escapes.{escaped-other, escaped-wait, escaped-fourth, escaped-append, escaped-zeros, escaped-nil, run}
+use Rattle.frame.proofs.Escapes.{escaped-other, escaped-wait, escaped-fourth, escaped-append, escaped-zeros, escaped-nil, runBehind}
 
 -- the clause of a byte
 pub escaped-cons : (r b : ℕ) (p : List ℕ) → escaped r (b ∷ p) ≡ b ∷ (fourMore r b ++ escaped (runWith r b) p)
@@ -48,7 +48,7 @@ frame-sound P = record {
   D = P ++ zeros;
   p = n;
   whole = ap (λ (l : List ℕ). closed (l ++ escSeq ++ (0x1a ∷ n ∷ [])))
-      (append-assoc startSeq (escaped 0 P) zeros ∙ ap (λ (l : List ℕ). startSeq ++ l) (sym (escaped-append 0 P zeros ∙ rw (escaped-zeros n (run 0 P)))));
+      (append-assoc startSeq (escaped 0 P) zeros ∙ ap (λ (l : List ℕ). startSeq ++ l) (sym (escaped-append 0 P zeros ∙ rw (escaped-zeros n (runBehind 0 P)))));
   aligned = simp (length-append, length-replicate) (omega arith);
   small = omega arith;
   within = simp (length-append, length-replicate) (omega arith);

@@ -129,7 +129,7 @@ fn by_slice(label: &[u8], d: Decoder, buf: &mut [u8]) {
     let chunk = [PUSHED; 1];
     text(label);
     text(b", push_slice:");
-    let p = slice::push_slice(d, buf, &chunk);
+    let p = decoder_slice::push_slice(d, buf, &chunk);
     let e = p.event;
     let left = p.decoder;
     event(e);

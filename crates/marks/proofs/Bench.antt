@@ -5,16 +5,16 @@ use Rattle.frame.specs.Frame.{escaped, closed, frameOf}
 use Rattle.encoder.specs.Encode.{encodeTo}
 use Rattle.tlf.specs.Read.{then, guard, need, byteAt, spanAt}
 use Rattle.tlf.specs.Lengths.{tlfAt, lengthFrom, lessOwn}
-use Rattle.num.specs.Numbers.{number, bytesAt, rawFrom, rawAt, unsignedAt, signedOf, signedAt}
+use Rattle.numbers.specs.Numbers.{number, bytesAt, rawFrom, rawAt, unsignedAt, signedOf, signedAt}
 use Rattle.octet_string.specs.Strings.{octetsAt}
 use Rattle.octet_string.specs.Optional.{absentAt, optional}
 use Rattle.decoder.specs.Push.{searching, store, same, finish, judge, step, finalized}
-use Rattle.decoder.specs.Record.{wrote, badState, wrongBuffer, pushed, pushRecord, finalizeRecord}
+use Rattle.decoder.specs.Record.{wrote, badDecoder, wrongBuffer, pushed, pushRecord, finalizeRecord}
 use Rattle.decoder.specs.Run.{act}
 use Rattle.marks.specs.Decoders.{ours, answers}
 use Rattle.marks.specs.Mark3.{ourEncode}
 use Rattle.marks.specs.Bench.{saidFrom, Bench}
 
 pub bench : Bench ours ourEncode
-unfolding reflect polynomial bitStep bitSteps byteStep register finalXor crcOf escaped closed frameOf encodeTo then guard need byteAt spanAt tlfAt lengthFrom lessOwn number bytesAt rawFrom rawAt unsignedAt signedOf signedAt octetsAt absentAt optional searching store same finish judge step finalized wrote badState wrongBuffer pushed pushRecord finalizeRecord act answers saidFrom
+unfolding reflect polynomial bitStep bitSteps byteStep register finalXor crcOf escaped closed frameOf encodeTo then guard need byteAt spanAt tlfAt lengthFrom lessOwn number bytesAt rawFrom rawAt unsignedAt signedOf signedAt octetsAt absentAt optional searching store same finish judge step finalized wrote badDecoder wrongBuffer pushed pushRecord finalizeRecord act answers saidFrom
 bench = refl

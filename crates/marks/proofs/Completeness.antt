@@ -10,14 +10,14 @@ use borrow.Author.Tests.{le-leb}
 use Rattle.frame.specs.Frame.{Sound, startSeq, closed, framed}
 use Rattle.frame.proofs.Cases.{by-le}
 use Rattle.decoder.specs.Push.{Setup, Mem, State, search, body, escape, done, silent, discarded, memory, Out, says, put, store, step, begun, noticed, fresh}
-use Rattle.decoder.specs.Record.{Answer, nothing, refused, numbered, setup, viewAs, view, newRecord}
+use Rattle.decoder.specs.Record.{Answer, nothing, refusal, numbered, setup, stateAs, stateOf, newRecord}
 use Rattle.decoder.specs.Run as R
 use Rattle.decoder.specs.Run.{Op, runState, actState, answerState}
 use Rattle.decoder.specs.declared.DecodeState.{DecodeState}
 use Rattle.decoder.specs.declared.Decoder.{Decoder}
 use Rattle.decoder.proofs.Faithful.{Fit}
 use Rattle.decoder.proofs.Runs.{run-is, acts, new-fit}
-use Rattle.marks.specs.Decoders.{Gave, ours, answers, behind, frameSays}
+use Rattle.marks.specs.Decoders.{Gave, ours, answers, behindOf, frameSays}
 use Rattle.marks.specs.Mark2.{eighth, NoRoom, Completeness, Unmatched, searching, behindPayload, OurSearch}
 use Rattle.marks.proofs.Rules.{Silent, stop, push}
 use Rattle.marks.proofs.RoundTrip.{framed-runs, sound-decodes, begun-run}
@@ -52,7 +52,7 @@ step-less C D (body n m) b le = else-less (eqb b 0x1b) _ _ _ (store-less C D m (
 record Stops (C : Setup) (s : State) (bytes : List ℕ) : Type 0 where
   quiet : ℕ
   rest : List Answer
-  is : runState C s (map R.push bytes) ≡ replicate quiet nothing ++ refused 3 [] ∷ rest
+  is : runState C s (map R.push bytes) ≡ replicate quiet nothing ++ refusal 3 [] ∷ rest
 
 stops-here : (C : Setup) (s : State) (b : ℕ) (l : List ℕ) → step C s b ≡ says fresh memory → Stops C s (b ∷ l)
 unfolding runState actState answerState
@@ -78,7 +78,7 @@ stops C D {s = s} z le (push {t = t} {b = b} {l = l} e′ q) e =
 eighth-is : (noise : ℕ) → numbered (noticed noise) ≡ eighth noise
 eighth-is noise = told (eqb noise 0)
   where
-    told : (t : Bool) → numbered (cond t silent (discarded noise)) ≡ cond t nothing (refused 6 (noise ∷ []))
+    told : (t : Bool) → numbered (cond t silent (discarded noise)) ≡ cond t nothing (refusal 6 (noise ∷ []))
     told true = refl
     told false = refl
 
@@ -101,7 +101,7 @@ module _ (C : Setup) (noise raw : ℕ) (frame P : List ℕ) (s : Sound frame P) 
             ∙ begun-run C noise raw (l ++ z ∷ []) []
             ∙ ap (λ (k : List Op). replicate 7 nothing ++ numbered (noticed noise) ∷ runState C begun k) (append-nil (map R.push (l ++ z ∷ [])))
             ∙ ap (λ (k : List Answer). replicate 7 nothing ++ numbered (noticed noise) ∷ k) (t .is)
-            ∙ ap (λ (a : Answer). replicate 7 nothing ++ a ∷ (replicate (t .quiet) nothing ++ refused 3 [] ∷ t .rest)) (eighth-is noise);
+            ∙ ap (λ (a : Answer). replicate 7 nothing ++ a ∷ (replicate (t .quiet) nothing ++ refusal 3 [] ∷ t .rest)) (eighth-is noise);
       }
 
   lacks : C .capacity < length (s .D) + 4 → NoRoom noise (runState C (search 0 noise raw) (map R.push frame))
@@ -120,13 +120,13 @@ record From (C : Setup) (noise : ℕ) (l : List ℕ) (heard : List Answer) : Typ
   raw : ℕ
   is : heard ≡ runState C (search 0 noise raw) (map R.push l)
 
-from : (C : Setup) (d : Decoder) (m : List ℕ) (noise : ℕ) {frame P : List ℕ} → Sound frame P → Unmatched (d .state) noise → From C noise frame (runState C (view d m) (map R.push frame))
+from : (C : Setup) (d : Decoder) (m : List ℕ) (noise : ℕ) {frame P : List ℕ} → Sound frame P → Unmatched (d .state) noise → From C noise frame (runState C (stateOf d m) (map R.push frame))
 from C d m noise {frame = frame} s (searching e) =
-    record { raw = d .«raw_msg_len»; is = ap (λ (x : DecodeState). runState C (viewAs x d m) (map R.push frame)) e }
+    record { raw = d .«raw_msg_len»; is = ap (λ (x : DecodeState). runState C (stateAs x d m) (map R.push frame)) e }
 from C d m noise {frame = frame} s (behindPayload e z) =
     record {
       raw = 0;
-      is = ap (λ (x : DecodeState). runState C (viewAs x d m) (map R.push frame)) e
+      is = ap (λ (x : DecodeState). runState C (stateAs x d m) (map R.push frame)) e
           ∙ ap (λ (f : List ℕ). runState C (done (take (d .fill) m)) (map R.push f)) (s .whole)
           ∙ framed-done C (take (d .fill) m) (s .D) (s .p)
           ∙ ap (λ (f : List ℕ). runState C fresh (map R.push f)) (sym (s .whole))
@@ -138,7 +138,7 @@ completeness C d m noise h frame P s =
     let t = from C d m noise s (h .searches) in
     let f : Fit d m = record { state = h .good; buffer = h .lent } in
     let e : answers ours d m (map R.push frame) ≡ runState C (search 0 noise (t .raw)) (map R.push frame) =
-    answers-run (map R.push frame) d m ∙ run-is (map R.push frame) d m f ∙ ap (λ (x : Setup). runState x (view d m) (map R.push frame)) (h .setup′) ∙ t .is in (
+    answers-run (map R.push frame) d m ∙ run-is (map R.push frame) d m f ∙ ap (λ (x : Setup). runState x (stateOf d m) (map R.push frame)) (h .setup′) ∙ t .is in (
       λ room. e ∙ fits C noise (t .raw) frame P s room,
       λ small. rw e (lacks C noise (t .raw) frame P s small),
     )
@@ -157,15 +157,15 @@ act-searches C d m o noise f e u =
     record { searches = u; good = a .fit .state; lent = a .fit .buffer; setup′ = a .setup′ ∙ e }
 
 behind-searches : (C : Setup) (os : List Op) (d : Decoder) (m : List ℕ) (o : Op) (noise : ℕ) → Fit d m → setup d ≡ C
-    → let a : Gave Decoder = behind ours d m os o in
+    → let a : Gave Decoder = behindOf ours d m os o in
     Unmatched (a .decoder .state) noise → OurSearch C (a .decoder) (a .memory) noise
-unfolding behind
+unfolding behindOf
 behind-searches C [] d m o noise f e u = act-searches C d m o noise f e u
 behind-searches C (p ∷ os) d m o noise f e u =
     let a = acts d m p f in
     behind-searches C os (R.act d m p .decoder) (R.act d m p .memory) o noise (a .fit) (a .setup′ ∙ e) u
 
 pub reached-searches : (C : Setup) (m : List ℕ) → length m ≡ C .capacity → C .capacity ≤ 1048576 → (os : List Op) (o : Op) (noise : ℕ)
-    → let a : Gave Decoder = behind ours (ours .new C) m os o in
+    → let a : Gave Decoder = behindOf ours (ours .new C) m os o in
     Unmatched (a .decoder .state) noise → OurSearch C (a .decoder) (a .memory) noise
 reached-searches C m l le os o noise u = behind-searches C os (newRecord (C .capacity)) m o noise (new-fit (C .capacity) m l le) refl u

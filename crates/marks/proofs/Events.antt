@@ -12,8 +12,8 @@ use Rattle.tlf.specs.declared.Span.{Span}
 use Rattle.common.specs.Fields.{entryAt}
 use Rattle.message.specs.Messages.{MessageStart, ListStart, Body, opened, closed, listed, startAt, listEndAt}
 use Rattle.trailer.specs.Trailer.{trailerAt}
-use Rattle.streaming.specs.Next.{Event, starts, entry, ends, Said, event, noEvent, failed, inputTooLong}
-use Rattle.events.specs.Events.{Answers, nth, answer, says, atStart, inside, entriesFrom, contentFrom, messagesFrom, eventsOf}
+use Rattle.streaming.specs.Next.{MessageEvent, starts, entry, ends, Said, event, noEvent, failed, inputTooLong}
+use Rattle.events.specs.Events.{Answers, nth, answer, saysFirst, atStart, inside, entriesFrom, contentFrom, messagesFrom, eventsOf}
 use Rattle.events.specs.Calls.{call}
 use Rattle.events.proofs.Calls.{calls-are-events}
 use Rattle.events.proofs.Lists.{Listing, stops, lists, ended, list-content}
@@ -28,7 +28,7 @@ reader-calls s at start pending zero = refl
 reader-calls s at start pending (suc k) = reader-calls s _ _ _ k
 
 parser-calls : (i : RefT (List ℕ)) (at start pending k : ℕ)
-    → saysAt ourParser i (record { input = i; place = at; «message_start» = start; pending = pending }) k ≡ call k (now i) at start pending
+    → saysAt ourParser i (record { input = i; place = at; start = start; pending = pending }) k ≡ call k (now i) at start pending
 unfolding saysAt call
 parser-calls i at start pending zero = refl
 parser-calls i at start pending (suc k) = parser-calls i _ _ _ k
@@ -42,15 +42,15 @@ parser-gives i k = parser-calls i 0 0 0 k ∙ calls-are-events (now i) k
 -- ---- lists, in what the tables say
 
 -- what is said one call later
-follows-later : (a : Answers) (e : Event Span) {n k : ℕ} → Follows (answer a) n k → Follows (answer (says e a)) n (suc k)
-unfolding answer says nth
+follows-later : (a : Answers) (e : MessageEvent Span) {n k : ℕ} → Follows (answer a) n k → Follows (answer (saysFirst e a)) n (suc k)
+unfolding answer saysFirst nth
 follows-later a e (refuses f h) = refuses f h
 follows-later a e (E.lists x h more) = E.lists x h (follows-later a e more)
 follows-later a e (closes x h) = closes x h
 
 -- entries and the end, from the first answer on
 listing-follows : {n : ℕ} {a : Answers} → Listing n a → Follows (answer a) n 0
-unfolding answer says nth
+unfolding answer saysFirst nth
 listing-follows (stops f x) = refuses f refl
 listing-follows (lists e {a = a} more) = E.lists e refl (follows-later a (entry e) (listing-follows more))
 listing-follows (ended e a) = closes e refl
@@ -92,19 +92,19 @@ listed-ever : (y : Said) → isStart y ≡ false → Listed (record { first = []
 unfolding answer nth
 listed-ever y g = record { listed′ = λ k m b e f. no-start g e }
 
-listed-says : (v : Event Span) (a : Answers) → isStart (event v) ≡ false → Listed a → Listed (says v a)
-unfolding answer nth says
+listed-says : (v : MessageEvent Span) (a : Answers) → isStart (event v) ≡ false → Listed a → Listed (saysFirst v a)
+unfolding answer nth saysFirst
 listed-says v a h g = record { listed′ = by }
   where
-    by : (k : ℕ) (m : MessageStart Span) (b : ListStart Span) → answer (says v a) k ≡ event (starts m) → m .body ≡ listed b → Follows (answer (says v a)) (b .count) (suc k)
+    by : (k : ℕ) (m : MessageStart Span) (b : ListStart Span) → answer (saysFirst v a) k ≡ event (starts m) → m .body ≡ listed b → Follows (answer (saysFirst v a)) (b .count) (suc k)
     by zero m b e f = no-start h e
     by (suc k) m b e f = follows-later a v (g .listed′ k m b e f)
 
-listed-starts : (x : MessageStart Span) (a : Answers) → ((b : ListStart Span) → x .body ≡ listed b → Follows (answer a) (b .count) 0) → Listed a → Listed (says (starts x) a)
-unfolding answer nth says startIn
+listed-starts : (x : MessageStart Span) (a : Answers) → ((b : ListStart Span) → x .body ≡ listed b → Follows (answer a) (b .count) 0) → Listed a → Listed (saysFirst (starts x) a)
+unfolding answer nth saysFirst startIn
 listed-starts x a h g = record { listed′ = by }
   where
-    by : (k : ℕ) (m : MessageStart Span) (b : ListStart Span) → answer (says (starts x) a) k ≡ event (starts m) → m .body ≡ listed b → Follows (answer (says (starts x) a)) (b .count) (suc k)
+    by : (k : ℕ) (m : MessageStart Span) (b : ListStart Span) → answer (saysFirst (starts x) a) k ≡ event (starts m) → m .body ≡ listed b → Follows (answer (saysFirst (starts x) a)) (b .count) (suc k)
     by zero m b e f = follows-later a (starts x) (h b (ap (λ (s : Said). startIn x s .body) e ∙ f))
     by (suc k) m b e f = follows-later a (starts x) (g .listed′ k m b e f)
 

@@ -10,29 +10,29 @@ use Rattle.frame.proofs.Cases.{by-lt}
 use Rattle.crc_x25.specs.Crc.{reflect, polynomial, bitStep, bitSteps, byteStep, register, finalXor, crcOf}
 use Rattle.frame.specs.Frame.{Sound, escaped, closed, frameOf, framed}
 use Rattle.encoder.specs.Encode.{encodeTo}
-use Rattle.encoder.specs.Encoder.{Next, byte, finished}
+use Rattle.encoder.specs.Encoder.{NextAnswer, byte, finished}
 use Rattle.encoder.specs.Encoder as N
 use Rattle.decoder.specs.Push.{Setup, searching, store, same, finish, judge, step, finalized}
-use Rattle.decoder.specs.Record.{Answer, nothing, payload, count, refused, wrote, badState, wrongBuffer, pushed, pushRecord, finalizeRecord, newRecord, hasPayload, payloadRecord}
+use Rattle.decoder.specs.Record.{Answer, nothing, payload, count, refusal, wrote, badDecoder, wrongBuffer, pushed, pushRecord, finalizeRecord, newRecord, hasPayload, payloadRecord}
 use Rattle.decoder.specs.Run.{push, act}
 use Rattle.tlf.specs.Read.{then, guard, need, byteAt, spanAt}
 use Rattle.tlf.specs.Lengths.{tlfAt, lengthFrom, lessOwn, listOfAt}
-use Rattle.num.specs.Numbers.{number, bytesAt, rawFrom, rawAt, unsignedAt, signedOf, signedAt}
+use Rattle.numbers.specs.Numbers.{number, bytesAt, rawFrom, rawAt, unsignedAt, signedOf, signedAt}
 use Rattle.octet_string.specs.Strings.{octetsAt}
 use Rattle.octet_string.specs.Optional.{absentAt, optional}
 use Rattle.value.specs.Values.{timeAt, statusOf, statusAt, signedValue, unsignedValue, listTypeAt, valueOf, valueAt}
 use Rattle.common.specs.Fields.{entryAt}
 use Rattle.message.specs.Messages.{listStartAt, contentAt, bodyAt, startAt}
 use Rattle.streaming.specs.Next.{Said, event, starts, entry, ends, noEvent, failed, onward, beginAt, entryNext, stepAt, nextAt}
-use Rattle.events.specs.Events.{nth, answer, says, atStart, inside, entriesFrom, contentFrom, messagesFrom, eventsOf}
-use Rattle.marks.specs.Decoders.{answers, behind, countFrom, ours}
+use Rattle.events.specs.Events.{nth, answer, saysFirst, atStart, inside, entriesFrom, contentFrom, messagesFrom, eventsOf}
+use Rattle.marks.specs.Decoders.{answers, behindOf, countFrom, ours}
 use Rattle.marks.specs.Mark2.{PushesBytes, Soundness, Completeness, OurSearch}
 use Rattle.marks.specs.Mark3.{Job, framesFor, restSays, Mark3, Suits}
-use Rattle.marks.specs.Encoders.{calls, SameBytes}
+use Rattle.marks.specs.Encoders.{callsOf, SameBytes}
 use Rattle.marks.specs.Bench.{Outcome, encoded, events, field, string, signed, unsigned, saidFrom, Holds, payload1, frame1, b1, b2, b3, b6}
 use Rattle.marks.specs.Events as Ev
 use Rattle.marks.specs.Events.{saysAt, ReaderGives, Follows, ListsEntries}
-use Rattle.marks.specs.Fakes.{refuses, constant, idle, invents, once, writesNothing, refusesToEncode, finishedAtOnce, silent, noEntries, Fall}
+use Rattle.marks.specs.Fakes.{refuses, constant, idle, invents, once, writesNothing, refusesToEncode, finishedAtOnce, withoutEvents, noEntries, Fall}
 use Rattle.marks.proofs.Completeness.{new-searches}
 
 -- a number for an answer, in which the fakes differ from what is claimed
@@ -40,7 +40,7 @@ code : Answer → ℕ
 code nothing = 0
 code (payload bytes) = 1000 + getD bytes 0 0
 code (count k) = 2000
-code (refused k values) = 3000 + getD values 0 0
+code (refusal k values) = 3000 + getD values 0 0
 
 -- the number of the answer at a place
 codeAt : ℕ → List Answer → ℕ
@@ -97,7 +97,7 @@ unfolding codeOf
 writes-nothing-b1 h = let z : _≡_ {A = ℕ} 0xff 0x1b = ap codeOf h in omega arith
 
 invents-b6 : Holds invents encodeTo b6 → ⊥
-unfolding codeOf code answers saidFrom reflect polynomial bitStep bitSteps byteStep register finalXor crcOf searching store same finish judge step finalized wrote badState wrongBuffer pushed pushRecord finalizeRecord act
+unfolding codeOf code answers saidFrom reflect polynomial bitStep bitSteps byteStep register finalXor crcOf searching store same finish judge step finalized wrote badDecoder wrongBuffer pushed pushRecord finalizeRecord act
 invents-b6 h = let z : _≡_ {A = ℕ} 3002 3001 = ap codeOf h in omega arith
 
 -- ---- mark 2
@@ -124,7 +124,7 @@ below-is (b ∷ l) = by-lt (λ (t : Bool). t ≡ true → (b < 256) × PushesByt
 
 -- B1's frame, byte by byte: what is handed back is not what was answered
 constant-mark2 : Soundness constant → ⊥
-unfolding below behind payloadRecord hasPayload reflect polynomial bitStep bitSteps byteStep register finalXor crcOf searching store same finish judge step finalized wrote badState wrongBuffer pushed pushRecord finalizeRecord act
+unfolding below behindOf payloadRecord hasPayload reflect polynomial bitStep bitSteps byteStep register finalXor crcOf searching store same finish judge step finalized wrote badDecoder wrongBuffer pushed pushRecord finalizeRecord act
 constant-mark2 h =
     let e = h C zeros refl (omega arith) (map push (take 19 frame1)) (push 0x7b) (0x2a ∷ []) (below-is frame1 refl) refl .1 in
     let z : _≡_ {A = ℕ} 0x12 0x2a = ap (λ (l : List ℕ). getD l 0 0) e in
@@ -140,7 +140,7 @@ refuses-mark3 h =
     omega arith
 
 constant-mark3 : Mark3 constant encodeTo → ⊥
-unfolding codeAt code answers framesFor restSays countFrom reflect polynomial bitStep bitSteps byteStep register finalXor crcOf escaped closed frameOf encodeTo searching store same finish judge step finalized wrote badState wrongBuffer pushed pushRecord finalizeRecord act
+unfolding codeAt code answers framesFor restSays countFrom reflect polynomial bitStep bitSteps byteStep register finalXor crcOf escaped closed frameOf encodeTo searching store same finish judge step finalized wrote badDecoder wrongBuffer pushed pushRecord finalizeRecord act
 constant-mark3 h =
     let e = h C zeros refl (omega arith) [] job [] (suits, tt) in
     let z : _≡_ {A = ℕ} 1042 1018 = ap (codeAt 32) e in
@@ -154,7 +154,7 @@ idle-mark3 h =
     omega arith
 
 invents-mark3 : Mark3 invents encodeTo → ⊥
-unfolding codeAt code answers framesFor restSays countFrom reflect polynomial bitStep bitSteps byteStep register finalXor crcOf escaped closed frameOf encodeTo searching store same finish judge step finalized wrote badState wrongBuffer pushed pushRecord finalizeRecord act
+unfolding codeAt code answers framesFor restSays countFrom reflect polynomial bitStep bitSteps byteStep register finalXor crcOf escaped closed frameOf encodeTo searching store same finish judge step finalized wrote badDecoder wrongBuffer pushed pushRecord finalizeRecord act
 invents-mark3 h =
     let e = h C zeros refl (omega arith) [] job [] (suits, tt) in
     let z : _≡_ {A = ℕ} 3014 3013 = ap (codeAt 20) e in
@@ -162,7 +162,7 @@ invents-mark3 h =
 
 -- the second frame's last byte is at place 52
 once-mark3 : Mark3 once encodeTo → ⊥
-unfolding codeAt code answers framesFor restSays countFrom reflect polynomial bitStep bitSteps byteStep register finalXor crcOf escaped closed frameOf encodeTo searching store same finish judge step finalized wrote badState wrongBuffer pushed pushRecord finalizeRecord act
+unfolding codeAt code answers framesFor restSays countFrom reflect polynomial bitStep bitSteps byteStep register finalXor crcOf escaped closed frameOf encodeTo searching store same finish judge step finalized wrote badDecoder wrongBuffer pushed pushRecord finalizeRecord act
 once-mark3 h =
     let e = h C zeros refl (omega arith) [] job (job ∷ []) (suits, (suits, tt)) in
     let z : _≡_ {A = ℕ} 1000 1018 = ap (codeAt 52) e in
@@ -170,7 +170,7 @@ once-mark3 h =
 
 -- no frame is pushed, so no event comes
 writes-nothing-mark3 : Mark3 ours writesNothing → ⊥
-unfolding codeAt code answers framesFor restSays countFrom reflect polynomial bitStep bitSteps byteStep register finalXor crcOf searching store same finish judge step finalized wrote badState wrongBuffer pushed pushRecord finalizeRecord act
+unfolding codeAt code answers framesFor restSays countFrom reflect polynomial bitStep bitSteps byteStep register finalXor crcOf searching store same finish judge step finalized wrote badDecoder wrongBuffer pushed pushRecord finalizeRecord act
 writes-nothing-mark3 h =
     let e = h C zeros refl (omega arith) [] job [] (suits, tt) in
     let z : _≡_ {A = ℕ} 0 3013 = ap (codeAt 20) e in
@@ -178,14 +178,14 @@ writes-nothing-mark3 h =
 
 -- ---- the Encoder
 
-isByte : List Next → ℕ
+isByte : List NextAnswer → ℕ
 isByte [] = 0
 isByte (byte b ∷ l) = 1
 isByte (finished ∷ l) = 0
-isByte (N.refused k ∷ l) = 0
+isByte (N.noByte k ∷ l) = 0
 
 finished-at-once : SameBytes finishedAtOnce encodeTo → ⊥
-unfolding isByte calls reflect polynomial bitStep bitSteps byteStep register finalXor crcOf escaped closed frameOf encodeTo
+unfolding isByte callsOf reflect polynomial bitStep bitSteps byteStep register finalXor crcOf escaped closed frameOf encodeTo
 finished-at-once h =
     let e = h job (omega arith) room .1 0 in
     let z : _≡_ {A = ℕ} 0 1 = ap isByte e in
@@ -205,12 +205,12 @@ saidCode (event (ends e)) = 3
 saidCode noEvent = 0
 saidCode (failed f) = 4
 
-silent-events : ReaderGives silent → ⊥
-unfolding then guard need byteAt spanAt tlfAt lengthFrom lessOwn listOfAt number bytesAt rawFrom rawAt unsignedAt signedOf signedAt octetsAt absentAt optional timeAt statusOf statusAt signedValue unsignedValue listTypeAt valueOf valueAt entryAt listStartAt contentAt bodyAt startAt saidCode saysAt nth answer says atStart messagesFrom eventsOf
+silent-events : ReaderGives withoutEvents → ⊥
+unfolding then guard need byteAt spanAt tlfAt lengthFrom lessOwn listOfAt number bytesAt rawFrom rawAt unsignedAt signedOf signedAt octetsAt absentAt optional timeAt statusOf statusAt signedValue unsignedValue listTypeAt valueOf valueAt entryAt listStartAt contentAt bodyAt startAt saidCode saysAt nth answer saysFirst atStart messagesFrom eventsOf
 silent-events h = let z : _≡_ {A = ℕ} 0 1 = ap saidCode (h message 0) in omega arith
 
 no-entries-events : ReaderGives noEntries → ⊥
-unfolding then guard need byteAt spanAt tlfAt lengthFrom lessOwn listOfAt number bytesAt rawFrom rawAt unsignedAt signedOf signedAt octetsAt absentAt optional timeAt statusOf statusAt signedValue unsignedValue listTypeAt valueOf valueAt entryAt listStartAt contentAt bodyAt startAt saidCode saysAt nth answer says atStart inside entriesFrom contentFrom messagesFrom eventsOf onward beginAt entryNext stepAt nextAt
+unfolding then guard need byteAt spanAt tlfAt lengthFrom lessOwn listOfAt number bytesAt rawFrom rawAt unsignedAt signedOf signedAt octetsAt absentAt optional timeAt statusOf statusAt signedValue unsignedValue listTypeAt valueOf valueAt entryAt listStartAt contentAt bodyAt startAt saidCode saysAt nth answer saysFirst atStart inside entriesFrom contentFrom messagesFrom eventsOf onward beginAt entryNext stepAt nextAt
 no-entries-events h = let z : _≡_ {A = ℕ} 0 2 = ap saidCode (h message 1) in omega arith
 
 -- no list goes on with `no event`

@@ -52,13 +52,13 @@ use Rattle.message.specs.declared.ListEndRead.the-variants as ListEndR
 use Rattle.message.specs.declared.BodyRead.the-variants as BodyR
 use Rattle.message.specs.declared.StartRead.the-variants as StartR
 use Rattle.streaming.specs.Next as N
-use Rattle.streaming.specs.Next.{starts, entry, ends, Said, event, noEvent, failed, After}
-use Rattle.streaming.specs.Answers.{parseEvent, said, after}
+use Rattle.streaming.specs.Next.{starts, entry, ends, Said, event, noEvent, failed, ReaderAfter}
+use Rattle.streaming.specs.Answers.{parseEvent, said, readerAfter}
 use Rattle.streaming.specs.declared.ParseEvent.{ParseEvent}
 use Rattle.streaming.specs.declared.ParseEvent.the-variants as EventC
 use Rattle.streaming.specs.declared.Answer.{Answer}
 use Rattle.streaming.specs.declared.Answer.the-variants as AnswerC
-use Rattle.parser.specs.Reader.{Called, leaves}
+use Rattle.parser.specs.Reader.{Called, afterNext}
 use Rattle.parser.specs.declared.Parser.{Parser}
 use Rattle.marks.specs.Decided.{Beside, Injective}
 use Rattle.marks.proofs.Undone.{undone, faultFrom, error-back, itIs, itLost, reads, fieldFrom}
@@ -234,7 +234,7 @@ start-back x = λ i. record { «transaction_id» = x .«transaction_id»; «grou
 
 -- ---- events
 
-eventFrom : N.Event Span → ParseEvent
+eventFrom : N.MessageEvent Span → ParseEvent
 eventFrom (starts m) = EventC.MessageStart (startFrom m)
 eventFrom (entry e) = EventC.ListEntry (entryFrom e)
 eventFrom (ends e) = EventC.GetListResponseEnd (listEndFrom e)
@@ -268,12 +268,12 @@ said-back (AnswerC.Refused f) = refused-back (f .error) (f .place)
 said-back AnswerC.InputTooLong = refl
 said-back AnswerC.BadState = refl
 
-pub event-one : Injective after
+pub event-one : Injective readerAfter
 event-one r r′ h =
-    let a : r .answer ≡ r′ .answer = undone said answerFrom said-back _ _ (ap (λ (x : After). x .said) h) in
+    let a : r .answer ≡ r′ .answer = undone said answerFrom said-back _ _ (ap (λ (x : ReaderAfter). x .said) h) in
     λ i. record { answer = a i; place = h i .place; start = h i .start; pending = h i .pending }
 
-pub event-in-place-one : Injective (λ (r : Beside Answer Parser). leaves (r .answer) (r .lent))
+pub event-in-place-one : Injective (λ (r : Beside Answer Parser). afterNext (r .answer) (r .lent))
 event-in-place-one r r′ h =
     let a : r .answer ≡ r′ .answer = undone said answerFrom said-back _ _ (ap (λ (x : Called). x .said) h) in
     λ i. record { answer = a i; lent = h i .reader }

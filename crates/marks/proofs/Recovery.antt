@@ -10,7 +10,7 @@ use borrow.Author.Tests.{ne-eqb, le-leb}
 use lib.Dec.{ltb}
 use Rattle.frame.specs.Frame.{restartSeq, frameOf, closed}
 use Rattle.decoder.specs.Push.{Setup, Mem, State, search, body, escape, done, silent, memory, Out, searching, says, put, starts, step, noticed, fresh, stopped}
-use Rattle.decoder.specs.Record.{Answer, nothing, payload, count, refused, numbered, newRecord}
+use Rattle.decoder.specs.Record.{Answer, nothing, payload, count, refusal, numbered, newRecord}
 use Rattle.decoder.specs.Run.{Op, push, finalize, reset, act, run, runState, stateBehind, actState, answerState}
 use Rattle.decoder.specs.Saw as W
 use Rattle.decoder.specs.Saw.{Judged, is-data, restarts, good, bad, shifts, Saw, matched, began, missed, again, waits, opens, stores, full, reads, judges, full′}
@@ -31,7 +31,7 @@ abbrev tally : Answer → ℕ → ℕ
 tally nothing n = suc n
 tally (payload bytes) n = 0
 tally (count k) n = 0
-tally (refused k values) n = 0
+tally (refusal k values) n = 0
 
 abbrev tallyOp : Op → Answer → ℕ → ℕ
 tallyOp (push b) a n = tally a n
@@ -43,7 +43,7 @@ unfolding countFrom
 count-cons n (push b) nothing os more = refl
 count-cons n (push b) (payload bytes) os more = refl
 count-cons n (push b) (count k) os more = refl
-count-cons n (push b) (refused k values) os more = refl
+count-cons n (push b) (refusal k values) os more = refl
 count-cons n finalize a os more = refl
 count-cons n reset a os more = refl
 
@@ -62,7 +62,7 @@ ok-judged C n m four o fit (restarts e) = omega arith
 ok-judged C n m four o fit (good e h) = refl
 ok-judged C n m four o fit (bad e h) = ok-fresh C
 ok-judged C n m four o fit (shifts a e lo hi t) = fit
-ok-judged C n m four o fit (W.refused a b c d) = ok-fresh C
+ok-judged C n m four o fit (W.unknown a b c d) = ok-fresh C
 
 ok-saw : (C : Setup) (n : ℕ) (s : State) (b : ℕ) (o : Out) → Ok C n s → Saw C s b o → Ok C (tally (numbered (o .event)) n) (o .state)
 ok-saw C n s b o ok (matched t ne) = omega arith
@@ -120,7 +120,7 @@ moved-judged C f m four o up never (restarts e) = absurd (never e)
 moved-judged C f m four o up never (good e h) = tt
 moved-judged C f m four o up never (bad e h) = refl
 moved-judged C f m four o up never (shifts a e lo hi t) = up
-moved-judged C f m four o up never (W.refused a b c d) = refl
+moved-judged C f m four o up never (W.unknown a b c d) = refl
 
 -- in a frame
 abbrev InFrame : State → Type 0
@@ -255,15 +255,15 @@ module _ (C : Setup) (small : C .capacity ≤ 1048576) where
 
   first-says : (n raw : ℕ) (j : Job) (js : List Job) → 1 ≤ n → AllSuit C (j ∷ js)
       → runState C (search 0 (stopped n) raw) (map push (framesFor encodeTo (j ∷ js)))
-      ≡ frameSays (refused 6 (stopped n ∷ [])) (wroteFor encodeTo j) (j .payload) ++ restSays encodeTo js
+      ≡ frameSays (refusal 6 (stopped n ∷ [])) (wroteFor encodeTo j) (j .payload) ++ restSays encodeTo js
   first-says n raw j js pos fit =
       ap (runState C (search 0 (stopped n) raw)) (frames-cons j js (fit .0))
       ∙ round-trip C (stopped n) raw (j .payload) (fit .0 .0) .answers′ (map push (framesFor encodeTo js))
       ∙ ap (λ (l : List Answer). frameSays (numbered (noticed (stopped n))) (frameOf (j .payload)) (j .payload) ++ l) (rest-says js (j .payload) (fit .1))
       ∙ ap (λ (a : Answer). frameSays a (frameOf (j .payload)) (j .payload) ++ restSays encodeTo js) noisy
-      ∙ ap (λ (f : List ℕ). frameSays (refused 6 (stopped n ∷ [])) f (j .payload) ++ restSays encodeTo js) (sym (wrote-is C j small (fit .0)))
+      ∙ ap (λ (f : List ℕ). frameSays (refusal 6 (stopped n ∷ [])) f (j .payload) ++ restSays encodeTo js) (sym (wrote-is C j small (fit .0)))
     where
-      noisy : numbered (noticed (stopped n)) ≡ refused 6 (stopped n ∷ [])
+      noisy : numbered (noticed (stopped n)) ≡ refusal 6 (stopped n ∷ [])
       noisy = rw (ne-eqb (stopped n) 0 (λ e. omega arith))
 
 -- ---- ours
@@ -286,4 +286,4 @@ mark3 C m l le before j js fit =
     answers-new C m (os ++ fs) l le ∙ run-append C os fs fresh
     ∙ ap (λ (s : State). runState C fresh os ++ runState C s fs) (t .state′)
     ∙ ap (λ (l : List Answer). runState C fresh os ++ l) (first-says C le (countFrom 0 os (runState C fresh os)) (t .raw) j js (t .some) fit)
-    ∙ ap (λ (h : List Answer). h ++ (frameSays (refused 6 (stopped (countSince os h) ∷ [])) (wroteFor encodeTo j) (j .payload) ++ restSays encodeTo js)) (sym same)
+    ∙ ap (λ (h : List Answer). h ++ (frameSays (refusal 6 (stopped (countSince os h) ∷ [])) (wroteFor encodeTo j) (j .payload) ++ restSays encodeTo js)) (sym same)

@@ -10,15 +10,15 @@ use borrow.Author.Tests.{eq-eqb, le-leb, lt-leb}
 use Rattle.crc_x25.specs.Crc.{register, finalXor, crcOf}
 use Rattle.crc_x25.proofs.Laws.{register-append, register-none, crc-is}
 use Rattle.frame.specs.Frame.{Sound, missing, escSeq, startSeq, escaped, closed, framed, frameOf}
-use Rattle.decoder.specs.Push.{Setup, Mem, State, search, body, escape, done, silent, got, Out, begun, searching, says, put, tick, opened, store, same, judge, finish, computed, step, noticed, fresh, memory}
+use Rattle.decoder.specs.Push.{Setup, Mem, State, search, body, escape, done, silent, paysOut, Out, begun, searching, says, put, tick, opened, store, same, judge, finish, computed, step, noticed, fresh, memory}
 use Rattle.decoder.specs.Record.{Answer, nothing, payload, numbered}
 use Rattle.decoder.specs.Run as R
 use Rattle.decoder.specs.Run.{Op, runState, actState, answerState}
 use Rattle.marks.specs.Decoders.{frameSays}
 use Rattle.frame.proofs.Cases.{either}
-use Rattle.frame.proofs.Escapes.{run, swap-escSeq, run-le, escaped-append, escaped-zeros, escaped-other, run-other, escaped-wait, run-wait}
-use Rattle.marks.proofs.Rules.{Silent, stop, push, then, step-other, step-wait, step-open, step-read, step-judge, silent-run, quiet}
-use Rattle.marks.proofs.Inside.{Inside, begins, inside-other, inside-wait, computed-is, trimmed}
+use Rattle.frame.proofs.Escapes.{runBehind, swap-escSeq, run-le, escaped-append, escaped-zeros, escaped-other, run-other, escaped-wait, run-wait}
+use Rattle.marks.proofs.Rules.{Silent, stop, push, andThen, step-other, step-wait, step-open, step-read, step-judge, silent-run, nothings}
+use Rattle.marks.proofs.Inside.{InsideFrame, begins, inside-other, inside-wait, computed-is, trimmed}
 
 -- ---- the data
 
@@ -39,7 +39,7 @@ silent-quad C m fit =
     (push (step-read C m₂ 2 0x1b (omega arith) (simp length-append (omega arith)))
     (push (step-judge C m₃ (m .stored) 0x1b 0x1b 0x1b 0x1b (simp append-assoc) (simp length-append (omega arith))) stop))))
 
-inside-quad : (m : Mem) (D h : List ℕ) → Inside 3 m D h → Inside 0 (quad m) (D ++ 0x1b ∷ []) (h ++ 0x1b ∷ escSeq)
+inside-quad : (m : Mem) (D h : List ℕ) → InsideFrame 3 m D h → InsideFrame 0 (quad m) (D ++ 0x1b ∷ []) (h ++ 0x1b ∷ escSeq)
 unfolding quad
 inside-quad m D h c =
     let X : ℕ = register (m .reg) (drop (m .idx) (m .stored)) in
@@ -55,26 +55,26 @@ inside-quad m D h c =
 record Fed (C : Setup) (r : ℕ) (m : Mem) (D h p l : List ℕ) (r′ : ℕ) : Type 0 where
   m′ : Mem
   quietly : Silent C (body r m) l (body r′ m′)
-  inside : Inside r′ m′ (D ++ p) (h ++ l)
+  inside : InsideFrame r′ m′ (D ++ p) (h ++ l)
 
 fed-cons : (C : Setup) (r r₁ : ℕ) (m m₁ : Mem) (D h l p k : List ℕ) (b r′ : ℕ) → Silent C (body r m) l (body r₁ m₁)
     → Fed C r₁ m₁ (D ++ b ∷ []) (h ++ l) p k r′ → Fed C r m D h (b ∷ p) (l ++ k) r′
 fed-cons C r r₁ m m₁ D h l p k b r′ q f = record {
   m′ = f .m′;
-  quietly = then q (f .quietly);
+  quietly = andThen q (f .quietly);
   inside = rw (append-assoc D (b ∷ []) p, append-assoc h l k) at (f .inside);
 }
 
-feed : (C : Setup) (p : List ℕ) (r : ℕ) (m : Mem) (D h : List ℕ) → r ≤ 3 → Inside r m D h → length D + length p ≤ C .capacity → Fed C r m D h p (escaped r p) (run r p)
-unfolding escaped run
+feed : (C : Setup) (p : List ℕ) (r : ℕ) (m : Mem) (D h : List ℕ) → r ≤ 3 → InsideFrame r m D h → length D + length p ≤ C .capacity → Fed C r m D h p (escaped r p) (runBehind r p)
+unfolding escaped runBehind
 feed C [] r m D h le c fit = record { m′ = m; quietly = stop; inside = rw (append-nil D, append-nil h) c }
 feed C (b ∷ p) r m D h le c fit =
     let fit′ : (x : ℕ) → length (D ++ x ∷ []) + length p ≤ C .capacity = λ x. simp length-append (omega arith) in
     let big : length (m .stored) + r ≡ length D = simp (length-append, length-replicate) at (ap length (c .data′)) in
     either b 0x1b
-    (λ e. subst (λ (x : ℕ). Fed C r m D h (x ∷ p) (escaped r (x ∷ p)) (run r (x ∷ p))) (sym e)
+    (λ e. subst (λ (x : ℕ). Fed C r m D h (x ∷ p) (escaped r (x ∷ p)) (runBehind r (x ∷ p))) (sym e)
     (either r 3
-    (λ f. subst (λ (k : ℕ). Fed C k m D h (0x1b ∷ p) (escaped k (0x1b ∷ p)) (run k (0x1b ∷ p))) (sym f)
+    (λ f. subst (λ (k : ℕ). Fed C k m D h (0x1b ∷ p) (escaped k (0x1b ∷ p)) (runBehind k (0x1b ∷ p))) (sym f)
     (fed-cons C 3 0 m (quad m) D h (0x1b ∷ escSeq) p _ 0x1b _ (silent-quad C m (omega arith))
     (feed C p 0 (quad m) _ _ (omega arith) (inside-quad m D h (rw f at c)) (fit′ 0x1b))))
     (λ n. subst₂ (λ (l : List ℕ) (k : ℕ). Fed C r m D h (0x1b ∷ p) l k) (sym (escaped-wait r p n)) (sym (run-wait r p n))
@@ -89,7 +89,7 @@ feed C (b ∷ p) r m D h le c fit =
 -- the four last bytes are a right end sequence behind the data D
 module _ (m : Mem) (D : List ℕ) (p y z : ℕ) (has : m .stored ≡ D ++ 0x1a ∷ p ∷ y ∷ z ∷ []) (right : y + 256 * z ≡ computed m)
     (aligned : length D % 4 ≡ 0) (small : p ≤ 3) (within : p ≤ length D) where
-  judge-end : judge m (0x1a ∷ p ∷ y ∷ z ∷ []) ≡ says (done (take (length D - p) D)) (got (take (length D - p) D))
+  judge-end : judge m (0x1a ∷ p ∷ y ∷ z ∷ []) ≡ says (done (take (length D - p) D)) (paysOut (take (length D - p) D))
   unfolding judge finish same
   judge-end =
       let long : length (m .stored) ≡ length D + 4 = simp length-append at (ap length has) in
@@ -115,7 +115,7 @@ puts-is (b ∷ l) m = let q = puts-is l (put m (b ∷ [])) in (q .0 ∙ append-a
 pub record Ends (C : Setup) (s : State) (l : List ℕ) (z : ℕ) (P : List ℕ) (need : ℕ) : Type 0 where
   pub s′ : State
   pub quietly : Silent C s l s′
-  pub last : step C s′ z ≡ says (done P) (got P)
+  pub last : step C s′ z ≡ says (done P) (paysOut P)
   pub full : (C₀ : Setup) → C₀ .capacity < need → step C₀ s′ z ≡ says fresh memory
 
 module _ (C : Setup) (m : Mem) (D h : List ℕ) (p y z : ℕ) (right : y + 256 * z ≡ finalXor (register 0xffff (h ++ escSeq ++ 0x1a ∷ p ∷ [])))
@@ -129,7 +129,7 @@ module _ (C : Setup) (m : Mem) (D h : List ℕ) (p y z : ℕ) (right : y + 256 *
   -- the end of all four cases: m′ is m where the escape opened, w are the waiting 1b, now stored
   last-judged : (w : List ℕ) (m′ : Mem) → S ++ w ≡ D → register (register (register (m .reg) (drop (m .idx) S)) escSeq) w ≡ register (register 0xffff h) escSeq
       → m′ .stored ≡ S ++ (w ++ 0x1a ∷ p ∷ y ∷ []) → m′ .reg ≡ register (register (m .reg) (drop (m .idx) S)) escSeq → m′ .idx ≡ length S
-      → step C (escape 3 m′) z ≡ says (done P) (got P)
+      → step C (escape 3 m′) z ≡ says (done P) (paysOut P)
   last-judged w m′ whole sum has reg idx =
       step-judge C m′ (S ++ w) 0x1a p y z (rw (has, append-assoc S)) (rw has (simp length-append (omega (arith, long))))
       ∙ judge-end (put m′ (z ∷ [])) D p y z all checked aligned small within
@@ -155,7 +155,7 @@ module _ (C : Setup) (m : Mem) (D h : List ℕ) (p y z : ℕ) (right : y + 256 *
       rw (lt-leb (length (m′ .stored) + 1) (C₀ .capacity) (omega arith))
 
   -- the CRC counts the escape's 1b and the waiting restart, in either order
-  swapped : (a : ℕ) → Inside a m D h → register (register (register (m .reg) (drop (m .idx) S)) escSeq) (replicate a 0x1b) ≡ register (register 0xffff h) escSeq
+  swapped : (a : ℕ) → InsideFrame a m D h → register (register (register (m .reg) (drop (m .idx) S)) escSeq) (replicate a 0x1b) ≡ register (register 0xffff h) escSeq
   swapped a c =
       sym (register-append (register (m .reg) (drop (m .idx) S)) escSeq (replicate a 0x1b)) ∙ ap (register (register (m .reg) (drop (m .idx) S))) (sym (swap-escSeq a))
       ∙ register-append (register (m .reg) (drop (m .idx) S)) (replicate a 0x1b) escSeq ∙ ap (λ (x : ℕ). register x escSeq) (c .sum)
@@ -164,7 +164,7 @@ module _ (C : Setup) (m : Mem) (D h : List ℕ) (p y z : ℕ) (right : y + 256 *
   abbrev Open : Mem → Type 0
   Open m₀ = (m₀ .stored ≡ S) × (m₀ .reg ≡ register (register (m .reg) (drop (m .idx) S)) escSeq) × (m₀ .idx ≡ length S)
 
-  end-0 : Inside 0 m D h → Ends C (body 0 m) (escSeq ++ 0x1a ∷ p ∷ y ∷ []) z P (length D + 4)
+  end-0 : InsideFrame 0 m D h → Ends C (body 0 m) (escSeq ++ 0x1a ∷ p ∷ y ∷ []) z P (length D + 4)
   unfolding step puts
   end-0 c =
       let long : length S ≡ length D = ap length (sym (append-nil S) ∙ c .data′) in
@@ -179,7 +179,7 @@ module _ (C : Setup) (m : Mem) (D h : List ℕ) (p y z : ℕ) (right : y + 256 *
   -- where a 1b waited, the escape opens early. The first four bytes behind it are w₁ to w₄, and `shift` is what the judge makes of them
   module _ (a w₁ w₂ w₃ w₄ : ℕ) (rest : List ℕ) (m₀ : Mem) (o : Open m₀) (tail : replicate a 0x1b ++ 0x1a ∷ p ∷ y ∷ [] ≡ w₁ ∷ w₂ ∷ w₃ ∷ w₄ ∷ rest) (few : suc (length rest) ≡ a) (le : a ≤ 3)
       (shift : (q : Mem) → missing (length (q .stored)) ≡ a → judge q (w₁ ∷ w₂ ∷ w₃ ∷ w₄ ∷ []) ≡ says (escape (4 - a) q) silent) where
-    end-early : (l : List ℕ) → Silent C (body a m) l (escape 0 m₀) → Inside a m D h → Ends C (body a m) (l ++ w₁ ∷ w₂ ∷ w₃ ∷ w₄ ∷ rest) z P (length D + 4)
+    end-early : (l : List ℕ) → Silent C (body a m) l (escape 0 m₀) → InsideFrame a m D h → Ends C (body a m) (l ++ w₁ ∷ w₂ ∷ w₃ ∷ w₄ ∷ rest) z P (length D + 4)
     unfolding puts
     end-early l opening c =
         let long : length S + a ≡ length D = simp (length-append, length-replicate) at (ap length (c .data′)) in
@@ -193,13 +193,13 @@ module _ (C : Setup) (m : Mem) (D h : List ℕ) (p y z : ℕ) (right : y + 256 *
         let q : ((puts m₄ rest) .stored ≡ m₄ .stored ++ rest) × ((puts m₄ rest) .reg ≡ m₄ .reg) × ((puts m₄ rest) .idx ≡ m₄ .idx) = puts-is rest m₄ in
         record {
           s′ = escape 3 (puts m₄ rest);
-          quietly = then opening (then (reads C (w₁ ∷ w₂ ∷ w₃ ∷ []) m₀ 0 3 refl (omega arith) (omega arith))
+          quietly = andThen opening (andThen (reads C (w₁ ∷ w₂ ∷ w₃ ∷ []) m₀ 0 3 refl (omega arith) (omega arith))
               (push (step-judge C m₃ S w₁ w₂ w₃ w₄ has₃ (omega arith) ∙ shift m₄ (omega arith)) (reads C rest m₄ (4 - a) 3 (omega arith) (omega arith) (omega arith))));
           last = last-judged (replicate a 0x1b) (puts m₄ rest) (c .data′) (swapped a c) (q .0 ∙ rw (has₄, append-assoc S, tail)) (q .1 ∙ o .1) (q .2 ∙ o .2);
           full = last-full (replicate a 0x1b) (puts m₄ rest) (c .data′) (q .0 ∙ rw (has₄, append-assoc S, tail));
         }
 
-  ending : (r : ℕ) → r ≤ 3 → Inside r m D h → Ends C (body r m) (escSeq ++ 0x1a ∷ p ∷ y ∷ []) z P (length D + 4)
+  ending : (r : ℕ) → r ≤ 3 → InsideFrame r m D h → Ends C (body r m) (escSeq ++ 0x1a ∷ p ∷ y ∷ []) z P (length D + 4)
   unfolding step judge same
   ending zero le c = end-0 c
   ending (suc zero) le c = end-early 1 0x1b 0x1a p y [] (opened (tick (tick m))) (refl, refl, refl) refl refl le (λ q e. rw e) (0x1b ∷ 0x1b ∷ 0x1b ∷ []) (push refl (push refl (push refl stop))) c
@@ -213,7 +213,7 @@ module _ (C : Setup) (m : Mem) (D h : List ℕ) (p y z : ℕ) (right : y + 256 *
 pub record Decodes (C : Setup) (noise raw : ℕ) (f P : List ℕ) : Type 0 where
   pub answers′ : (os : List Op) → runState C (search 0 noise raw) (map R.push f ++ os) ≡ frameSays (numbered (noticed noise)) f P ++ runState C (done P) os
 
-quiet-replicate : (l : List ℕ) → quiet l ≡ replicate (length l) nothing
+quiet-replicate : (l : List ℕ) → nothings l ≡ replicate (length l) nothing
 quiet-replicate [] = refl
 quiet-replicate (x ∷ l) = ap (λ (k : List Answer). nothing ∷ k) (quiet-replicate l)
 
@@ -228,10 +228,10 @@ module _ (C : Setup) (noise raw : ℕ) (l : List ℕ) (os : List Op) where
   begun-run = refl
 
 module _ (C : Setup) (noise raw : ℕ) (l : List ℕ) (z : ℕ) (P : List ℕ) (need : ℕ) (t : Ends C begun l z P need) (os : List Op) where
-  ends-run : runState C begun (map R.push (l ++ z ∷ []) ++ os) ≡ quiet l ++ payload P ∷ runState C (done P) os
+  ends-run : runState C begun (map R.push (l ++ z ∷ []) ++ os) ≡ nothings l ++ payload P ∷ runState C (done P) os
   unfolding runState actState answerState
   ends-run = ap (runState C begun) (map-append l (z ∷ []) os) ∙ silent-run (t .quietly) (R.push z ∷ os)
-      ∙ ap (λ (o : Out). quiet l ++ numbered (o .event) ∷ runState C (o .state) os) (t .last)
+      ∙ ap (λ (o : Out). nothings l ++ numbered (o .event) ∷ runState C (o .state) os) (t .last)
 
   says-all : runState C (search 0 noise raw) (map R.push (startSeq ++ (l ++ z ∷ [])) ++ os) ≡ frameSays (numbered (noticed noise)) (startSeq ++ (l ++ z ∷ [])) P ++ runState C (done P) os
   says-all =
@@ -272,14 +272,14 @@ framed-runs C D p aligned small within fit = record { l = l; z = z; shape = shap
     shape : framed D p ≡ startSeq ++ (l ++ z ∷ [])
     shape = regroup startSeq (escaped 0 D) escSeq (0x1a ∷ p ∷ []) (x % 256 ∷ []) (z ∷ [])
 
-    fed : Fed C 0 (record { stored = []; reg = register 0xffff startSeq; idx = 0; raw = 8 }) [] startSeq D (escaped 0 D) (run 0 D)
+    fed : Fed C 0 (record { stored = []; reg = register 0xffff startSeq; idx = 0; raw = 8 }) [] startSeq D (escaped 0 D) (runBehind 0 D)
     fed = feed C D 0 _ [] startSeq (omega arith) begins (omega arith)
 
-    e : Ends C (body (run 0 D) (fed .m′)) (escSeq ++ 0x1a ∷ p ∷ x % 256 ∷ []) z P (length D + 4)
-    e = ending C (fed .m′) D (startSeq ++ escaped 0 D) p (x % 256) z (mod-add-div x 256 ∙ crc-is _) aligned small within fit (run 0 D) (run-le 0 D (omega arith)) (fed .inside)
+    e : Ends C (body (runBehind 0 D) (fed .m′)) (escSeq ++ 0x1a ∷ p ∷ x % 256 ∷ []) z P (length D + 4)
+    e = ending C (fed .m′) D (startSeq ++ escaped 0 D) p (x % 256) z (mod-add-div x 256 ∙ crc-is _) aligned small within fit (runBehind 0 D) (run-le 0 D (omega arith)) (fed .inside)
 
     t : Ends C begun l z P (length D + 4)
-    t = record { s′ = e .s′; quietly = then (fed .quietly) (e .quietly); last = e .last; full = e .full }
+    t = record { s′ = e .s′; quietly = andThen (fed .quietly) (e .quietly); last = e .last; full = e .full }
 
 pub sound-decodes : (C : Setup) (noise raw : ℕ) (f P : List ℕ) (s : Sound f P) → length (s .D) + 4 ≤ C .capacity → Decodes C noise raw f P
 sound-decodes C noise raw f P s fit =
@@ -293,7 +293,7 @@ frame-framed P =
     let n = missing (length P) in
     ap (λ (l : List ℕ). closed (l ++ escSeq ++ (0x1a ∷ n ∷ [])))
     (append-assoc startSeq (escaped 0 P) (replicate n 0)
-    ∙ ap (λ (l : List ℕ). startSeq ++ l) (sym (escaped-append 0 P (replicate n 0) ∙ rw (escaped-zeros n (run 0 P)))))
+    ∙ ap (λ (l : List ℕ). startSeq ++ l) (sym (escaped-append 0 P (replicate n 0) ∙ rw (escaped-zeros n (runBehind 0 P)))))
 
 pub round-trip : (C : Setup) (noise raw : ℕ) (P : List ℕ) → length P + missing (length P) + 4 ≤ C .capacity → Decodes C noise raw (frameOf P) P
 round-trip C noise raw P fit = sound-decodes C noise raw (frameOf P) P padded (simp (length-append, length-replicate) fit)

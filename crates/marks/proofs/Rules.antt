@@ -46,15 +46,15 @@ pub data Silent (C : Setup) : State → List ℕ → State → Type 0 where
   stop : {s : State} → Silent C s [] s
   push : {s t u : State} {b : ℕ} {l : List ℕ} → step C s b ≡ says t silent → Silent C t l u → Silent C s (b ∷ l) u
 
-pub then : {C : Setup} {s t u : State} {a b : List ℕ} → Silent C s a t → Silent C t b u → Silent C s (a ++ b) u
-then stop r = r
-then (push e q) r = push e (then q r)
+pub andThen : {C : Setup} {s t u : State} {a b : List ℕ} → Silent C s a t → Silent C t b u → Silent C s (a ++ b) u
+andThen stop r = r
+andThen (push e q) r = push e (andThen q r)
 
 -- one `nothing` for each byte
-abbrev pub quiet : List ℕ → List Answer
-quiet l = map (λ b. nothing) l
+abbrev pub nothings : List ℕ → List Answer
+nothings l = map (λ b. nothing) l
 
-pub silent-run : {C : Setup} {s t : State} {a : List ℕ} → Silent C s a t → (os : List Op) → runState C s (map R.push a ++ os) ≡ quiet a ++ runState C t os
+pub silent-run : {C : Setup} {s t : State} {a : List ℕ} → Silent C s a t → (os : List Op) → runState C s (map R.push a ++ os) ≡ nothings a ++ runState C t os
 unfolding runState actState answerState
 silent-run stop os = refl
 silent-run {C} (push {l = l} e q) os =

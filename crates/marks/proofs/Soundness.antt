@@ -10,8 +10,8 @@ use borrow.Author.Tests.{eqb-true}
 use Rattle.crc_x25.specs.Crc.{register, finalXor, crcOf}
 use Rattle.crc_x25.proofs.Laws.{register-append, register-none, crc-is}
 use Rattle.frame.specs.Frame.{Sound, missing, escSeq, restartSeq, startSeq, escaped, closed, framed}
-use Rattle.decoder.specs.Push.{Setup, Mem, State, search, body, escape, done, Event, silent, discarded, got, memory, badEscape, badMessage, Out, begun, searching, says, put, tick, opened, store, same, starts, early, sound?, judge, finish, computed, step, noticed, fresh, finalized}
-use Rattle.decoder.specs.Record.{Answer, nothing, payload, count, refused, numbered, After, after, viewAs, view, newRecord, stands, hasPayload, payloadRecord}
+use Rattle.decoder.specs.Push.{Setup, Mem, State, search, body, escape, done, PushEvent, silent, discarded, paysOut, memory, badEscape, badMessage, Out, begun, searching, says, put, tick, opened, store, same, starts, early, sound?, judge, finish, computed, step, noticed, fresh, finalized}
+use Rattle.decoder.specs.Record.{Answer, nothing, payload, count, refusal, numbered, After, after, stateAs, stateOf, newRecord, stands, hasPayload, payloadRecord}
 use Rattle.decoder.specs.Run as R
 use Rattle.decoder.specs.Run.{Op, push, finalize, reset, act, runState, stateBehind, actState, answerState}
 use Rattle.decoder.specs.Saw.{Passed}
@@ -22,11 +22,11 @@ use Rattle.decoder.proofs.Saw.{same-true, passed}
 use Rattle.decoder.proofs.Payload.{got-done}
 use Rattle.decoder.proofs.Faithful.{Fit}
 use Rattle.decoder.proofs.Runs.{acts, Leads, leads, new-fit}
-use Rattle.marks.specs.Decoders.{gave, ours, behind, bytesFrom}
+use Rattle.marks.specs.Decoders.{gave, ours, behindOf, bytesFrom}
 use Rattle.marks.specs.Mark2.{PushesBytes, EndsFrame, Soundness}
 use Rattle.frame.proofs.Cases.{by-test, by-eq, by-le, by-lt}
 use Rattle.marks.proofs.Rules.{last-four}
-use Rattle.frame.proofs.Escapes.{run, swap-escSeq, escaped-append, run-append, escaped-few, escaped-other, run-other, escaped-nil, run-nil, replicate-snoc}
+use Rattle.frame.proofs.Escapes.{runBehind, swap-escSeq, escaped-append, run-append, escaped-few, escaped-other, run-other, escaped-nil, run-nil, replicate-snoc}
 use Rattle.marks.proofs.Inside.{computed-is, trimmed}
 use Rattle.marks.proofs.Recovery.{answers-new}
 
@@ -39,14 +39,14 @@ head D = startSeq ++ escaped 0 D
 record InBody (h : List ℕ) (r : ℕ) (m : Mem) : Type 0 where
   pre : List ℕ
   here : h ≡ pre ++ (head (m .stored) ++ replicate r 0x1b)
-  clean : run 0 (m .stored) ≡ 0
+  clean : runBehind 0 (m .stored) ≡ 0
   few : r ≤ 3
   index : m .idx ≤ length (m .stored)
   sum : register (m .reg) (drop (m .idx) (m .stored)) ≡ register 0xffff (head (m .stored))
 
 -- the data ends no run of 1b, or the escape is an end sequence
 data Opens (D l : List ℕ) : Type 0 where
-  tidy : run 0 D ≡ 0 → Opens D l
+  tidy : runBehind 0 D ≡ 0 → Opens D l
   ending : (k : List ℕ) → l ≡ 0x1a ∷ k → Opens D l
 
 record InEscape (h : List ℕ) (k : ℕ) (m : Mem) : Type 0 where
@@ -85,25 +85,25 @@ record EndsSound (h P : List ℕ) : Type 0 where
 
 record Kept (h : List ℕ) (o : Out) : Type 0 where
   known : Known h (o .state)
-  sound : Bytes h → (P : List ℕ) → o .event ≡ got P → EndsSound h P
+  sound : Bytes h → (P : List ℕ) → o .event ≡ paysOut P → EndsSound h P
 
 -- ---- an event that is no payload
 
-abbrev Plain : Event → Type 0
+abbrev Plain : PushEvent → Type 0
 Plain silent = Unit {0}
 Plain (discarded n) = Unit {0}
-Plain (got P) = ⊥
+Plain (paysOut P) = ⊥
 Plain memory = Unit {0}
 Plain (badEscape a b c d) = Unit {0}
 Plain (badMessage a b c d) = Unit {0}
 
-plain : {h : List ℕ} {s : State} {e : Event} → Plain e → Known h s → Kept h (says s e)
+plain : {h : List ℕ} {s : State} {e : PushEvent} → Plain e → Known h s → Kept h (says s e)
 plain {e = e} p k = record { known = k; sound = λ bs P q. absurd (subst Plain q p) }
 
 plain-noticed : (n : ℕ) → Plain (noticed n)
 plain-noticed n = by-eq Plain n 0 _ _ (λ e. tt) (λ e. tt)
 
-lost : {h : List ℕ} {e : Event} → Plain e → Kept h (says fresh e)
+lost : {h : List ℕ} {e : PushEvent} → Plain e → Kept h (says fresh e)
 lost {h} p = plain p (h, sym (append-nil h), omega arith)
 
 -- ---- a search
@@ -120,7 +120,7 @@ starts-is (suc (suc (suc (suc (suc (suc (suc zero))))))) b h e = rw (eqb-true b 
 starts-is (suc (suc (suc (suc (suc (suc (suc (suc n)))))))) b h e = absurd (omega arith)
 
 begins : (h pre : List ℕ) → h ≡ pre ++ startSeq → Known h begun
-unfolding head run escaped
+unfolding head runBehind escaped
 begins h pre e = record { pre = pre; here = e; clean = refl; few = omega arith; index = omega arith; sum = register-none _ }
 
 kept-search : (h : List ℕ) (b n noise raw : ℕ) → Known h (search n noise raw) → Kept (h ++ b ∷ []) (searching n noise raw b)
@@ -136,7 +136,7 @@ kept-search h b n noise raw k =
 -- ---- the body
 
 -- one to three 1b and another byte are what they are when escaped
-head-other : (S : List ℕ) (r b : ℕ) → run 0 S ≡ 0 → r ≤ 3 → (b ≡ 0x1b → ⊥) → head (S ++ (replicate r 0x1b ++ b ∷ [])) ≡ head S ++ replicate r 0x1b ++ b ∷ []
+head-other : (S : List ℕ) (r b : ℕ) → runBehind 0 S ≡ 0 → r ≤ 3 → (b ≡ 0x1b → ⊥) → head (S ++ (replicate r 0x1b ++ b ∷ [])) ≡ head S ++ replicate r 0x1b ++ b ∷ []
 unfolding head
 head-other S r b clean few ne =
     ap (λ (l : List ℕ). startSeq ++ l) (escaped-append 0 S w ∙ ap (λ (l : List ℕ). escaped 0 S ++ l) same′ ∙ sym (append-assoc (escaped 0 S) (replicate r 0x1b) (b ∷ [])))
@@ -144,11 +144,11 @@ head-other S r b clean few ne =
     w : List ℕ
     w = replicate r 0x1b ++ b ∷ []
 
-    same′ : escaped (run 0 S) w ≡ w
-    same′ = rw (clean, escaped-append 0 (replicate r 0x1b) (b ∷ []), escaped-few r 0 (omega arith), escaped-other (run 0 (replicate r 0x1b)) b [] ne, escaped-nil 0)
+    same′ : escaped (runBehind 0 S) w ≡ w
+    same′ = rw (clean, escaped-append 0 (replicate r 0x1b) (b ∷ []), escaped-few r 0 (omega arith), escaped-other (runBehind 0 (replicate r 0x1b)) b [] ne, escaped-nil 0)
 
-run-back : (S : List ℕ) (r b : ℕ) → (b ≡ 0x1b → ⊥) → run 0 (S ++ (replicate r 0x1b ++ b ∷ [])) ≡ 0
-run-back S r b ne = rw (← append-assoc S, run-append 0 (S ++ replicate r 0x1b), run-other (run 0 (S ++ replicate r 0x1b)) b [] ne, run-nil 0)
+run-back : (S : List ℕ) (r b : ℕ) → (b ≡ 0x1b → ⊥) → runBehind 0 (S ++ (replicate r 0x1b ++ b ∷ [])) ≡ 0
+run-back S r b ne = rw (← append-assoc S, run-append 0 (S ++ replicate r 0x1b), run-other (runBehind 0 (S ++ replicate r 0x1b)) b [] ne, run-nil 0)
 
 module _ (h : List ℕ) (b r : ℕ) (m : Mem) (k : InBody h r m) where
   abbrev S : List ℕ
@@ -200,15 +200,15 @@ kept-body C h b r m k =
 
 -- ---- an escape
 
-head-few : (D : List ℕ) (a : ℕ) → run 0 D ≡ 0 → a ≤ 3 → head (D ++ replicate a 0x1b) ≡ head D ++ replicate a 0x1b
+head-few : (D : List ℕ) (a : ℕ) → runBehind 0 D ≡ 0 → a ≤ 3 → head (D ++ replicate a 0x1b) ≡ head D ++ replicate a 0x1b
 unfolding head
 head-few D a e le = ap (λ (l : List ℕ). startSeq ++ l) (escaped-append 0 D (replicate a 0x1b) ∙ rw (e, escaped-few a 0 (omega arith)))
 
-head-escSeq : (D : List ℕ) → run 0 D ≡ 0 → head (D ++ escSeq) ≡ head D ++ escSeq ++ escSeq
+head-escSeq : (D : List ℕ) → runBehind 0 D ≡ 0 → head (D ++ escSeq) ≡ head D ++ escSeq ++ escSeq
 unfolding head escaped
 head-escSeq D e = ap (λ (l : List ℕ). startSeq ++ l) (escaped-append 0 D escSeq ∙ rw e (sym (append-assoc (escaped 0 D) escSeq escSeq)))
 
-head-shift : (D : List ℕ) (a : ℕ) → run 0 D ≡ 0 → a ≤ 3 → head (D ++ replicate a 0x1b) ++ escSeq ≡ head D ++ escSeq ++ replicate a 0x1b
+head-shift : (D : List ℕ) (a : ℕ) → runBehind 0 D ≡ 0 → a ≤ 3 → head (D ++ replicate a 0x1b) ++ escSeq ≡ head D ++ escSeq ++ replicate a 0x1b
 head-shift D a e le = rw (head-few D a e le, append-assoc (head D) (replicate a 0x1b) escSeq, swap-escSeq a, ← append-assoc (head D))
 
 framed-is : (D : List ℕ) (w x y z : ℕ) → w ≡ 0x1a → y ≡ crcOf (head D ++ escSeq ++ 0x1a ∷ x ∷ []) % 256
@@ -227,14 +227,14 @@ module _ (h pre D : List ℕ) (m : Mem) (w x y z : ℕ) (here : h ≡ pre ++ (he
   four = w ∷ x ∷ y ∷ z ∷ []
 
   -- with 1b first, the data behind ends no run
-  tidied : w ≡ 0x1b → run 0 D ≡ 0
+  tidied : w ≡ 0x1b → runBehind 0 D ≡ 0
   tidied e = elim opens [ tidy f ↦ f | ending k f ↦ absurd (let g : w ≡ 0x1a = ap (λ (l : List ℕ). getD l 0 0) f in omega arith) ]
 
   is-data : four ≡ escSeq → Known h (body 0 m)
-  unfolding run
+  unfolding runBehind
   is-data e =
       let all : m .stored ≡ D ++ escSeq = rw e at has in
-      let t : run 0 D ≡ 0 = tidied (ap (λ (l : List ℕ). getD l 0 0) e) in
+      let t : runBehind 0 D ≡ 0 = tidied (ap (λ (l : List ℕ). getD l 0 0) e) in
       record {
         pre = pre;
         here = here ∙ rw (e, all, head-escSeq D t, append-nil);
@@ -285,7 +285,7 @@ module _ (h pre D : List ℕ) (m : Mem) (w x y z : ℕ) (here : h ≡ pre ++ (he
   -- the escape opened early: a of the bytes read are data, and the rest is the first part of an end sequence
   shifted : (a : ℕ) (l k : List ℕ) → a ≤ 3 → 1 ≤ a → w ≡ 0x1b → four ≡ replicate a 0x1b ++ l → l ≡ 0x1a ∷ k → length l ≡ 4 - a → Known h (escape (4 - a) m)
   shifted a l k le pos first e f n =
-      let t : run 0 D ≡ 0 = tidied first in
+      let t : runBehind 0 D ≡ 0 = tidied first in
       record {
         pre = pre;
         D = D ++ replicate a 0x1b;
@@ -387,7 +387,7 @@ abbrev grown : Op → Answer → List ℕ → List ℕ
 grown (push b) nothing h = h ++ b ∷ []
 grown (push b) (payload bytes) h = []
 grown (push b) (count k) h = h ++ b ∷ []
-grown (push b) (refused k values) h = h ++ b ∷ []
+grown (push b) (refusal k values) h = h ++ b ∷ []
 grown finalize a h = []
 grown reset a h = []
 
@@ -396,15 +396,15 @@ unfolding bytesFrom
 bytes-cons h (push b) nothing os more = refl
 bytes-cons h (push b) (payload bytes) os more = refl
 bytes-cons h (push b) (count k) os more = refl
-bytes-cons h (push b) (refused k values) os more = refl
+bytes-cons h (push b) (refusal k values) os more = refl
 bytes-cons h finalize a os more = refl
 bytes-cons h reset a os more = refl
 
 -- a payload is behind everything before it
-known-out : (h : List ℕ) (b : ℕ) (s : State) (e : Event) → Known (h ++ b ∷ []) s → ((P : List ℕ) → e ≡ got P → s ≡ done P) → Known (grown (push b) (numbered e) h) s
+known-out : (h : List ℕ) (b : ℕ) (s : State) (e : PushEvent) → Known (h ++ b ∷ []) s → ((P : List ℕ) → e ≡ paysOut P → s ≡ done P) → Known (grown (push b) (numbered e) h) s
 known-out h b s silent k d = k
 known-out h b s (discarded n) k d = k
-known-out h b s (got P) k d = subst (Known []) (sym (d P refl)) tt
+known-out h b s (paysOut P) k d = subst (Known []) (sym (d P refl)) tt
 known-out h b s memory k d = k
 known-out h b s (badEscape w x y z) k d = k
 known-out h b s (badMessage w x y z) k d = k
@@ -434,7 +434,7 @@ bytes-grown : (h : List ℕ) (o : Op) (a : Answer) (os : List Op) → Bytes h �
 bytes-grown h (push b) nothing os t p = (bytes-snoc h b t (p .0), p .1)
 bytes-grown h (push b) (payload bytes) os t p = (tt, p .1)
 bytes-grown h (push b) (count k) os t p = (bytes-snoc h b t (p .0), p .1)
-bytes-grown h (push b) (refused k values) os t p = (bytes-snoc h b t (p .0), p .1)
+bytes-grown h (push b) (refusal k values) os t p = (bytes-snoc h b t (p .0), p .1)
 bytes-grown h finalize a os t p = (tt, p)
 bytes-grown h reset a os t p = (tt, p)
 
@@ -448,31 +448,31 @@ bytes-behind C (o ∷ os) h s b t p =
 
 -- ---- the record
 
-behind-is : (os : List Op) (a : After) (o : Op) → behind ours (a .decoder) (a .memory) os o ≡ gave (act (R.behind a os .decoder) (R.behind a os .memory) o)
-unfolding behind R.behind
+behind-is : (os : List Op) (a : After) (o : Op) → behindOf ours (a .decoder) (a .memory) os o ≡ gave (act (R.behind a os .decoder) (R.behind a os .memory) o)
+unfolding behindOf R.behind
 behind-is [] a o = refl
 behind-is (p ∷ os) a o = behind-is os (act (a .decoder) (a .memory) p) o
 
-got-back : (e : Event) (P : List ℕ) → numbered e ≡ payload P → e ≡ got P
+got-back : (e : PushEvent) (P : List ℕ) → numbered e ≡ payload P → e ≡ paysOut P
 got-back silent P h = cc
 got-back (discarded n) P h = cc
-got-back (got Q) P h = cc
+got-back (paysOut Q) P h = cc
 got-back memory P h = cc
 got-back (badEscape w x y z) P h = cc
 got-back (badMessage w x y z) P h = cc
 
-first-bytes : (s : DecodeState) (d : Decoder) (m P : List ℕ) → viewAs s d m ≡ done P → take (d .fill) m ≡ P
+first-bytes : (s : DecodeState) (d : Decoder) (m P : List ℕ) → stateAs s d m ≡ done P → take (d .fill) m ≡ P
 first-bytes (LookingForMessageStart n noise) d m P e = cc
 first-bytes ParsingNormal d m P e = cc
 first-bytes (ParsingEscChars n) d m P e = cc
 first-bytes (ParsingEscPayload n) d m P e = cc
 first-bytes Done d m P e = cc
 
-payload-back : (d : Decoder) (m P : List ℕ) → Fit d m → view d m ≡ done P → payloadRecord d m ≡ P
+payload-back : (d : Decoder) (m P : List ℕ) → Fit d m → stateOf d m ≡ done P → payloadRecord d m ≡ P
 unfolding payloadRecord hasPayload
 payload-back d m P f e = rw (f .state, f .buffer, ap stands e) (first-bytes (d .state) d m P e)
 
-hands-back : (d : Decoder) (m P : List ℕ) → Fit d m → view d m ≡ done P → ours .payloadOf d m ≡ P
+hands-back : (d : Decoder) (m P : List ℕ) → Fit d m → stateOf d m ≡ done P → ours .payloadOf d m ≡ P
 hands-back d m P f e = payload-back d m P f e
 
 plain-final : (s : State) → Plain (finalized s)
@@ -512,7 +512,7 @@ module _ (C : Setup) (m : List ℕ) (l : length m ≡ C .capacity) (le : C .capa
       → EndsFrame h (push b) P × (ours .payloadOf (act (x .decoder) (x .memory) (push b) .decoder) (act (x .decoder) (x .memory) (push b) .memory) ≡ P)
   unfolding answerState actState
   handed b bytes e =
-      let g : (step C s b) .event ≡ got P = got-back _ P (sym (answer-is (push b)) ∙ e) in
+      let g : (step C s b) .event ≡ paysOut P = got-back _ P (sym (answer-is (push b)) ∙ e) in
       let a = acts (x .decoder) (x .memory) (push b) (there .fit) in
       let t : EndsSound (h ++ b ∷ []) P = kept C h b s (known-behind C os [] fresh known-fresh) .sound (bytes-behind C os [] fresh b tt bytes) P g in (
         record { last = b; pushes = refl; before = t .pre; frame = t .f; ends = t .here; sound = t .sound },

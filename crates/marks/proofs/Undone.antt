@@ -16,8 +16,8 @@ use Rattle.marks.specs.Decided.{One, Injective}
 -- ---- the argument, once
 
 -- a description that names the outcome itself
-pub plain : {R : Type 0} (s : R) → One (λ (r : R). r ≡ s)
-plain s r r′ e e′ = e ∙ sym e′
+pub oneOutcome : {R : Type 0} (s : R) → One (λ (r : R). r ≡ s)
+oneOutcome s r r′ e e′ = e ∙ sym e′
 
 -- a view that loses nothing
 pub injective : {R A : Type 0} (view : R → A) → Injective view → (s : A) → One (λ (r : R). view r ≡ s)
@@ -64,23 +64,23 @@ readFrom told lost (got a next) = told a next
 readFrom told lost (refused f) = lost (faultFrom f)
 
 -- an answer of a reading, and what it is told as: a value, which is told by `to`, and the place behind it; or a fault
-pub data Reads {R T A : Type 0} (is : T → ℕ → R) (lost : Fault → R) (to : T → A) : R → Read A → Type 0 where
-  itIs : (x : T) (next : ℕ) → Reads is lost to (is x next) (got (to x) next)
-  itLost : (f : Fault) → Reads is lost to (lost f) (refused (faultOf f))
+pub data OneReading {R T A : Type 0} (is : T → ℕ → R) (lost : Fault → R) (to : T → A) : R → Read A → Type 0 where
+  itIs : (x : T) (next : ℕ) → OneReading is lost to (is x next) (got (to x) next)
+  itLost : (f : Fault) → OneReading is lost to (lost f) (refused (faultOf f))
 
 read-back : {R T A : Type 0} (is : T → ℕ → R) (lost : Fault → R) (to : T → A) (from : A → T) → ((x : T) → from (to x) ≡ x)
-    → (r : R) (v : Read A) → Reads is lost to r v → readFrom (λ a next. is (from a) next) lost v ≡ r
+    → (r : R) (v : Read A) → OneReading is lost to r v → readFrom (λ a next. is (from a) next) lost v ≡ r
 unfolding readFrom
 read-back {T = T} is lost to from back r v (itIs x next) = ap (λ (y : T). is y next) (back x)
 read-back is lost to from back r v (itLost f) = ap lost (fault-back f)
 
 -- the view of a reading loses nothing where that of its value can be undone
 pub reads : {R T A : Type 0} (view : R → Read A) (is : T → ℕ → R) (lost : Fault → R) (to : T → A) (from : A → T) → ((x : T) → from (to x) ≡ x)
-    → ((r : R) → Reads is lost to r (view r)) → Injective view
+    → ((r : R) → OneReading is lost to r (view r)) → Injective view
 reads view is lost to from back h = undone view (readFrom (λ a next. is (from a) next) lost) (λ r. read-back is lost to from back r (view r) (h r))
 
 -- and where its value is told as it is
-pub reads-plain : {R A : Type 0} (view : R → Read A) (is : A → ℕ → R) (lost : Fault → R) → ((r : R) → Reads is lost (λ (x : A). x) r (view r)) → Injective view
+pub reads-plain : {R A : Type 0} (view : R → Read A) (is : A → ℕ → R) (lost : Fault → R) → ((r : R) → OneReading is lost (λ (x : A). x) r (view r)) → Injective view
 reads-plain view is lost h = reads view is lost (λ x. x) (λ x. x) (λ x. refl) h
 
 -- an optional field

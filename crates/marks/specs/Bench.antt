@@ -11,12 +11,12 @@ use Rattle.tlf.specs.Lengths.{tlfAt}
 use Rattle.tlf.specs.declared.Ty.the-variants.{OctetString}
 use Rattle.tlf.specs.declared.TypeLengthField.{TypeLengthField}
 use Rattle.tlf.specs.declared.Span.{Span}
-use Rattle.num.specs.Numbers.{unsignedAt, signedAt}
+use Rattle.numbers.specs.Numbers.{unsignedAt, signedAt}
 use Rattle.octet_string.specs.Strings.{octetsAt}
 use Rattle.octet_string.specs.Optional.{optional}
-use Rattle.encoder.specs.Encode.{Leaves, leaves, length-is}
+use Rattle.encoder.specs.Encode.{AfterEncode, afterEncode, length-is}
 use Rattle.decoder.specs.Push.{Setup}
-use Rattle.decoder.specs.Record.{Answer, nothing, payload, count, refused}
+use Rattle.decoder.specs.Record.{Answer, nothing, payload, count, refusal}
 use Rattle.decoder.specs.Run.{push, finalize}
 use Rattle.marks.specs.Decoders.{Machine, answers}
 use Rattle.marks.specs.Mark3.{Encode}
@@ -33,30 +33,30 @@ pub data Input : Type 0 where
   asU8 : List ℕ → Input  -- a number of one byte, unsigned
 
 -- the number of an operation, the first being 1, and its answer
-pub record Said : Type 0 where
+pub record SheetSaid : Type 0 where
   pub at : ℕ
   pub answer : Answer
 
 -- what comes of it; the last four are what the definitions of crates tlf, octet_string and num find
 pub data Outcome : Type 0 where
-  encoded : Leaves → Outcome  -- encode's answer, and the output
-  events : List Said → Outcome  -- all answers but `nothing`
+  encoded : AfterEncode → Outcome  -- encode's answer, and the output
+  events : List SheetSaid → Outcome  -- all answers but `nothing`
   field : Read TypeLengthField → Outcome
   string : Read (Option Span) → Outcome
   signed : Read ℤ → Outcome
   unsigned : Read ℕ → Outcome
 
 -- operation n answers a
-abbrev pub said : ℕ → Answer → Said
-said n a = record { at = n; answer = a }
+abbrev pub sheetSaid : ℕ → Answer → SheetSaid
+sheetSaid n a = record { at = n; answer = a }
 
 -- all answers but `nothing`, the first being that of operation n
-unfoldable pub saidFrom : ℕ → List Answer → List Said
+unfoldable pub saidFrom : ℕ → List Answer → List SheetSaid
 saidFrom n [] = []
 saidFrom n (nothing ∷ more) = saidFrom (suc n) more
-saidFrom n (payload bytes ∷ more) = said n (payload bytes) ∷ saidFrom (suc n) more
-saidFrom n (count k ∷ more) = said n (count k) ∷ saidFrom (suc n) more
-saidFrom n (refused k values ∷ more) = said n (refused k values) ∷ saidFrom (suc n) more
+saidFrom n (payload bytes ∷ more) = sheetSaid n (payload bytes) ∷ saidFrom (suc n) more
+saidFrom n (count k ∷ more) = sheetSaid n (count k) ∷ saidFrom (suc n) more
+saidFrom n (refusal k values ∷ more) = sheetSaid n (refusal k values) ∷ saidFrom (suc n) more
 
 -- what comes out of a decoder, an encode and the definitions of the length and number rules
 abbrev pub outcome : {S : Type 0} → Machine S → Encode → Input → Outcome
@@ -117,18 +117,18 @@ refusedAs number kind place = record { number = number; kind = kind; place = pla
 
 -- the rows that the fakes fall at, by name: B3, the payload at byte 20
 abbrev pub b3 : Row
-b3 = row 3 (decode (holding 8) frame1) (events (said 20 (payload payload1) ∷ []))
+b3 = row 3 (decode (holding 8) frame1) (events (sheetSaid 20 (payload payload1) ∷ []))
 
 -- one byte of noise, then the payload
 abbrev pub b6 : Row
-b6 = row 6 (decode (holding 8) (0x00 ∷ frame1)) (events (said 9 (refused 6 (1 ∷ [])) ∷ said 21 (payload payload1) ∷ []))
+b6 = row 6 (decode (holding 8) (0x00 ∷ frame1)) (events (sheetSaid 9 (refusal 6 (1 ∷ [])) ∷ sheetSaid 21 (payload payload1) ∷ []))
 
 -- two payloads encoded into an output of 20 bytes
 abbrev pub b1 : Row
-b1 = row 1 (encode payload1 20) (encoded (leaves (length-is 20) frame1))
+b1 = row 1 (encode payload1 20) (encoded (afterEncode (length-is 20) frame1))
 
 abbrev pub b2 : Row
-b2 = row 2 (encode (0x13 ∷ 0x24 ∷ 0x35 ∷ 0x46 ∷ []) 20) (encoded (leaves (length-is 20) frame2))
+b2 = row 2 (encode (0x13 ∷ 0x24 ∷ 0x35 ∷ 0x46 ∷ []) 20) (encoded (afterEncode (length-is 20) frame2))
 
 -- The sheet, B1 to B14 in order. OutOfMemory is 3, DiscardedBytes is 6, InvalidEsc 7, InvalidMessage 8: read CRC, computed CRC, aligned (0), p
 abbrev pub sheet : List Row
@@ -136,12 +136,12 @@ sheet =
     b1
     ∷ b2
     ∷ b3
-    ∷ row 4 (decode (holding 7) frame1) (events (said 20 (refused 3 []) ∷ []))
-    ∷ row 5 (decode (holding 8) (0x1b ∷ frame1)) (events (said 22 (refused 6 (21 ∷ [])) ∷ []))
+    ∷ row 4 (decode (holding 7) frame1) (events (sheetSaid 20 (refusal 3 []) ∷ []))
+    ∷ row 5 (decode (holding 8) (0x1b ∷ frame1)) (events (sheetSaid 22 (refusal 6 (21 ∷ [])) ∷ []))
     ∷ b6
-    ∷ row 7 (decode (holding 8) twoStarts) (events (said 18 (refused 6 (10 ∷ [])) ∷ said 30 (payload payload1) ∷ []))
-    ∷ row 8 (decode (holding 8) wrongEscape) (events (said 16 (refused 7 (0x02 ∷ 0x00 ∷ 0x00 ∷ 0x00 ∷ [])) ∷ []))
-    ∷ row 9 (decode (holding 8) spoilt1) (events (said 20 (refused 8 (0x7ab8 ∷ 0x7bb8 ∷ 0 ∷ 0 ∷ [])) ∷ []))
+    ∷ row 7 (decode (holding 8) twoStarts) (events (sheetSaid 18 (refusal 6 (10 ∷ [])) ∷ sheetSaid 30 (payload payload1) ∷ []))
+    ∷ row 8 (decode (holding 8) wrongEscape) (events (sheetSaid 16 (refusal 7 (0x02 ∷ 0x00 ∷ 0x00 ∷ 0x00 ∷ [])) ∷ []))
+    ∷ row 9 (decode (holding 8) spoilt1) (events (sheetSaid 20 (refusal 8 (0x7ab8 ∷ 0x7bb8 ∷ 0 ∷ 0 ∷ [])) ∷ []))
     ∷ row 10 (lengthField (0x07 ∷ [])) (stringOf 6 1)
     ∷ row 10 (lengthField (0x83 ∷ 0x02 ∷ [])) (stringOf 48 2)
     ∷ row 10 (optionalString (0x80 ∷ 0x02 ∷ [])) (string (got (some (record { start = 2; len = 0 })) 2))

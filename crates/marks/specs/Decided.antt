@@ -15,17 +15,17 @@ use Rattle.tlf.specs.declared.SpanRead.{SpanRead}
 use Rattle.tlf.specs.declared.TlfRead.{TlfRead}
 use Rattle.tlf.specs.declared.PlaceRead.{PlaceRead}
 use Rattle.tlf.specs.declared.TypeLengthField.{TypeLengthField}
-use Rattle.num.specs.Numbers.{unsignedAt, signedAt, boolAt}
-use Rattle.num.specs.Answers.{u8Read, u16Read, u32Read, u64Read, i8Read, i16Read, i32Read, i64Read, boolRead}
-use Rattle.num.specs.declared.U8Read.{U8Read}
-use Rattle.num.specs.declared.U16Read.{U16Read}
-use Rattle.num.specs.declared.U32Read.{U32Read}
-use Rattle.num.specs.declared.U64Read.{U64Read}
-use Rattle.num.specs.declared.I8Read.{I8Read}
-use Rattle.num.specs.declared.I16Read.{I16Read}
-use Rattle.num.specs.declared.I32Read.{I32Read}
-use Rattle.num.specs.declared.I64Read.{I64Read}
-use Rattle.num.specs.declared.BoolRead.{BoolRead}
+use Rattle.numbers.specs.Numbers.{unsignedAt, signedAt, boolAt}
+use Rattle.numbers.specs.Answers.{u8Read, u16Read, u32Read, u64Read, i8Read, i16Read, i32Read, i64Read, boolRead}
+use Rattle.numbers.specs.declared.U8Read.{U8Read}
+use Rattle.numbers.specs.declared.U16Read.{U16Read}
+use Rattle.numbers.specs.declared.U32Read.{U32Read}
+use Rattle.numbers.specs.declared.U64Read.{U64Read}
+use Rattle.numbers.specs.declared.I8Read.{I8Read}
+use Rattle.numbers.specs.declared.I16Read.{I16Read}
+use Rattle.numbers.specs.declared.I32Read.{I32Read}
+use Rattle.numbers.specs.declared.I64Read.{I64Read}
+use Rattle.numbers.specs.declared.BoolRead.{BoolRead}
 use Rattle.octet_string.specs.Strings.{octetsAt, partOf, spanRefusal}
 use Rattle.octet_string.specs.Optional.{absentAt, optional}
 use Rattle.octet_string.specs.Answers.{spanCheck, optSpanRead}
@@ -40,16 +40,16 @@ use Rattle.encoder.specs.declared.Encoded.{Encoded}
 use Rattle.encoder.specs.declared.Encoder.{Encoder}
 use Rattle.encoder.specs.declared.Given.{Given}
 use Rattle.decoder.specs.Push.{starts}
-use Rattle.decoder.specs.Record.{leaves, leavesFinal, leavesReset, answerAsked, newRecord, pushRecord, finalizeRecord, resetRecord, askRecord, payloadRecord, badState, wrongBuffer}
+use Rattle.decoder.specs.Record.{afterPush, afterFinalize, afterReset, answerAsked, newRecord, pushRecord, finalizeRecord, resetRecord, askRecord, payloadRecord, badDecoder, wrongBuffer}
 use Rattle.decoder.specs.declared.Event.{Event}
 use Rattle.decoder.specs.declared.Decoder.{Decoder}
 use Rattle.decoder.specs.declared.Pushed.{Pushed}
 use Rattle.decoder.specs.declared.Finalized.{Finalized}
-use Rattle.decoder.specs.declared.Resetted.{Resetted}
+use Rattle.decoder.specs.declared.AfterReset.{AfterReset}
 use Rattle.decoder.specs.declared.Asked.{Asked}
-use Rattle.slice.specs.Slice as S
-use Rattle.slice.specs.Slice.{sliceRecord}
-use Rattle.slice.specs.declared.Sliced.{Sliced}
+use Rattle.decoder_slice.specs.Slice as S
+use Rattle.decoder_slice.specs.Slice.{sliceRecord}
+use Rattle.decoder_slice.specs.declared.Sliced.{Sliced}
 use Rattle.slice_in_place.specs.declared.Taken.{Taken}
 use Rattle.bench.specs.Bench.{counted, payloads, encoded, streamed, events}
 use Rattle.value.specs.Values.{timeAt, statusAt, valueAt}
@@ -74,11 +74,11 @@ use Rattle.message.specs.declared.BodyRead.{BodyRead}
 use Rattle.message.specs.declared.StartRead.{StartRead}
 use Rattle.trailer.specs.Trailer.{trailerAt}
 use Rattle.streaming.specs.Next.{nextAt}
-use Rattle.streaming.specs.Answers.{after}
+use Rattle.streaming.specs.Answers.{readerAfter}
 use Rattle.streaming.specs.declared.Answer.{Answer}
 use Rattle.streaming.specs.declared.Next.{Next}
 use Rattle.parser.specs.Reader as P
-use Rattle.parser.specs.Reader.{readerOf, nextOf}
+use Rattle.parser.specs.Reader.{readerOf, calledNext}
 use Rattle.parser.specs.declared.Parser.{Parser}
 
 -- any two outcomes that a description allows are equal
@@ -117,17 +117,17 @@ pub record Views : Type 0 where
   pub check : Injective spanCheck
   pub optional-span : Injective optSpanRead
   pub next : Injective stepOf
-  pub encoded : Injective (λ (r : With Encoded). E.leaves (E.answerOf (r .answer)) (r .memory))
-  pub pushed : Injective (λ (r : With Pushed). leaves (r .answer) (r .memory))
-  pub finalized : Injective leavesFinal
-  pub resetted : Injective leavesReset
+  pub encoded : Injective (λ (r : With Encoded). E.afterEncode (E.encodeAnswer (r .answer)) (r .memory))
+  pub pushed : Injective (λ (r : With Pushed). afterPush (r .answer) (r .memory))
+  pub finalized : Injective afterFinalize
+  pub resetted : Injective afterReset
   pub asked : Injective answerAsked
-  pub pushed-in-place : Injective (λ (r : With (Beside Event Decoder)). leaves (record { decoder = r .answer .lent; event = r .answer .answer }) (r .memory))
-  pub finalized-in-place : Injective (λ (r : Beside Event Decoder). leavesFinal (record { decoder = r .lent; event = r .answer }))
-  pub resetted-in-place : Injective (λ (r : Beside ℕ Decoder). leavesReset (record { decoder = r .lent; count = r .answer }))
+  pub pushed-in-place : Injective (λ (r : With (Beside Event Decoder)). afterPush (record { decoder = r .answer .lent; event = r .answer .answer }) (r .memory))
+  pub finalized-in-place : Injective (λ (r : Beside Event Decoder). afterFinalize (record { decoder = r .lent; event = r .answer }))
+  pub resetted-in-place : Injective (λ (r : Beside ℕ Decoder). afterReset (record { decoder = r .lent; count = r .answer }))
   pub next-in-place : Injective (λ (r : Beside Item Encoder). stepOf (record { answer = r .answer; encoder = r .lent }))
-  pub sliced : Injective (λ (r : With Sliced). S.leaves (r .answer) (r .memory))
-  pub sliced-in-place : Injective (λ (r : With (Beside Taken Decoder)). S.leaves (record { decoder = r .answer .lent; event = r .answer .answer .event; taken = r .answer .answer .taken }) (r .memory))
+  pub sliced : Injective (λ (r : With Sliced). S.afterSlice (r .answer) (r .memory))
+  pub sliced-in-place : Injective (λ (r : With (Beside Taken Decoder)). S.afterSlice (record { decoder = r .answer .lent; event = r .answer .answer .event; taken = r .answer .answer .taken }) (r .memory))
   pub number : Injective (λ (r : With ℕ). counted (r .answer) (r .memory))
   pub time : Injective timeRead
   pub status : Injective statusRead
@@ -143,8 +143,8 @@ pub record Views : Type 0 where
   pub list-end : Injective listEndRead
   pub message-body : Injective bodyRead
   pub message-start : Injective startRead
-  pub event : Injective after
-  pub event-in-place : Injective (λ (r : Beside Answer Parser). P.leaves (r .answer) (r .lent))
+  pub event : Injective readerAfter
+  pub event-in-place : Injective (λ (r : Beside Answer Parser). P.afterNext (r .answer) (r .lent))
 
 -- Every public function, crate by crate: over its parameters, what its `ensures` allows. A slice or record that is lent stands for what it holds at the call, and a part that is handed back for its content
 pub record Decided : Type 0 where
@@ -180,35 +180,35 @@ pub record Decided : Type 0 where
   pub is-absent : (input : List ℕ) (at : ℕ) → One (λ (r : Bool). r ≡ absentAt input at)
   pub parse-opt-octet-str : (input : List ℕ) (at : ℕ) → One (λ (r : OptSpanRead). optSpanRead r ≡ optional octetsAt input at)
   -- encoder
-  pub encoder-new : One (λ (r : Encoder). r ≡ N.fresh)
+  pub encoder-new : One (λ (r : Encoder). r ≡ N.freshEncoder)
   pub encoder-next : (self : Encoder) (payload : List ℕ) → One (λ (r : Given). stepOf r ≡ nextStep self payload)
-  pub encode : (payload out : List ℕ) → One (λ (r : With Encoded). E.leaves (E.answerOf (r .answer)) (r .memory) ≡ encodeTo payload out)
+  pub encode : (payload out : List ℕ) → One (λ (r : With Encoded). E.afterEncode (E.encodeAnswer (r .answer)) (r .memory) ≡ encodeTo payload out)
   -- decoder
   pub decoder-new : (capacity : ℕ) → One (λ (r : Decoder). r ≡ newRecord capacity)
   pub matching : (n b : ℕ) → One (λ (r : Bool). r ≡ starts n b)
-  pub bad-state : (d : Decoder) → One (λ (r : Bool). r ≡ badState d)
+  pub bad-decoder : (d : Decoder) → One (λ (r : Bool). r ≡ badDecoder d)
   pub wrong-buffer : (recorded lent : ℕ) → One (λ (r : Bool). r ≡ wrongBuffer recorded lent)
-  pub push-byte : (self : Decoder) (buf : List ℕ) (b : ℕ) → One (λ (r : With Pushed). leaves (r .answer) (r .memory) ≡ pushRecord self buf b)
-  pub push-any : (d : Decoder) (buf : List ℕ) (b : ℕ) → One (λ (r : With Pushed). leaves (r .answer) (r .memory) ≡ pushRecord d buf b)
-  pub decoder-finalize : (self : Decoder) → One (λ (r : Finalized). leavesFinal r ≡ finalizeRecord self)
-  pub reset : (self : Decoder) → One (λ (r : Resetted). leavesReset r ≡ resetRecord self)
+  pub push-byte : (self : Decoder) (buf : List ℕ) (b : ℕ) → One (λ (r : With Pushed). afterPush (r .answer) (r .memory) ≡ pushRecord self buf b)
+  pub push-any : (d : Decoder) (buf : List ℕ) (b : ℕ) → One (λ (r : With Pushed). afterPush (r .answer) (r .memory) ≡ pushRecord d buf b)
+  pub decoder-finalize : (self : Decoder) → One (λ (r : Finalized). afterFinalize r ≡ finalizeRecord self)
+  pub reset : (self : Decoder) → One (λ (r : AfterReset). afterReset r ≡ resetRecord self)
   pub ask-payload : (self : Decoder) (buf : List ℕ) → One (λ (r : Asked). answerAsked r ≡ askRecord self buf)
   -- of the part that payload hands back, its bytes, not where they stand
   pub payload : (self : Decoder) (buf : List ℕ) → One (λ (r : List ℕ). r ≡ payloadRecord self buf)
   -- transport: d and e are the records at the call
-  pub transport-push : (d : Decoder) (buf : List ℕ) (b : ℕ) → One (λ (r : With (Beside Event Decoder)). leaves (record { decoder = r .answer .lent; event = r .answer .answer }) (r .memory) ≡ pushRecord d buf b)
-  pub transport-finalize : (d : Decoder) → One (λ (r : Beside Event Decoder). leavesFinal (record { decoder = r .lent; event = r .answer }) ≡ finalizeRecord d)
-  pub transport-reset : (d : Decoder) → One (λ (r : Beside ℕ Decoder). leavesReset (record { decoder = r .lent; count = r .answer }) ≡ resetRecord d)
-  pub push-lent : (d : Decoder) (buf : List ℕ) (b : ℕ) → One (λ (r : With Pushed). leaves (r .answer) (r .memory) ≡ pushRecord d buf b)
-  pub finalize-lent : (d : Decoder) → One (λ (r : Finalized). leavesFinal r ≡ finalizeRecord d)
-  pub reset-lent : (d : Decoder) → One (λ (r : Resetted). leavesReset r ≡ resetRecord d)
+  pub transport-push : (d : Decoder) (buf : List ℕ) (b : ℕ) → One (λ (r : With (Beside Event Decoder)). afterPush (record { decoder = r .answer .lent; event = r .answer .answer }) (r .memory) ≡ pushRecord d buf b)
+  pub transport-finalize : (d : Decoder) → One (λ (r : Beside Event Decoder). afterFinalize (record { decoder = r .lent; event = r .answer }) ≡ finalizeRecord d)
+  pub transport-reset : (d : Decoder) → One (λ (r : Beside ℕ Decoder). afterReset (record { decoder = r .lent; count = r .answer }) ≡ resetRecord d)
+  pub push-lent : (d : Decoder) (buf : List ℕ) (b : ℕ) → One (λ (r : With Pushed). afterPush (r .answer) (r .memory) ≡ pushRecord d buf b)
+  pub finalize-lent : (d : Decoder) → One (λ (r : Finalized). afterFinalize r ≡ finalizeRecord d)
+  pub reset-lent : (d : Decoder) → One (λ (r : AfterReset). afterReset r ≡ resetRecord d)
   pub transport-next : (e : Encoder) (payload : List ℕ) → One (λ (r : Beside Item Encoder). stepOf (record { answer = r .answer; encoder = r .lent }) ≡ nextStep e payload)
   pub next-lent : (e : Encoder) (payload : List ℕ) → One (λ (r : Given). stepOf r ≡ nextStep e payload)
   -- slice
-  pub push-slice : (d : Decoder) (buf chunk : List ℕ) → One (λ (r : With Sliced). S.leaves (r .answer) (r .memory) ≡ sliceRecord d buf chunk)
+  pub push-slice : (d : Decoder) (buf chunk : List ℕ) → One (λ (r : With Sliced). S.afterSlice (r .answer) (r .memory) ≡ sliceRecord d buf chunk)
   -- slice_in_place: d is the record at the call
-  pub slice-in-place-push-slice : (d : Decoder) (buf chunk : List ℕ) → One (λ (r : With (Beside Taken Decoder)). S.leaves (record { decoder = r .answer .lent; event = r .answer .answer .event; taken = r .answer .answer .taken }) (r .memory) ≡ sliceRecord d buf chunk)
-  pub push-slice-lent : (d : Decoder) (buf chunk : List ℕ) → One (λ (r : With Sliced). S.leaves (r .answer) (r .memory) ≡ sliceRecord d buf chunk)
+  pub slice-in-place-push-slice : (d : Decoder) (buf chunk : List ℕ) → One (λ (r : With (Beside Taken Decoder)). S.afterSlice (record { decoder = r .answer .lent; event = r .answer .answer .event; taken = r .answer .answer .taken }) (r .memory) ≡ sliceRecord d buf chunk)
+  pub push-slice-lent : (d : Decoder) (buf chunk : List ℕ) → One (λ (r : With Sliced). S.afterSlice (r .answer) (r .memory) ≡ sliceRecord d buf chunk)
   -- bench
   pub bench-push : (src buf : List ℕ) → One (λ (r : With ℕ). counted (r .answer) (r .memory) ≡ payloads src buf)
   pub bench-push-slice : (src buf : List ℕ) → One (λ (r : With ℕ). counted (r .answer) (r .memory) ≡ payloads src buf)
@@ -237,8 +237,8 @@ pub record Decided : Type 0 where
   -- trailer
   pub parse-trailer : (input : List ℕ) (start at : ℕ) → One (λ (r : PlaceRead). placeRead r ≡ trailerAt input start at)
   -- streaming
-  pub parse-next : (input : List ℕ) (at start pending : ℕ) → One (λ (r : Next). after r ≡ nextAt input at start pending)
+  pub parse-next : (input : List ℕ) (at start pending : ℕ) → One (λ (r : Next). readerAfter r ≡ nextAt input at start pending)
   -- parser: the input is held as it was lent, a reference; self is the reader at the call
   pub parser-new : (input : RefT (List ℕ)) → One (λ (r : Parser). r ≡ readerOf input)
-  pub parser-next : (self : Parser) → One (λ (r : Beside Answer Parser). P.leaves (r .answer) (r .lent) ≡ nextOf self)
-  pub next-from : (input : List ℕ) (at start pending : ℕ) → One (λ (r : Next). after r ≡ nextAt input at start pending)
+  pub parser-next : (self : Parser) → One (λ (r : Beside Answer Parser). P.afterNext (r .answer) (r .lent) ≡ calledNext self)
+  pub next-from : (input : List ℕ) (at start pending : ℕ) → One (λ (r : Next). readerAfter r ≡ nextAt input at start pending)

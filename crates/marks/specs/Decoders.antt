@@ -3,7 +3,7 @@ use mathlib.Core.List.{List, [], _∷_, _++_}
 use Prim.Native.Nat.{ℕ, suc, _-_}
 use lib.ListN.{length, replicate}
 use Rattle.decoder.specs.Push.{Setup}
-use Rattle.decoder.specs.Record.{Answer, nothing, payload, count, refused, After, newRecord, payloadRecord}
+use Rattle.decoder.specs.Record.{Answer, nothing, payload, count, refusal, After, newRecord, payloadRecord}
 use Rattle.decoder.specs.Run as R
 use Rattle.decoder.specs.Run.{Op, push, finalize, reset}
 use Rattle.decoder.specs.declared.Decoder.{Decoder}
@@ -39,11 +39,11 @@ answers M d m (o ∷ os) =
     a .answer ∷ answers M (a .decoder) (a .memory) os
 
 -- what the operation o gives behind the operations os
-unfoldable pub behind : {S : Type 0} → Machine S → S → List ℕ → List Op → Op → Gave S
-behind M d m [] o = M .act d m o
-behind M d m (p ∷ os) o =
+unfoldable pub behindOf : {S : Type 0} → Machine S → S → List ℕ → List Op → Op → Gave S
+behindOf M d m [] o = M .act d m o
+behindOf M d m (p ∷ os) o =
     let a = M .act d m p in
-    behind M (a .decoder) (a .memory) os o
+    behindOf M (a .decoder) (a .memory) os o
 
 -- ---- what was pushed, told by the operations and their answers alone
 
@@ -54,7 +54,7 @@ countFrom n (o ∷ os) [] = n
 countFrom n (push b ∷ os) (nothing ∷ more) = countFrom (suc n) os more
 countFrom n (push b ∷ os) (payload bytes ∷ more) = countFrom 0 os more
 countFrom n (push b ∷ os) (count k ∷ more) = countFrom 0 os more
-countFrom n (push b ∷ os) (refused k values ∷ more) = countFrom 0 os more
+countFrom n (push b ∷ os) (refusal k values ∷ more) = countFrom 0 os more
 countFrom n (finalize ∷ os) (a ∷ more) = countFrom 0 os more
 countFrom n (reset ∷ os) (a ∷ more) = countFrom 0 os more
 
@@ -69,7 +69,7 @@ bytesFrom h (o ∷ os) [] = h
 bytesFrom h (push b ∷ os) (nothing ∷ more) = bytesFrom (h ++ b ∷ []) os more
 bytesFrom h (push b ∷ os) (payload bytes ∷ more) = bytesFrom [] os more
 bytesFrom h (push b ∷ os) (count k ∷ more) = bytesFrom (h ++ b ∷ []) os more
-bytesFrom h (push b ∷ os) (refused k values ∷ more) = bytesFrom (h ++ b ∷ []) os more
+bytesFrom h (push b ∷ os) (refusal k values ∷ more) = bytesFrom (h ++ b ∷ []) os more
 bytesFrom h (finalize ∷ os) (a ∷ more) = bytesFrom [] os more
 bytesFrom h (reset ∷ os) (a ∷ more) = bytesFrom [] os more
 

@@ -7,8 +7,8 @@ use Rattle.tlf.specs.Read.{Refusal}
 use Rattle.tlf.specs.declared.Span.{Span}
 use Rattle.common.specs.Fields.{ListEntry}
 use Rattle.message.specs.Messages.{MessageStart, ListStart, ListEnd, listed}
-use Rattle.streaming.specs.Next.{starts, entry, ends, Said, event, failed, After, nextAt}
-use Rattle.parser.specs.Reader.{readerOf, nextOf}
+use Rattle.streaming.specs.Next.{starts, entry, ends, Said, event, failed, ReaderAfter, nextAt}
+use Rattle.parser.specs.Reader.{readerOf, calledNext}
 use Rattle.parser.specs.declared.Parser.{Parser}
 use Rattle.events.specs.Events.{answer, eventsOf}
 
@@ -32,7 +32,7 @@ pub record Numbers : Type 0 where
   pub pending : ℕ
 
 -- what the definition of a call leaves of them, as such a call
-abbrev pub told : After → Told Numbers
+abbrev pub told : ReaderAfter → Told Numbers
 told a = record { said = a .said; reader = record { place = a .place; start = a .start; pending = a .pending } }
 
 -- by the definition that the contracts of parse_next and next_from cite: the first call has 0, 0, 0, each later one the numbers that the one before gave
@@ -46,7 +46,7 @@ ourReader =
 
 -- by the definitions that the contracts of Parser::new and Parser::next cite: the reader holds its input, a reference whose content is `now` of it, and a call gets nothing else
 abbrev pub ourParser : Reader (RefT (List ℕ)) Parser
-ourParser = record { bytes = now; new = readerOf; next = λ i p. record { said = nextOf p .said; reader = nextOf p .reader } }
+ourParser = record { bytes = now; new = readerOf; next = λ i p. record { said = calledNext p .said; reader = calledNext p .reader } }
 
 -- ---- in use
 

@@ -2,10 +2,10 @@
 use mathlib.Core.Bool.{Bool, true, false, cond}
 use mathlib.Core.List.{List, [], _∷_}
 use Prim.Native.Nat.{ℕ, suc}
-use Rattle.encoder.specs.Encode.{encodeTo, length-is, leaves}
+use Rattle.encoder.specs.Encode.{encodeTo, length-is, afterEncode}
 use Rattle.encoder.specs.Encode as E
 use Rattle.encoder.specs.Encoder.{finished}
-use Rattle.decoder.specs.Record.{Answer, nothing, payload, count, refused, payloadRecord}
+use Rattle.decoder.specs.Record.{Answer, nothing, payload, count, refusal, payloadRecord}
 use Rattle.decoder.specs.Run.{Op, push, finalize, reset}
 use Rattle.decoder.specs.declared.Decoder.{Decoder}
 use Rattle.streaming.specs.Next.{Said, event, starts, entry, ends, noEvent, failed}
@@ -27,14 +27,14 @@ retold f =
 
 -- refuses everything, as if every record were a bad one (4)
 abbrev pub refuses : Machine Decoder
-refuses = record { new = ours .new; act = λ d m o. record { answer = refused 4 []; decoder = d; memory = m }; payloadOf = λ d m. [] }
+refuses = record { new = ours .new; act = λ d m o. record { answer = refusal 4 []; decoder = d; memory = m }; payloadOf = λ d m. [] }
 
 -- what it answers: at each payload the one byte 2a
 abbrev pub constantly : Answer → Answer
 constantly nothing = nothing
 constantly (payload bytes) = payload (0x2a ∷ [])
 constantly (count k) = count k
-constantly (refused k values) = refused k values
+constantly (refusal k values) = refusal k values
 
 -- one constant payload
 abbrev pub constant : Machine Decoder
@@ -55,9 +55,9 @@ abbrev pub inventing : Answer → Answer
 inventing nothing = nothing
 inventing (payload bytes) = payload bytes
 inventing (count k) = count k
-inventing (refused k []) = refused k []
-inventing (refused k (n ∷ [])) = refused k (suc n ∷ [])
-inventing (refused k (n ∷ more ∷ values)) = refused k (n ∷ more ∷ values)
+inventing (refusal k []) = refusal k []
+inventing (refusal k (n ∷ [])) = refusal k (suc n ∷ [])
+inventing (refusal k (n ∷ more ∷ values)) = refusal k (n ∷ more ∷ values)
 
 -- an invented discard count
 abbrev pub invents : Machine Decoder
@@ -73,14 +73,14 @@ abbrev pub emptied : Bool → Answer → Answer
 emptied b nothing = nothing
 emptied b (payload bytes) = cond b (payload []) (payload bytes)
 emptied b (count k) = count k
-emptied b (refused k values) = refused k values
+emptied b (refusal k values) = refusal k values
 
 -- whether it gave a payload, with this answer
 abbrev pub spends : Bool → Answer → Bool
 spends b nothing = b
 spends b (payload bytes) = true
 spends b (count k) = b
-spends b (refused k values) = b
+spends b (refusal k values) = b
 
 -- right for the first frame, and empty afterwards
 abbrev pub once : Machine Spent
@@ -95,11 +95,11 @@ once =
 
 -- an encode that does nothing and says that it wrote nothing
 abbrev pub writesNothing : Encode
-writesNothing P output = leaves (length-is 0) output
+writesNothing P output = afterEncode (length-is 0) output
 
 -- an encode that refuses every payload, as if it were too long (1)
 abbrev pub refusesToEncode : Encode
-refusesToEncode P output = leaves (E.refused 1) output
+refusesToEncode P output = afterEncode (E.noFrame 1) output
 
 -- an Encoder that does nothing: finished at once; what it keeps never matters
 abbrev pub finishedAtOnce : Caller Bool
@@ -115,8 +115,8 @@ resaid f =
     }
 
 -- a reader without events
-abbrev pub silent : Reader (List ℕ) Numbers
-silent = resaid (λ x. noEvent)
+abbrev pub withoutEvents : Reader (List ℕ) Numbers
+withoutEvents = resaid (λ x. noEvent)
 
 -- what it says: no event for each entry
 abbrev pub entryless : Said → Said
@@ -146,6 +146,6 @@ pub record Fall : Type 0 where
   pub once-mark3 : Mark3 once encodeTo → ⊥
   pub invents-b6 : Holds invents encodeTo b6 → ⊥
   pub invents-mark3 : Mark3 invents encodeTo → ⊥
-  pub silent-events : ReaderGives silent → ⊥
+  pub silent-events : ReaderGives withoutEvents → ⊥
   pub no-entries-events : ReaderGives noEntries → ⊥
   pub no-entries-lists : ListsEntries noEntries → ⊥

@@ -7,12 +7,12 @@ use lib.ListN.{length, replicate}
 use lib.Dec.{eqb}
 use Rattle.frame.specs.Frame.{Sound}
 use Rattle.decoder.specs.Push.{Setup}
-use Rattle.decoder.specs.Record.{Answer, nothing, payload, refused, setup, badState, wrongBuffer}
+use Rattle.decoder.specs.Record.{Answer, nothing, payload, refusal, setup, badDecoder, wrongBuffer}
 use Rattle.decoder.specs.Run.{Op, push, finalize, reset}
 use Rattle.decoder.specs.declared.DecodeState.{DecodeState}
 use Rattle.decoder.specs.declared.DecodeState.the-variants.{LookingForMessageStart, Done}
 use Rattle.decoder.specs.declared.Decoder.{Decoder}
-use Rattle.marks.specs.Decoders.{Machine, Gave, answers, behind, bytesSince, frameSays}
+use Rattle.marks.specs.Decoders.{Machine, Gave, answers, behindOf, bytesSince, frameSays}
 
 -- ---- soundness
 
@@ -38,7 +38,7 @@ abbrev pub Soundness : {S : Type 0} → Machine S → Type 0
 Soundness {S} M =
     (C : Setup) (m : List ℕ) → length m ≡ C .capacity → C .capacity ≤ 1048576
     → (os : List Op) (o : Op) (P : List ℕ) → PushesBytes (os ++ o ∷ [])
-    → let a : Gave S = behind M (M .new C) m os o in
+    → let a : Gave S = behindOf M (M .new C) m os o in
     a .answer ≡ payload P
     → EndsFrame (bytesSince os (answers M (M .new C) m os)) o P × (M .payloadOf (a .decoder) (a .memory) ≡ P)
 
@@ -46,13 +46,13 @@ Soundness {S} M =
 
 -- the eighth byte of a frame answers DiscardedBytes(noise) if noise is over 0, else no event
 abbrev pub eighth : ℕ → Answer
-eighth noise = cond (eqb noise 0) nothing (refused 6 (noise ∷ []))
+eighth noise = cond (eqb noise 0) nothing (refusal 6 (noise ∷ []))
 
 -- the first event behind the eighth byte is 3
 pub record NoRoom (noise : ℕ) (heard : List Answer) : Type 0 where
   pub quiet : ℕ
   pub rest : List Answer
-  pub is : heard ≡ replicate 7 nothing ++ eighth noise ∷ (replicate quiet nothing ++ refused 3 [] ∷ rest)
+  pub is : heard ≡ replicate 7 nothing ++ eighth noise ∷ (replicate quiet nothing ++ refusal 3 [] ∷ rest)
 
 -- From any search with nothing matched (`Searching C d m noise`: the decoder d, with the memory m, is one, with this noise), every sound frame, pads of any value. Its data D fits where D's length plus 4 is at most the capacity: then the
 -- eighth byte answers for the noise, the last with the payload, and every other nothing. Where it doesn't fit, the first event behind the eighth byte is 3
@@ -72,6 +72,6 @@ pub data Unmatched (s : DecodeState) (noise : ℕ) : Type 0 where
 -- ours: a record with nothing matched, whatever else it holds, that with this memory is refused neither with 4 nor with 5
 pub record OurSearch (C : Setup) (d : Decoder) (m : List ℕ) (noise : ℕ) : Type 0 where
   pub searches : Unmatched (d .state) noise
-  pub good : badState d ≡ false
+  pub good : badDecoder d ≡ false
   pub lent : wrongBuffer (d .capacity) (length m) ≡ false
   pub setup′ : setup d ≡ C

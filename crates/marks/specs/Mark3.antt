@@ -4,16 +4,16 @@ use mathlib.Core.List.{List, [], _∷_, _++_, map}
 use Prim.Native.Nat.{ℕ, _+_, _≤_}
 use lib.ListN.{length, take, replicate}
 use Rattle.frame.specs.Frame.{frameOf, missing}
-use Rattle.encoder.specs.Encode.{Leaves, length-is}
+use Rattle.encoder.specs.Encode.{AfterEncode, length-is}
 use Rattle.encoder.specs.Encode as E
 use Rattle.decoder.specs.Push.{Setup, stopped}
-use Rattle.decoder.specs.Record.{Answer, nothing, refused}
+use Rattle.decoder.specs.Record.{Answer, nothing, refusal}
 use Rattle.decoder.specs.Run.{Op, push}
 use Rattle.marks.specs.Decoders.{Machine, answers, countSince, frameSays}
 
 -- an encode: of a payload and the output that is lent, its answer and what it leaves in the output
 abbrev pub Encode : Type 0
-Encode = List ℕ → List ℕ → Leaves
+Encode = List ℕ → List ℕ → AfterEncode
 
 -- ours, by the definition that the contract of encode cites
 abbrev pub ourEncode : Encode
@@ -36,9 +36,9 @@ AllSuit C [] = Unit {0}
 AllSuit C (j ∷ js) = Suits C j × AllSuit C js
 
 -- the bytes that encode wrote: as many of the output as it answered
-abbrev pub part : E.Answer → List ℕ → List ℕ
+abbrev pub part : E.EncodeAnswer → List ℕ → List ℕ
 part (length-is n) output = take n output
-part (E.refused k) output = []
+part (E.noFrame k) output = []
 
 -- those that it wrote for a job
 abbrev pub wroteFor : Encode → Job → List ℕ
@@ -65,4 +65,4 @@ Mark3 M encode =
     → let os : List Op = before ++ replicate (C .capacity + 5) (push 0x00) in
     let heard : List Answer = answers M (M .new C) m os in
     answers M (M .new C) m (os ++ map push (framesFor encode (j ∷ js)))
-    ≡ heard ++ (frameSays (refused 6 (stopped (countSince os heard) ∷ [])) (wroteFor encode j) (j .payload) ++ restSays encode js)
+    ≡ heard ++ (frameSays (refusal 6 (stopped (countSince os heard) ∷ [])) (wroteFor encode j) (j .payload) ++ restSays encode js)

@@ -7,7 +7,7 @@ use Rattle.decoder.specs.Push.{Setup}
 use Rattle.decoder.specs.Run.{Op}
 use Rattle.decoder.specs.declared.Decoder.{Decoder}
 use Rattle.marks.specs.Decided.{Views, Decided}
-use Rattle.marks.specs.Decoders.{Gave, ours, behind}
+use Rattle.marks.specs.Decoders.{Gave, ours, behindOf}
 use Rattle.marks.specs.Mark2.{Soundness, Completeness, Unmatched, OurSearch}
 use Rattle.marks.specs.Mark3.{ourEncode, Mark3}
 use Rattle.marks.specs.Encoders.{ourEncoder, SameBytes}
@@ -24,7 +24,7 @@ pub record Marks : Type 0 where
   pub completeness : Completeness ours OurSearch
   pub new-searches : (C : Setup) (m : List ℕ) → length m ≡ C .capacity → C .capacity ≤ 1048576 → OurSearch C (ours .new C) m 0
   pub reached-searches : (C : Setup) (m : List ℕ) → length m ≡ C .capacity → C .capacity ≤ 1048576 → (os : List Op) (o : Op) (noise : ℕ)
-      → let a : Gave Decoder = behind ours (ours .new C) m os o in
+      → let a : Gave Decoder = behindOf ours (ours .new C) m os o in
       Unmatched (a .decoder .state) noise → OurSearch C (a .decoder) (a .memory) noise
   -- encode and the Encoder give the same bytes
   pub same-bytes : SameBytes ourEncoder ourEncode

@@ -9,7 +9,7 @@ use Rattle.tlf.specs.declared.Ty.the-variants.{ListOf}
 use Rattle.tlf.specs.declared.TypeLengthField.{TypeLengthField}
 use Rattle.tlf.specs.declared.Span.{Span}
 use Rattle.tlf.proofs.Rest.{Rest, Gets, Reads, Is, Made, gets-is, gets-then, gets-guard, gets-got, gets-made}
-use Rattle.num.specs.Numbers.{unsignedAt}
+use Rattle.numbers.specs.Numbers.{unsignedAt}
 use Rattle.octet_string.specs.Strings.{octetsAt}
 use Rattle.octet_string.specs.Optional.{optional}
 use Rattle.value.specs.Values.{timeAt}

@@ -12,7 +12,7 @@ use Rattle.tlf.specs.declared.Span.{Span}
 use Rattle.tlf.proofs.Read.{Ok, ok-guard, ok-cond}
 use Rattle.tlf.proofs.Lengths.{tlf-ok, tlf-small, list-of-ok}
 use Rattle.tlf.proofs.Found.{Found, Any, any, from, on, found, found-on}
-use Rattle.num.proofs.Ahead.{unsigned-found}
+use Rattle.numbers.proofs.Ahead.{unsigned-found}
 use Rattle.octet_string.proofs.Within.{Within, Has, octets-found}
 use Rattle.common.proofs.Fields.{OpenWithin, CloseWithin, opt-octets, opt-time, open-found, close-found}
 use Rattle.message.specs.Messages.{ListStart, ListEnd, Body, opened, closed, listed, MessageStart, listStartAt, listEndAt, contentAt, bodyAt, startAt}

@@ -8,7 +8,7 @@ use Rattle.tlf.specs.Read.{Read, got, refused, then, guard, mismatch, unexpecte
 use Rattle.tlf.specs.Lengths.{tlfAt, isList, listOfAt}
 use Rattle.tlf.specs.declared.TypeLengthField.{TypeLengthField}
 use Rattle.tlf.specs.declared.Span.{Span}
-use Rattle.num.specs.Numbers.{unsignedAt}
+use Rattle.numbers.specs.Numbers.{unsignedAt}
 use Rattle.octet_string.specs.Strings.{octetsAt}
 use Rattle.octet_string.specs.Optional.{optional}
 use Rattle.value.specs.Values.{timeAt}

@@ -9,8 +9,8 @@ use common::CloseRead;
 use common::CloseResponse;
 use common::OpenRead;
 use common::OpenResponse;
-use num::U8Read;
-use num::U32Read;
+use numbers::U8Read;
+use numbers::U32Read;
 use octet_string::OptSpan;
 use octet_string::OptSpanRead;
 use tlf::Fault;
@@ -209,7 +209,7 @@ pub fn parse_message_body(input: &[u8], at: usize) -> BodyRead
         PlaceRead::Is { next } => n = next,
         PlaceRead::Refused(f) => return BodyRead::Refused(f),
     }
-    match num::parse_u32(input, n) {
+    match numbers::parse_u32(input, n) {
         U32Read::Is { value: tag, next } => parse_content(input, n, tag, next),
         U32Read::Refused(f) => BodyRead::Refused(f),
     }
@@ -242,14 +242,14 @@ pub fn parse_message_start(input: &[u8], at: usize) -> StartRead
         }
         SpanRead::Refused(f) => return StartRead::Refused(f),
     };
-    let group_no = match num::parse_u8(input, n) {
+    let group_no = match numbers::parse_u8(input, n) {
         U8Read::Is { value, next } => {
             n = next;
             value
         }
         U8Read::Refused(f) => return StartRead::Refused(f),
     };
-    let abort_on_error = match num::parse_u8(input, n) {
+    let abort_on_error = match numbers::parse_u8(input, n) {
         U8Read::Is { value, next } => {
             n = next;
             value

@@ -4,27 +4,27 @@ use mathlib.Core.Bool.{Bool, true, false, cond}
 use lib.Dec.{ltb}
 use lib.ListN.{length}
 use denote.Ref.{now}
-use Rattle.streaming.specs.Next.{After, failed, inputTooLong, badState, isSound, stepAt, nextAt}
-use Rattle.parser.specs.Reader.{onwardBy, nextOf}
+use Rattle.streaming.specs.Next.{ReaderAfter, failed, inputTooLong, badReader, isSound, stepAt, nextAt}
+use Rattle.parser.specs.Reader.{onwardBy, calledNext}
 use Rattle.parser.specs.declared.Parser.{Parser}
 
 module _ (p : Parser) where
-  abbrev long : After
-  long = record { said = failed inputTooLong; place = p .place; start = p .«message_start»; pending = p .pending }
+  abbrev long : ReaderAfter
+  long = record { said = failed inputTooLong; place = p .place; start = p .start; pending = p .pending }
 
-  abbrev bad : After
-  bad = record { said = failed badState; place = p .place; start = p .«message_start»; pending = p .pending }
+  abbrev bad : ReaderAfter
+  bad = record { said = failed badReader; place = p .place; start = p .start; pending = p .pending }
 
-  abbrev step : After
-  step = stepAt (now (p .input)) (p .place) (p .«message_start») (p .pending)
+  abbrev step : ReaderAfter
+  step = stepAt (now (p .input)) (p .place) (p .start) (p .pending)
 
   abbrev sound : Bool
-  sound = isSound (length (now (p .input))) (p .place) (p .«message_start») (p .pending)
+  sound = isSound (length (now (p .input))) (p .place) (p .start) (p .pending)
 
-  pub next-too-long : ltb 1048576 (length (now (p .input))) ≡ true → nextOf p ≡ record { said = failed inputTooLong; reader = p }
+  pub next-too-long : ltb 1048576 (length (now (p .input))) ≡ true → calledNext p ≡ record { said = failed inputTooLong; reader = p }
   unfolding nextAt
   next-too-long e = ap (λ b. onwardBy p (cond b long (cond sound step bad))) e
 
-  pub next-bad-state : ltb 1048576 (length (now (p .input))) ≡ false → isSound (length (now (p .input))) (p .place) (p .«message_start») (p .pending) ≡ false → nextOf p ≡ record { said = failed badState; reader = p }
+  pub next-bad-state : ltb 1048576 (length (now (p .input))) ≡ false → isSound (length (now (p .input))) (p .place) (p .start) (p .pending) ≡ false → calledNext p ≡ record { said = failed badReader; reader = p }
   unfolding nextAt
   next-bad-state e f = λ i. onwardBy p (cond (e i) long (cond (f i) step bad))

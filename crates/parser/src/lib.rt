@@ -3,14 +3,14 @@ use streaming::Answer;
 use streaming::Next;
 ghost use mathlib.Core.Path.{_≡_};
 ghost use Rattle.streaming.specs.Next.{nextAt};
-ghost use Rattle.streaming.specs.Answers.{after};
-ghost use Rattle.parser.specs.Reader.{readerOf, leaves, nextOf};
+ghost use Rattle.streaming.specs.Answers.{readerAfter};
+ghost use Rattle.parser.specs.Reader.{readerOf, afterNext, calledNext};
 
 // The input, the place in it, where the message there began, and how much of it is pending.
 pub struct Parser<'i> {
     pub input: &'i [u8],
     pub place: usize,
-    pub message_start: usize,
+    pub start: usize,
     pub pending: u64,
 }
 
@@ -21,18 +21,18 @@ impl<'i> Parser<'i> {
         Parser {
             input,
             place: 0,
-            message_start: 0,
+            start: 0,
             pending: 0,
         }
     }
 
     // The next event; the reader goes on behind it.
     pub fn next(&mut self) -> Answer
-        ensures { λ r. ⌜ leaves r (now (self .exit)) ≡ nextOf (now (self .entry)) ⌝ }
+        ensures { λ r. ⌜ afterNext r (now (self .exit)) ≡ calledNext (now (self .entry)) ⌝ }
     {
-        let n = streaming::parse_next(self.input, self.place, self.message_start, self.pending);
+        let n = streaming::parse_next(self.input, self.place, self.start, self.pending);
         self.place = n.place;
-        self.message_start = n.start;
+        self.start = n.start;
         self.pending = n.pending;
         n.answer
     }
@@ -40,19 +40,19 @@ impl<'i> Parser<'i> {
 
 // The same with plain parameters, for a program: a reader at that place is made in a local, which is lent to `next`.
 pub fn next_from(input: &[u8], at: usize, start: usize, pending: u64) -> Next
-    ensures { λ r. ⌜ after r ≡ nextAt (now (input .entry)) at start pending ⌝ }
+    ensures { λ r. ⌜ readerAfter r ≡ nextAt (now (input .entry)) at start pending ⌝ }
 {
     let mut p = Parser {
         input,
         place: at,
-        message_start: start,
+        start: start,
         pending,
     };
     let answer = p.next();
     Next {
         answer,
         place: p.place,
-        start: p.message_start,
+        start: p.start,
         pending: p.pending,
     }
 }

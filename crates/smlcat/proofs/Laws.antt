@@ -6,19 +6,19 @@ use Prim.Native.Nat.{ℕ, _+_, _-_, _<_, _≤_}
 use native.Mathlib.Omega.{arith}
 use lib.ListN.{length, take, drop, drop-of-length-le, length-drop}
 use lib.Seq.{take-length, drop-drop}
-use Rattle.decoder.specs.Record.{Answer, After, after, refused, badState, pushRecord}
+use Rattle.decoder.specs.Record.{Answer, After, after, refusal, badDecoder, pushRecord}
 use Rattle.decoder.specs.declared.Decoder.{Decoder}
-use Rattle.slice.specs.Slice.{Took, leaves, sliceRecord}
-use Rattle.slice.specs.declared.Sliced.{Sliced}
-use Rattle.slice.proofs.Taken.{taken-le, none-took, none-taken, goes-on}
-use Rattle.smlcat.specs.Fed.{Held, held, fed}
+use Rattle.decoder_slice.specs.Slice.{Took, afterSlice, sliceRecord}
+use Rattle.decoder_slice.specs.declared.Sliced.{Sliced}
+use Rattle.decoder_slice.proofs.Taken.{taken-le, none-took, none-taken, goes-on}
+use Rattle.smlcat.specs.Fed.{Holding, held, fed}
 
 one : (d : Decoder) (m : List ℕ) (b : ℕ) (bs : List ℕ) → fed (pushRecord d m b .decoder) (pushRecord d m b .memory) bs ≡ fed d m (b ∷ bs)
 unfolding fed
 one d m b bs = refl
 
 -- pushes that are all refused
-fed-refused : (bs : List ℕ) (d : Decoder) (m : List ℕ) → ((b : ℕ) → pushRecord d m b ≡ after (refused (cond (badState d) 4 5) []) d m) → held d m ≡ fed d m bs
+fed-refused : (bs : List ℕ) (d : Decoder) (m : List ℕ) → ((b : ℕ) → pushRecord d m b ≡ after (refusal (cond (badDecoder d) 4 5) []) d m) → held d m ≡ fed d m bs
 unfolding fed
 fed-refused [] d m h = refl
 fed-refused (b ∷ bs) d m h = fed-refused bs d m h ∙ ap (λ (a : After). fed (a .decoder) (a .memory) bs) (sym (h b))
@@ -28,11 +28,11 @@ unfolding fed
 fed-done d m bs i h = rw drop-of-length-le
 
 -- the part of s from i on is pushed
-module _ (d : Decoder) (m s : List ℕ) (i : ℕ) (r : Sliced) (n : List ℕ) (said : leaves r n ≡ sliceRecord d m (take (length s - i) (drop i s))) (in-s : i < length s) where
+module _ (d : Decoder) (m s : List ℕ) (i : ℕ) (r : Sliced) (n : List ℕ) (said : afterSlice r n ≡ sliceRecord d m (take (length s - i) (drop i s))) (in-s : i < length s) where
   left : length (drop i s) ≡ length s - i
   left = length-drop i s
 
-  part : leaves r n ≡ sliceRecord d m (drop i s)
+  part : afterSlice r n ≡ sliceRecord d m (drop i s)
   part = said ∙ ap (sliceRecord d m) (ap (λ (k : ℕ). take k (drop i s)) (sym left) ∙ take-length (drop i s))
 
   taken-is : r .taken ≡ sliceRecord d m (drop i s) .taken

@@ -4,13 +4,13 @@ use Prim.Native.Nat.{ℕ}
 use Rattle.decoder.specs.Record.{pushRecord}
 use Rattle.decoder.specs.declared.Decoder.{Decoder}
 
-pub record Held : Type 0 where
+pub record Holding : Type 0 where
   pub decoder : Decoder
   pub memory : List ℕ
 
-abbrev pub held : Decoder → List ℕ → Held
+abbrev pub held : Decoder → List ℕ → Holding
 held d m = record { decoder = d; memory = m }
 
-unfoldable pub fed : Decoder → List ℕ → List ℕ → Held
+unfoldable pub fed : Decoder → List ℕ → List ℕ → Holding
 fed d m [] = held d m
 fed d m (b ∷ bs) = fed (pushRecord d m b .decoder) (pushRecord d m b .memory) bs

@@ -91,7 +91,7 @@ fn drive(d: Decoder, buf: &mut [u8], chunk: &[u8]) -> Decoder
     let mut at = d;
     let mut i: usize = 0;
     while i < chunk.len() {
-        let p = slice::push_slice(at, buf, &chunk[i..]);
+        let p = decoder_slice::push_slice(at, buf, &chunk[i..]);
         let e = p.event;
         let taken = p.taken;
         at = p.decoder;

@@ -201,7 +201,7 @@ fn push_part(
     s: &mut [u8],
 ) -> Reached {
     let d = t.decoder;
-    let pushed = slice::push_slice(d, s, part(bytes, from, bytes.len()));
+    let pushed = decoder_slice::push_slice(d, s, part(bytes, from, bytes.len()));
     let e = pushed.event;
     let next = pushed.decoder;
     let end = ahead(from, pushed.taken, bytes.len());

@@ -10,15 +10,15 @@ use decoder::Event;
 use encoder::Encoded;
 use encoder::Encoder;
 use encoder::Item;
-use num::BoolRead;
-use num::I8Read;
-use num::I16Read;
-use num::I32Read;
-use num::I64Read;
-use num::U8Read;
-use num::U16Read;
-use num::U32Read;
-use num::U64Read;
+use numbers::BoolRead;
+use numbers::I8Read;
+use numbers::I16Read;
+use numbers::I32Read;
+use numbers::I64Read;
+use numbers::U8Read;
+use numbers::U16Read;
+use numbers::U32Read;
+use numbers::U64Read;
 use octet_string::OptSpan;
 use octet_string::OptSpanRead;
 use tlf::Fault;
@@ -833,28 +833,28 @@ fn string(span: Span, input: &[u8], next: usize) {
 }
 
 fn field_u8(input: &[u8]) {
-    match num::parse_u8(input, 0) {
+    match numbers::parse_u8(input, 0) {
         U8Read::Is { value, next } => unsigned(value as u64, input, next),
         U8Read::Refused(f) => error(f),
     }
 }
 
 fn field_u16(input: &[u8]) {
-    match num::parse_u16(input, 0) {
+    match numbers::parse_u16(input, 0) {
         U16Read::Is { value, next } => unsigned(value as u64, input, next),
         U16Read::Refused(f) => error(f),
     }
 }
 
 fn field_u32(input: &[u8]) {
-    match num::parse_u32(input, 0) {
+    match numbers::parse_u32(input, 0) {
         U32Read::Is { value, next } => unsigned(value as u64, input, next),
         U32Read::Refused(f) => error(f),
     }
 }
 
 fn field_u64(input: &[u8]) {
-    match num::parse_u64(input, 0) {
+    match numbers::parse_u64(input, 0) {
         U64Read::Is { value, next } => unsigned(value, input, next),
         U64Read::Refused(f) => error(f),
     }
@@ -873,35 +873,35 @@ fn from_i32(x: i32) -> i64 {
 }
 
 fn field_i8(input: &[u8]) {
-    match num::parse_i8(input, 0) {
+    match numbers::parse_i8(input, 0) {
         I8Read::Is { value, next } => integer(from_i8(value), input, next),
         I8Read::Refused(f) => error(f),
     }
 }
 
 fn field_i16(input: &[u8]) {
-    match num::parse_i16(input, 0) {
+    match numbers::parse_i16(input, 0) {
         I16Read::Is { value, next } => integer(from_i16(value), input, next),
         I16Read::Refused(f) => error(f),
     }
 }
 
 fn field_i32(input: &[u8]) {
-    match num::parse_i32(input, 0) {
+    match numbers::parse_i32(input, 0) {
         I32Read::Is { value, next } => integer(from_i32(value), input, next),
         I32Read::Refused(f) => error(f),
     }
 }
 
 fn field_i64(input: &[u8]) {
-    match num::parse_i64(input, 0) {
+    match numbers::parse_i64(input, 0) {
         I64Read::Is { value, next } => integer(value, input, next),
         I64Read::Refused(f) => error(f),
     }
 }
 
 fn field_bool(input: &[u8]) {
-    match num::parse_bool(input, 0) {
+    match numbers::parse_bool(input, 0) {
         BoolRead::Is { value, next } => unsigned(value as u64, input, next),
         BoolRead::Refused(f) => error(f),
     }

@@ -1,7 +1,7 @@
 // The story that this project began with: a public key of 48 bytes needs a two-byte length, 83 02, and the length counts
 // both of its own bytes. Whoever takes off one reads 49 bytes and cuts every field behind the key wrong.
-use num::U8Read;
-use num::U32Read;
+use numbers::U8Read;
+use numbers::U32Read;
 use tlf::SpanRead;
 
 // Each of these prints one field and answers where the next one stands; a refusal prints its place.
@@ -20,7 +20,7 @@ fn string(input: &[u8], at: usize) -> usize {
 }
 
 fn small(input: &[u8], at: usize) -> usize {
-    match num::parse_u8(input, at) {
+    match numbers::parse_u8(input, at) {
         U8Read::Is { value, next } => {
             line(b"unsigned ", value as u64);
             next
@@ -33,7 +33,7 @@ fn small(input: &[u8], at: usize) -> usize {
 }
 
 fn number(input: &[u8], at: usize) -> usize {
-    match num::parse_u32(input, at) {
+    match numbers::parse_u32(input, at) {
         U32Read::Is { value, next } => {
             line(b"unsigned ", value as u64);
             next

@@ -3,14 +3,14 @@ use Rattle.tlf.specs.Refusals.{faultOf}
 use Rattle.tlf.specs.declared.Span.{Span}
 use Rattle.common.specs.Answers.{listEntry}
 use Rattle.message.specs.Answers.{messageStart, listEnd}
-use Rattle.streaming.specs.Next.{Event, starts, entry, ends, Said, event, noEvent, failed, After, inputTooLong, badState}
+use Rattle.streaming.specs.Next.{MessageEvent, starts, entry, ends, Said, event, noEvent, failed, ReaderAfter, inputTooLong, badReader}
 use Rattle.streaming.specs.declared.ParseEvent.{ParseEvent}
 use Rattle.streaming.specs.declared.ParseEvent.the-variants as EventC
 use Rattle.streaming.specs.declared.Answer.{Answer}
 use Rattle.streaming.specs.declared.Answer.the-variants as AnswerC
 use Rattle.streaming.specs.declared.Next.{Next}
 
-abbrev pub parseEvent : ParseEvent → Event Span
+abbrev pub parseEvent : ParseEvent → MessageEvent Span
 parseEvent (EventC.MessageStart x) = starts (messageStart x)
 parseEvent (EventC.GetListResponseEnd x) = ends (listEnd x)
 parseEvent (EventC.ListEntry x) = entry (listEntry x)
@@ -20,7 +20,7 @@ said (AnswerC.Event e) = event (parseEvent e)
 said AnswerC.NoEvent = noEvent
 said (AnswerC.Refused f) = failed (faultOf f)
 said AnswerC.InputTooLong = failed inputTooLong
-said AnswerC.BadState = failed badState
+said AnswerC.BadState = failed badReader
 
-abbrev pub after : Next → After
-after r = record { said = said (r .answer); place = r .place; start = r .start; pending = r .pending }
+abbrev pub readerAfter : Next → ReaderAfter
+readerAfter r = record { said = said (r .answer); place = r .place; start = r .start; pending = r .pending }

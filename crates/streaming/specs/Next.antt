@@ -11,19 +11,19 @@ use Rattle.message.specs.Messages.{MessageStart, ListEnd, Body, opened, closed,
 use Rattle.trailer.specs.Trailer.{trailerAt}
 
 -- strings are of type T: a part of the input where they are read, or the bytes themselves
-pub data Event (T : Type 0) : Type 0 where
-  starts : MessageStart T → Event T
-  entry : ListEntry T → Event T
-  ends : ListEnd T → Event T
+pub data MessageEvent (T : Type 0) : Type 0 where
+  starts : MessageStart T → MessageEvent T
+  entry : ListEntry T → MessageEvent T
+  ends : ListEnd T → MessageEvent T
 
 -- what a call says
 pub data Said : Type 0 where
-  event : Event Span → Said
+  event : MessageEvent Span → Said
   noEvent : Said
   failed : Refusal → Said
 
 -- what a call says, and the reader's three numbers behind it
-pub record After : Type 0 where
+pub record ReaderAfter : Type 0 where
   pub said : Said
   pub place : ℕ
   pub start : ℕ
@@ -33,11 +33,11 @@ pub record After : Type 0 where
 abbrev pub inputTooLong : Refusal
 inputTooLong = record { number = 9; kind = 0; place = 0 }
 
-abbrev pub badState : Refusal
-badState = record { number = 4; kind = 0; place = 0 }
+abbrev pub badReader : Refusal
+badReader = record { number = 4; kind = 0; place = 0 }
 
 -- a refusal drops the rest of the input, and keeps `start` and `pending`; else it goes on with what was read
-unfoldable pub onward : {A : Type 0} → ℕ → ℕ → ℕ → Read A → (A → ℕ → After) → After
+unfoldable pub onward : {A : Type 0} → ℕ → ℕ → ℕ → Read A → (A → ℕ → ReaderAfter) → ReaderAfter
 onward end start pending (got a n) k = k a n
 onward end start pending (refused f) k = record { said = failed f; place = end; start = start; pending = pending }
 
@@ -48,25 +48,25 @@ pendingOf (closed b) = 1
 pendingOf (listed b) = b .count + 2
 
 -- between messages: no event where the input is empty, else a message's start; refused there, nothing is pending
-unfoldable pub beginAt : List ℕ → ℕ → ℕ → After
+unfoldable pub beginAt : List ℕ → ℕ → ℕ → ReaderAfter
 beginAt s at start =
     cond (leb (length s) at) (record { said = noEvent; place = at; start = start; pending = 0 })
     (onward (length s) at 0 (startAt s at) λ m n. record { said = event (starts m); place = n; start = at; pending = pendingOf (m .body) })
 
 -- the trailer has no event: the next message's start follows in the same call
-unfoldable pub trailerNext : List ℕ → ℕ → ℕ → After
+unfoldable pub trailerNext : List ℕ → ℕ → ℕ → ReaderAfter
 trailerNext s at start = onward (length s) start 1 (trailerAt s start at) λ done n. beginAt s n start
 
-unfoldable pub endNext : List ℕ → ℕ → ℕ → After
+unfoldable pub endNext : List ℕ → ℕ → ℕ → ReaderAfter
 endNext s at start = onward (length s) start 2 (listEndAt s at) λ e n. record { said = event (ends e); place = n; start = start; pending = 1 }
 
 -- an entry, behind which `left` are pending
-unfoldable pub entryNext : List ℕ → ℕ → ℕ → ℕ → After
+unfoldable pub entryNext : List ℕ → ℕ → ℕ → ℕ → ReaderAfter
 entryNext s at start left =
     onward (length s) start (suc left) (entryAt s at) λ e n. record { said = event (entry e); place = n; start = start; pending = left }
 
 -- pending: 0 between messages, 1 at the trailer, 2 at a list's end, more at an entry
-unfoldable pub stepAt : List ℕ → ℕ → ℕ → ℕ → After
+unfoldable pub stepAt : List ℕ → ℕ → ℕ → ℕ → ReaderAfter
 stepAt s at start zero = beginAt s at start
 stepAt s at start (suc zero) = trailerNext s at start
 stepAt s at start (suc (suc zero)) = endNext s at start
@@ -77,8 +77,8 @@ abbrev pub isSound : ℕ → ℕ → ℕ → ℕ → Bool
 isSound end at start pending = leb at end && (leb start at && leb pending 4294967297)
 
 -- 9, 4, then the step; both leave the reader unchanged
-unfoldable pub nextAt : List ℕ → ℕ → ℕ → ℕ → After
+unfoldable pub nextAt : List ℕ → ℕ → ℕ → ℕ → ReaderAfter
 nextAt s at start pending =
     cond (ltb 1048576 (length s)) (record { said = failed inputTooLong; place = at; start = start; pending = pending })
     (cond (isSound (length s) at start pending) (stepAt s at start pending)
-    (record { said = failed badState; place = at; start = start; pending = pending }))
+    (record { said = failed badReader; place = at; start = start; pending = pending }))

@@ -3,7 +3,7 @@ ghost use mathlib.Core.Path.{_≡_};
 ghost use Prim.Native.Nat.{_≤_, _-_};
 ghost use Rattle.message.specs.Answers.{messageBody};
 ghost use Rattle.streaming.specs.Next.{pendingOf, isSound, beginAt, trailerNext, endNext, entryNext, stepAt, nextAt};
-ghost use Rattle.streaming.specs.Answers.{after};
+ghost use Rattle.streaming.specs.Answers.{readerAfter};
 use common::EntryRead;
 use common::ListEntry;
 use message::GetListResponseEnd;
@@ -49,7 +49,7 @@ fn pending_of(body: MessageBody) -> u64
 
 // Between messages: the case `0` of the Rust, and the empty input before it.
 fn begin(input: &[u8], at: usize, start: usize) -> Next
-    ensures { λ r. ⌜ after r ≡ beginAt (now (input .entry)) at start ⌝ }
+    ensures { λ r. ⌜ readerAfter r ≡ beginAt (now (input .entry)) at start ⌝ }
 {
     if input.len() <= at {
         return Next {
@@ -80,7 +80,7 @@ fn begin(input: &[u8], at: usize, start: usize) -> Next
 
 // The case `1`: the trailer, and with it the start of the next message.
 fn trailer_next(input: &[u8], at: usize, start: usize) -> Next
-    ensures { λ r. ⌜ after r ≡ trailerNext (now (input .entry)) at start ⌝ }
+    ensures { λ r. ⌜ readerAfter r ≡ trailerNext (now (input .entry)) at start ⌝ }
 {
     match trailer::parse_trailer(input, start, at) {
         PlaceRead::Is { next } => begin(input, next, start),
@@ -95,7 +95,7 @@ fn trailer_next(input: &[u8], at: usize, start: usize) -> Next
 
 // The case `2`: a list's end.
 fn end_next(input: &[u8], at: usize, start: usize) -> Next
-    ensures { λ r. ⌜ after r ≡ endNext (now (input .entry)) at start ⌝ }
+    ensures { λ r. ⌜ readerAfter r ≡ endNext (now (input .entry)) at start ⌝ }
 {
     match message::parse_list_end(input, at) {
         ListEndRead::Is { response, next } => Next {
@@ -116,7 +116,7 @@ fn end_next(input: &[u8], at: usize, start: usize) -> Next
 // Every other case: an entry.
 fn entry_next(input: &[u8], at: usize, start: usize, pending: u64) -> Next
     requires { ⌜ 3 ≤ pending ⌝ }
-    ensures { λ r. ⌜ after r ≡ entryNext (now (input .entry)) at start (pending - 1) ⌝ }
+    ensures { λ r. ⌜ readerAfter r ≡ entryNext (now (input .entry)) at start (pending - 1) ⌝ }
 {
     match common::parse_list_entry(input, at) {
         EntryRead::Is { entry, next } => Next {
@@ -135,8 +135,8 @@ fn entry_next(input: &[u8], at: usize, start: usize, pending: u64) -> Next
 }
 
 // The next event of a sound reader: the `match` of the Rust.
-fn step(input: &[u8], at: usize, start: usize, pending: u64) -> Next
-    ensures { λ r. ⌜ after r ≡ stepAt (now (input .entry)) at start pending ⌝ }
+fn next_event(input: &[u8], at: usize, start: usize, pending: u64) -> Next
+    ensures { λ r. ⌜ readerAfter r ≡ stepAt (now (input .entry)) at start pending ⌝ }
 {
     if pending == 0 {
         return begin(input, at, start);
@@ -151,7 +151,7 @@ fn step(input: &[u8], at: usize, start: usize, pending: u64) -> Next
 }
 
 // Not a bad state: place within an input that ends at `end`, message start not beyond it, not too much pending.
-fn is_sound(end: usize, at: usize, start: usize, pending: u64) -> bool
+fn is_sound_reader(end: usize, at: usize, start: usize, pending: u64) -> bool
     ensures { λ r. ⌜ r ≡ isSound end at start pending ⌝ }
 {
     if end < at {
@@ -165,7 +165,7 @@ fn is_sound(end: usize, at: usize, start: usize, pending: u64) -> bool
 
 // The next event of `input` from `at` on, in a message that began at `start`; pending is the Rust's pending_list_entries.
 pub fn parse_next(input: &[u8], at: usize, start: usize, pending: u64) -> Next
-    ensures { λ r. ⌜ after r ≡ nextAt (now (input .entry)) at start pending ⌝ }
+    ensures { λ r. ⌜ readerAfter r ≡ nextAt (now (input .entry)) at start pending ⌝ }
 {
     if 1_048_576 < input.len() {
         return Next {
@@ -175,8 +175,8 @@ pub fn parse_next(input: &[u8], at: usize, start: usize, pending: u64) -> Next
             pending,
         };
     }
-    if is_sound(input.len(), at, start, pending) {
-        return step(input, at, start, pending);
+    if is_sound_reader(input.len(), at, start, pending) {
+        return next_event(input, at, start, pending);
     }
     Next {
         answer: Answer::BadState,

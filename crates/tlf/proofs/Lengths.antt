@@ -24,9 +24,9 @@ length-stop end start [] at len = refl
 length-stop end start (b ∷ bs) at len = refl
 
 -- more follow, and the input has ended
-pub length-end : (s : List ℕ) (start i len : ℕ) → length s ≤ i → lengthFrom (length s) start (drop i s) i true len ≡ refused (eof (length s))
+pub length-cut : (s : List ℕ) (start i len : ℕ) → length s ≤ i → lengthFrom (length s) start (drop i s) i true len ≡ refused (eof (length s))
 unfolding lengthFrom
-length-end s start i len h = rw (drop-of-length-le s h)
+length-cut s start i len h = rw (drop-of-length-le s h)
 
 -- more follow: the byte at i is one of them
 pub length-next : (s : List ℕ) (start i len : ℕ) → i < length s

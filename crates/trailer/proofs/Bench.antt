@@ -5,7 +5,7 @@ use Prim.Native.Nat.{ℕ}
 use Rattle.crc_x25.specs.Crc.{reflect, polynomial, bitStep, bitSteps, byteStep, register, finalXor, crcOf}
 use Rattle.tlf.specs.Read.{got, refused, then, guard, need, crcMismatch, wrongEnd, byteAt, spanAt}
 use Rattle.tlf.specs.Lengths.{tlfAt, lengthFrom, lessOwn}
-use Rattle.num.specs.Numbers.{number, bytesAt, rawFrom, rawAt, unsignedAt}
+use Rattle.numbers.specs.Numbers.{number, bytesAt, rawFrom, rawAt, unsignedAt}
 use Rattle.common.specs.Fields.{messageEndAt}
 use Rattle.trailer.specs.Trailer.{crcFrom, trailerAt}
 

@@ -4,7 +4,7 @@ use mathlib.Core.List.{List}
 use Prim.Native.Nat.{ℕ, _≤_}
 use lib.ListN.{length}
 use Rattle.tlf.specs.Read.{refused, then, eof}
-use Rattle.num.proofs.Ends.{unsigned-end}
+use Rattle.numbers.proofs.Ends.{unsigned-end}
 use Rattle.trailer.specs.Trailer.{trailerAt}
 
 pub trailer-end : (s : List ℕ) (start at : ℕ) → length s ≤ at → trailerAt s start at ≡ refused (eof (length s))

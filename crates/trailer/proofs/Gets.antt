@@ -8,7 +8,7 @@ use lib.Dec.{eqb}
 use borrow.Author.Tests.{eq-eqb}
 use Rattle.tlf.specs.Read.{Read, got, refused, Refusal, then, guard}
 use Rattle.tlf.proofs.Rest.{Rest, Gets, Reads, Is, rest-place, rest-take, gets-is, gets-guard, gets-got}
-use Rattle.num.specs.Numbers.{unsignedAt}
+use Rattle.numbers.specs.Numbers.{unsignedAt}
 use Rattle.common.specs.Fields.{messageEndAt}
 use Rattle.crc_x25.specs.Crc.{crcOf}
 use Rattle.trailer.specs.Trailer.{swapped, crcFrom, trailerAt}

@@ -5,7 +5,7 @@ use native.Mathlib.Omega.{arith}
 use lib.ListN.{length}
 use Rattle.tlf.proofs.Read.{Ok, ok-guard}
 use Rattle.tlf.proofs.Found.{Found, Any, from, on, found}
-use Rattle.num.proofs.Ahead.{unsigned-found}
+use Rattle.numbers.proofs.Ahead.{unsigned-found}
 use Rattle.common.proofs.Fields.{message-end-found}
 use Rattle.trailer.specs.Trailer.{trailerAt}
 

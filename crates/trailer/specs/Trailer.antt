@@ -4,7 +4,7 @@ use mathlib.Core.List.{List}
 use lib.ListN.{take, drop}
 use lib.Dec.{eqb}
 use Rattle.tlf.specs.Read.{Read, got, then, guard, crcMismatch}
-use Rattle.num.specs.Numbers.{unsignedAt}
+use Rattle.numbers.specs.Numbers.{unsignedAt}
 use Rattle.common.specs.Fields.{messageEndAt}
 use Rattle.crc_x25.specs.Crc.{crcOf}
 

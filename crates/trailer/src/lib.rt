@@ -4,7 +4,7 @@ ghost use Prim.Native.Nat.{_≤_};
 ghost use lib.ListN.{length};
 ghost use Rattle.tlf.specs.Refusals.{placeRead};
 ghost use Rattle.trailer.specs.Trailer.{swapped, crcFrom, trailerAt};
-use num::U16Read;
+use numbers::U16Read;
 use tlf::Fault;
 use tlf::ParseError;
 use tlf::PlaceRead;
@@ -16,7 +16,7 @@ fn swap_bytes(x: u16) -> u16
 }
 
 // The CRC of the bytes from `start` up to `at`; of no bytes if `start` is behind `at`.
-fn checksum(input: &[u8], start: usize, at: usize) -> u16
+fn message_crc(input: &[u8], start: usize, at: usize) -> u16
     requires { ⌜ at ≤ length (now input) ⌝ }
     ensures { λ r. ⌜ r ≡ crcFrom (now (input .entry)) start at ⌝ }
 {
@@ -31,7 +31,7 @@ pub fn parse_trailer(input: &[u8], start: usize, at: usize) -> PlaceRead
     ensures { λ r. ⌜ placeRead r ≡ trailerAt (now (input .entry)) start at ⌝ }
 {
     let mut n = at;
-    let crc = match num::parse_u16(input, at) {
+    let crc = match numbers::parse_u16(input, at) {
         U16Read::Is { value, next } => {
             n = next;
             value
@@ -42,7 +42,7 @@ pub fn parse_trailer(input: &[u8], start: usize, at: usize) -> PlaceRead
         PlaceRead::Is { next } => n = next,
         PlaceRead::Refused(f) => return PlaceRead::Refused(f),
     }
-    let digest = swap_bytes(checksum(input, start, at));
+    let digest = swap_bytes(message_crc(input, start, at));
     if crc == digest {
         PlaceRead::Is { next: n }
     } else {

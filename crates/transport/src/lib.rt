@@ -1,20 +1,20 @@
 // push, finalize and reset of transport.rs with the decoder lent to be changed in place, as the collector keeps one, and next with the Encoder lent. Each is thin: the record
 // is read whole, the function by value does the work, and the record that it gives is stored whole.
+use decoder::AfterReset;
 use decoder::Decoder;
 use decoder::Event;
 use decoder::Finalized;
 use decoder::Pushed;
-use decoder::Resetted;
 use encoder::Encoder;
 use encoder::Given;
 use encoder::Item;
 ghost use mathlib.Core.Path.{_≡_};
-ghost use Rattle.decoder.specs.Record.{leaves, leavesFinal, leavesReset, pushRecord, finalizeRecord, resetRecord};
+ghost use Rattle.decoder.specs.Record.{afterPush, afterFinalize, afterReset, pushRecord, finalizeRecord, resetRecord};
 ghost use Rattle.encoder.specs.Encoder.{stepOf, nextStep};
 
 // Pushes a byte.
 pub fn push(d: &mut Decoder, buf: &mut [u8], b: u8) -> Event
-    ensures { λ r. ⌜ leaves (record { decoder = now (d .exit); event = r }) (now (buf .exit)) ≡ pushRecord (now (d .entry)) (now (buf .entry)) b ⌝ }
+    ensures { λ r. ⌜ afterPush (record { decoder = now (d .exit); event = r }) (now (buf .exit)) ≡ pushRecord (now (d .entry)) (now (buf .entry)) b ⌝ }
 {
     let r = (*d).push_byte(buf, b);
     *d = r.decoder;
@@ -23,7 +23,7 @@ pub fn push(d: &mut Decoder, buf: &mut [u8], b: u8) -> Event
 
 // Says how many bytes are lost, if any; the decoder begins again.
 pub fn finalize(d: &mut Decoder) -> Event
-    ensures { λ r. ⌜ leavesFinal (record { decoder = now (d .exit); event = r }) ≡ finalizeRecord (now (d .entry)) ⌝ }
+    ensures { λ r. ⌜ afterFinalize (record { decoder = now (d .exit); event = r }) ≡ finalizeRecord (now (d .entry)) ⌝ }
 {
     let r = (*d).finalize();
     *d = r.decoder;
@@ -32,7 +32,7 @@ pub fn finalize(d: &mut Decoder) -> Event
 
 // Gives the number of bytes that are lost; the decoder begins again.
 pub fn reset(d: &mut Decoder) -> u32
-    ensures { λ r. ⌜ leavesReset (record { decoder = now (d .exit); count = r }) ≡ resetRecord (now (d .entry)) ⌝ }
+    ensures { λ r. ⌜ afterReset (record { decoder = now (d .exit); count = r }) ≡ resetRecord (now (d .entry)) ⌝ }
 {
     let r = (*d).reset();
     *d = r.decoder;
@@ -41,7 +41,7 @@ pub fn reset(d: &mut Decoder) -> u32
 
 // push with plain parameters, for a program: the decoder goes into a local, which is lent to be changed in place, and is given back beside the event.
 pub fn push_lent(d: Decoder, buf: &mut [u8], b: u8) -> Pushed
-    ensures { λ r. ⌜ leaves r (now (buf .exit)) ≡ pushRecord d (now (buf .entry)) b ⌝ }
+    ensures { λ r. ⌜ afterPush r (now (buf .exit)) ≡ pushRecord d (now (buf .entry)) b ⌝ }
 {
     let mut decoder = d;
     let event = push(&mut decoder, buf, b);
@@ -50,7 +50,7 @@ pub fn push_lent(d: Decoder, buf: &mut [u8], b: u8) -> Pushed
 
 // finalize with plain parameters.
 pub fn finalize_lent(d: Decoder) -> Finalized
-    ensures { λ r. ⌜ leavesFinal r ≡ finalizeRecord d ⌝ }
+    ensures { λ r. ⌜ afterFinalize r ≡ finalizeRecord d ⌝ }
 {
     let mut decoder = d;
     let event = finalize(&mut decoder);
@@ -58,12 +58,12 @@ pub fn finalize_lent(d: Decoder) -> Finalized
 }
 
 // reset with plain parameters.
-pub fn reset_lent(d: Decoder) -> Resetted
-    ensures { λ r. ⌜ leavesReset r ≡ resetRecord d ⌝ }
+pub fn reset_lent(d: Decoder) -> AfterReset
+    ensures { λ r. ⌜ afterReset r ≡ resetRecord d ⌝ }
 {
     let mut decoder = d;
     let count = reset(&mut decoder);
-    Resetted { decoder, count }
+    AfterReset { decoder, count }
 }
 
 // Gives the next byte of the payload's frame, the Encoder lent to be changed in place. The payload is the same at every call.

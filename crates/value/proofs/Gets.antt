@@ -12,7 +12,7 @@ use Rattle.tlf.specs.declared.TypeLengthField.{TypeLengthField}
 use Rattle.tlf.specs.declared.Span.{Span}
 use Rattle.tlf.proofs.Rest.{Rest, Gets, Reads, Is, Made, gets-is, gets-then, gets-guard, gets-got, gets-made}
 use Rattle.tlf.proofs.Gets.{list-of-reads}
-use Rattle.num.specs.Numbers.{unsignedAt, signedAt, boolAt}
+use Rattle.numbers.specs.Numbers.{unsignedAt, signedAt, boolAt}
 use Rattle.octet_string.specs.Strings.{octetsAt}
 use Rattle.value.specs.Values.{timeAt, narrowest, Status, statusOf, statusAt, Value, truth, bytes, signed, unsigned, listTime, signedValue, unsignedValue, listTypeAt, valueOf, valueAt}
 

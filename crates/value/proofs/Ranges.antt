@@ -8,8 +8,8 @@ use Rattle.tlf.specs.declared.Ty.{Ty}
 use Rattle.tlf.specs.declared.Ty.the-variants.{OctetString, Boolean, Integer, Unsigned, ListOf}
 use Rattle.tlf.specs.declared.Span.{Span}
 use Rattle.tlf.proofs.Read.{Ok, ok-any, ok-got, ok-then, ok-guard, ok-cond, ok-weak}
-use Rattle.num.specs.Numbers.{unsignedAt, boolAt}
-use Rattle.num.proofs.Numbers.{Bytes, unsigned-ok, signed-ok}
+use Rattle.numbers.specs.Numbers.{unsignedAt, boolAt}
+use Rattle.numbers.proofs.Numbers.{Bytes, unsigned-ok, signed-ok}
 use Rattle.octet_string.specs.Strings.{octetsAt}
 use Rattle.value.specs.Values.{isBareTime, timeAt, narrowest, Status, statusOf, statusAt, Value, truth, bytes, signed, unsigned, listTime, signedValue, unsignedValue, listTypeAt, valueOf, valueAt}
 

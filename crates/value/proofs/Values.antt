@@ -12,7 +12,7 @@ use Rattle.tlf.specs.declared.Span.{Span}
 use Rattle.tlf.proofs.Read.{Ok, ok-then, ok-guard, ok-cond}
 use Rattle.tlf.proofs.Lengths.{tlf-ok, list-of-ok}
 use Rattle.tlf.proofs.Found.{Found, Any, any, from, on, found, found-on}
-use Rattle.num.proofs.Ahead.{unsigned-found, signed-found, bool-found}
+use Rattle.numbers.proofs.Ahead.{unsigned-found, signed-found, bool-found}
 use Rattle.octet_string.proofs.Within.{Within, octets-found}
 use Rattle.value.specs.Values.{isBareTime, timeAt, narrowest, statusOf, statusAt, Value, truth, bytes, signed, unsigned, listTime, signedValue, unsignedValue, listTypeAt, valueOf, valueAt}
 

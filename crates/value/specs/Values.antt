@@ -10,7 +10,7 @@ use Rattle.tlf.specs.declared.Ty.{Ty}
 use Rattle.tlf.specs.declared.Ty.the-variants.{OctetString, Boolean, Integer, Unsigned, ListOf}
 use Rattle.tlf.specs.declared.TypeLengthField.{TypeLengthField}
 use Rattle.tlf.specs.declared.Span.{Span}
-use Rattle.num.specs.Numbers.{isNumber, unsignedAt, signedAt, boolAt}
+use Rattle.numbers.specs.Numbers.{isNumber, unsignedAt, signedAt, boolAt}
 use Rattle.octet_string.specs.Strings.{octetsAt}
 
 -- wider than the rule, as common.rs is: a time that is an Unsigned of four bytes, without list and tag

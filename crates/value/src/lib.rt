@@ -1,20 +1,20 @@
 // Ports Time, Status and Value of parser/common.rs, and Option of parser/mod.rs for all but strings.
 ghost use mathlib.Core.Path.{_≡_};
 ghost use Rattle.tlf.specs.declared.Ty.{Ty};
-ghost use Rattle.num.specs.Numbers.{unsignedAt, signedAt};
-ghost use Rattle.num.specs.Answers.{u32Read};
+ghost use Rattle.numbers.specs.Numbers.{unsignedAt, signedAt};
+ghost use Rattle.numbers.specs.Answers.{u32Read};
 ghost use Rattle.octet_string.specs.Optional.{optional};
 ghost use Rattle.value.specs.Values.{isBareTime, timeAt, narrowest, statusOf, statusAt, signedValue, unsignedValue, listTypeAt, valueOf, valueAt, listTime};
 ghost use Rattle.value.specs.Answers.{seconds, value, timeRead, statusRead, valueRead, optU8Read, optI8Read, optTimeRead, optStatusRead};
-use num::BoolRead;
-use num::I8Read;
-use num::I16Read;
-use num::I32Read;
-use num::I64Read;
-use num::U8Read;
-use num::U16Read;
-use num::U32Read;
-use num::U64Read;
+use numbers::BoolRead;
+use numbers::I8Read;
+use numbers::I16Read;
+use numbers::I32Read;
+use numbers::I64Read;
+use numbers::U8Read;
+use numbers::U16Read;
+use numbers::U32Read;
+use numbers::U64Read;
 use tlf::Fault;
 use tlf::ParseError;
 use tlf::PlaceRead;
@@ -67,7 +67,7 @@ pub fn parse_time(input: &[u8], at: usize) -> TimeRead
     match TypeLengthField::parse(input, at) {
         TlfRead::Is { tlf, next } => {
             if is_bare_time(tlf) {
-                return sec_index(num::parse_u32(input, at));
+                return sec_index(numbers::parse_u32(input, at));
             }
             if tlf.is_list_of(2) {
                 n = next;
@@ -80,10 +80,10 @@ pub fn parse_time(input: &[u8], at: usize) -> TimeRead
         }
         TlfRead::Refused(f) => return TimeRead::Refused(f),
     }
-    match num::parse_u8(input, n) {
+    match numbers::parse_u8(input, n) {
         U8Read::Is { value: tag, next } => {
             if tag == 1 {
-                sec_index(num::parse_u32(input, next))
+                sec_index(numbers::parse_u32(input, next))
             } else {
                 TimeRead::Refused(Fault {
                     error: ParseError::UnexpectedVariant,
@@ -112,7 +112,7 @@ fn status_of(input: &[u8], at: usize, len: u32) -> StatusRead
     ensures { λ r. ⌜ statusRead r ≡ statusOf (narrowest len) (now (input .entry)) at ⌝ }
 {
     if len <= 1 {
-        return match num::parse_u8(input, at) {
+        return match numbers::parse_u8(input, at) {
             U8Read::Is { value, next } => StatusRead::Is {
                 status: Status::Status8(value),
                 next,
@@ -121,7 +121,7 @@ fn status_of(input: &[u8], at: usize, len: u32) -> StatusRead
         };
     }
     if len <= 2 {
-        return match num::parse_u16(input, at) {
+        return match numbers::parse_u16(input, at) {
             U16Read::Is { value, next } => StatusRead::Is {
                 status: Status::Status16(value),
                 next,
@@ -130,7 +130,7 @@ fn status_of(input: &[u8], at: usize, len: u32) -> StatusRead
         };
     }
     if len <= 4 {
-        return match num::parse_u32(input, at) {
+        return match numbers::parse_u32(input, at) {
             U32Read::Is { value, next } => StatusRead::Is {
                 status: Status::Status32(value),
                 next,
@@ -138,7 +138,7 @@ fn status_of(input: &[u8], at: usize, len: u32) -> StatusRead
             U32Read::Refused(f) => StatusRead::Refused(f),
         };
     }
-    match num::parse_u64(input, at) {
+    match numbers::parse_u64(input, at) {
         U64Read::Is { value, next } => StatusRead::Is {
             status: Status::Status64(value),
             next,
@@ -183,7 +183,7 @@ pub enum ValueRead {
 fn bool_value(input: &[u8], at: usize) -> ValueRead
     ensures { λ r. ⌜ valueRead r ≡ valueOf Ty.Boolean 0 (now (input .entry)) at ⌝ }
 {
-    match num::parse_bool(input, at) {
+    match numbers::parse_bool(input, at) {
         BoolRead::Is { value, next } => ValueRead::Is {
             value: Value::Bool(value),
             next,
@@ -209,7 +209,7 @@ fn signed_value(input: &[u8], at: usize, len: u32) -> ValueRead
     ensures { λ r. ⌜ valueRead r ≡ signedValue (narrowest len) (now (input .entry)) at ⌝ }
 {
     if len <= 1 {
-        return match num::parse_i8(input, at) {
+        return match numbers::parse_i8(input, at) {
             I8Read::Is { value, next } => ValueRead::Is {
                 value: Value::I8(value),
                 next,
@@ -218,7 +218,7 @@ fn signed_value(input: &[u8], at: usize, len: u32) -> ValueRead
         };
     }
     if len <= 2 {
-        return match num::parse_i16(input, at) {
+        return match numbers::parse_i16(input, at) {
             I16Read::Is { value, next } => ValueRead::Is {
                 value: Value::I16(value),
                 next,
@@ -227,7 +227,7 @@ fn signed_value(input: &[u8], at: usize, len: u32) -> ValueRead
         };
     }
     if len <= 4 {
-        return match num::parse_i32(input, at) {
+        return match numbers::parse_i32(input, at) {
             I32Read::Is { value, next } => ValueRead::Is {
                 value: Value::I32(value),
                 next,
@@ -235,7 +235,7 @@ fn signed_value(input: &[u8], at: usize, len: u32) -> ValueRead
             I32Read::Refused(f) => ValueRead::Refused(f),
         };
     }
-    match num::parse_i64(input, at) {
+    match numbers::parse_i64(input, at) {
         I64Read::Is { value, next } => ValueRead::Is {
             value: Value::I64(value),
             next,
@@ -249,7 +249,7 @@ fn unsigned_value(input: &[u8], at: usize, len: u32) -> ValueRead
     ensures { λ r. ⌜ valueRead r ≡ unsignedValue (narrowest len) (now (input .entry)) at ⌝ }
 {
     if len <= 1 {
-        return match num::parse_u8(input, at) {
+        return match numbers::parse_u8(input, at) {
             U8Read::Is { value, next } => ValueRead::Is {
                 value: Value::U8(value),
                 next,
@@ -258,7 +258,7 @@ fn unsigned_value(input: &[u8], at: usize, len: u32) -> ValueRead
         };
     }
     if len <= 2 {
-        return match num::parse_u16(input, at) {
+        return match numbers::parse_u16(input, at) {
             U16Read::Is { value, next } => ValueRead::Is {
                 value: Value::U16(value),
                 next,
@@ -267,7 +267,7 @@ fn unsigned_value(input: &[u8], at: usize, len: u32) -> ValueRead
         };
     }
     if len <= 4 {
-        return match num::parse_u32(input, at) {
+        return match numbers::parse_u32(input, at) {
             U32Read::Is { value, next } => ValueRead::Is {
                 value: Value::U32(value),
                 next,
@@ -275,7 +275,7 @@ fn unsigned_value(input: &[u8], at: usize, len: u32) -> ValueRead
             U32Read::Refused(f) => ValueRead::Refused(f),
         };
     }
-    match num::parse_u64(input, at) {
+    match numbers::parse_u64(input, at) {
         U64Read::Is { value, next } => ValueRead::Is {
             value: Value::U64(value),
             next,
@@ -299,7 +299,7 @@ fn parse_list_type(input: &[u8], at: usize) -> ValueRead
         PlaceRead::Refused(f) => return ValueRead::Refused(f),
     }
     let mut after = n;
-    match num::parse_u8(input, n) {
+    match numbers::parse_u8(input, n) {
         U8Read::Is { value: tag, next } => {
             if tag == 1 {
                 after = next;
@@ -358,7 +358,7 @@ pub fn parse_opt_u8(input: &[u8], at: usize) -> OptU8Read
             next: at + 1,
         };
     }
-    match num::parse_u8(input, at) {
+    match numbers::parse_u8(input, at) {
         U8Read::Is { value, next } => OptU8Read::Is {
             field: OptU8::Present(value),
             next,
@@ -386,7 +386,7 @@ pub fn parse_opt_i8(input: &[u8], at: usize) -> OptI8Read
             next: at + 1,
         };
     }
-    match num::parse_i8(input, at) {
+    match numbers::parse_i8(input, at) {
         I8Read::Is { value, next } => OptI8Read::Is {
             field: OptI8::Present(value),
             next,

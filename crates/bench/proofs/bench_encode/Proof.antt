@@ -1,5 +1,5 @@
 use mathlib.Core.Path.{_≡_, ap, _∙_}
-use Rattle.encoder.specs.Encode.{Leaves}
+use Rattle.encoder.specs.Encode.{AfterEncode}
 use Rattle.bench.specs.Bench.{counted, lengthIn}
 use Prim.Native.Nat.{ℕ}
 use borrow.Author.Needs.{needs}
@@ -18,7 +18,7 @@ same-length c = search needs
 returns : tie.Need-returns
 returns c =
     let e = c .before .before .before .encode in
-    ap (λ (k : ℕ). counted k (e .last .1 .0)) (c .frame-length .ensures) ∙ ap (λ (t : Leaves). counted (lengthIn (t .answer)) (t .output)) (e .ensures)
+    ap (λ (k : ℕ). counted k (e .last .1 .0)) (c .frame-length .ensures) ∙ ap (λ (t : AfterEncode). counted (lengthIn (t .answer)) (t .output)) (e .ensures)
 
 pub bench-encode-spec : {M : Type 1} → statement M
 bench-encode-spec = tie.close (tie.spec encode-requires frame-length-requires same-length returns)

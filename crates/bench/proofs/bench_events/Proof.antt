@@ -2,8 +2,8 @@ use mathlib.Core.Path.{_≡_, sym, _∙_}
 use denote.Ref.{now}
 use Prim.Native.Nat.{_≤_, _-_, _+_}
 use lib.ListN.{length}
-use Rattle.streaming.specs.Answers.{after}
-use Rattle.slice.proofs.Runs.{not-true, not-false}
+use Rattle.streaming.specs.Answers.{readerAfter}
+use Rattle.decoder_slice.proofs.Runs.{not-true, not-false}
 use Rattle.bench.specs.Bench.{eventsFrom, events}
 use Rattle.bench.proofs.Events.{none-yet, one-more, no-more, none-left}
 use borrow.Author.Needs.{needs}
@@ -30,7 +30,7 @@ returns c =
     let l = c .before .before .before .before .loop in
     let s = now (c .before .before .before .before .before .before .args .input) in
     let r = c .before .before .parse-next in
-    no-more s (l .place) (l .start) (l .pending) (l .n) (length s) (after (r .result)) (c .before .before .before .loop-test .taken) (r .ensures) (sym (c .before .is-event .ensures) ∙ not-true _ (c .if1 .taken)) ∙ l .inv .1
+    no-more s (l .place) (l .start) (l .pending) (l .n) (length s) (readerAfter (r .result)) (c .before .before .before .loop-test .taken) (r .ensures) (sym (c .before .is-event .ensures) ∙ not-true _ (c .if1 .taken)) ∙ l .inv .1
 
 add-n : tie.Need-add-n Inv-loop μ-loop
 add-n c = search needs
@@ -44,7 +44,7 @@ loop-again c =
     let s = now (c .before .before .before .before .before .before .args .input) in
     let r = c .before .before .parse-next in (
       search needs,
-      one-more s (l .place) (l .start) (l .pending) (l .n) (length s) (after (r .result)) (c .before .before .before .loop-test .taken) (r .ensures) (sym (c .before .is-event .ensures) ∙ not-false _ (c .if1 .left)) ∙ l .inv .1,
+      one-more s (l .place) (l .start) (l .pending) (l .n) (length s) (readerAfter (r .result)) (c .before .before .before .loop-test .taken) (r .ensures) (sym (c .before .is-event .ensures) ∙ not-false _ (c .if1 .left)) ∙ l .inv .1,
     )
 
 returns-2 : tie.Need-returns-2 Inv-loop μ-loop

@@ -8,16 +8,16 @@ use Rattle.frame.specs.Frame.{frameOf}
 use Rattle.encoder.specs.Encode.{limit}
 use Rattle.encoder.specs.declared.Encoder.{Encoder}
 use Rattle.encoder.proofs.Encodes.{frame-short}
-use Rattle.slice.proofs.Runs.{not-true, not-false}
+use Rattle.decoder_slice.proofs.Runs.{not-true, not-false}
 use Rattle.bench.specs.Bench.{sum}
 use Rattle.bench.proofs.Streams as streams
-use Rattle.bench.proofs.Streams.{Left}
+use Rattle.bench.proofs.Streams.{LeftToGive}
 use borrow.Author.Needs.{needs}
 use Rattle.bench.proofs.sum_given.Statement.{statement}
 use Rattle.bench.proofs.sum_given.Tie as tie
 
 abbrev Inv-loop : tie.InvT-loop
-Inv-loop payload most e₀ total₀ i₀ e total i = (i ≤ length (frameOf payload)) × (total ≤ 255 * i) × Left e payload (drop i (frameOf payload)) × (total + sum (drop i (frameOf payload)) ≡ sum (frameOf payload))
+Inv-loop payload most e₀ total₀ i₀ e total i = (i ≤ length (frameOf payload)) × (total ≤ 255 * i) × LeftToGive e payload (drop i (frameOf payload)) × (total + sum (drop i (frameOf payload)) ≡ sum (frameOf payload))
 
 abbrev μ-loop : tie.MeasureT-loop
 μ-loop payload most e₀ total₀ i₀ e total i = most - i
@@ -36,7 +36,7 @@ loop-holds c =
     let a = c .before .before .args in (
       search needs,
       search needs,
-      subst (λ (e : Encoder). Left e (now (a .payload)) (frameOf (now (a .payload)))) (sym (c .new .ensures)) (streams.first-left (now (a .payload)) (c .before .before .pre)),
+      subst (λ (e : Encoder). LeftToGive e (now (a .payload)) (frameOf (now (a .payload)))) (sym (c .new .ensures)) (streams.first-left (now (a .payload)) (c .before .before .pre)),
       streams.first-sum (frameOf (now (a .payload))),
     )
 

@@ -4,32 +4,32 @@ use borrow.Author.Needs.{needs}
 use Rattle.decoder.proofs.has_payload.Statement.{statement}
 use Rattle.decoder.proofs.has_payload.Tie as tie
 
-bad-state-requires : tie.Need-bad-state-requires
-bad-state-requires c κs = search needs
+bad-decoder-requires : tie.Need-bad-decoder-requires
+bad-decoder-requires c κs = search needs
 
 returns : tie.Need-returns
 unfolding payloadIn
-returns c = simp (sym (c .before .bad-state .ensures), c .if1 .taken)
+returns c = simp (sym (c .before .bad-decoder .ensures), c .if1 .taken)
 
 wrong-buffer-requires : tie.Need-wrong-buffer-requires
 wrong-buffer-requires c κs = search needs
 
 returns-2 : tie.Need-returns-2
 unfolding payloadIn
-returns-2 c = simp (sym (c .before .before .before .bad-state .ensures), c .before .before .if1 .left, sym (c .before .wrong-buffer .ensures), c .if2 .taken)
+returns-2 c = simp (sym (c .before .before .before .bad-decoder .ensures), c .before .before .if1 .left, sym (c .before .wrong-buffer .ensures), c .if2 .taken)
 
 is-done-requires : tie.Need-is-done-requires
 is-done-requires c κs = search needs
 
 returns-3 : tie.Need-returns-3
 unfolding payloadIn
-returns-3 c = simp (sym (c .before .before .before .before .bad-state .ensures), c .before .before .before .if1 .left, sym (c .before .before .wrong-buffer .ensures), c .before .if2 .left, c .is-done .ensures)
+returns-3 c = simp (sym (c .before .before .before .before .bad-decoder .ensures), c .before .before .before .if1 .left, sym (c .before .before .wrong-buffer .ensures), c .before .if2 .left, c .is-done .ensures)
 
 pub has-payload-spec : {M : Type 1} → statement M
 has-payload-spec =
     tie.close
     (tie.spec
-    bad-state-requires
+    bad-decoder-requires
     returns
     wrong-buffer-requires
     returns-2

@@ -21,27 +21,27 @@ sub-from c = search needs
 add-to : tie.Need-add-to
 add-to c = search needs
 
-slice-aggregate-is : tie.Need-slice-aggregate-is
-slice-aggregate-is c =
+slice-aggregate-same-bytes : tie.Need-slice-aggregate-same-bytes
+slice-aggregate-same-bytes c =
     let a = c .before .before .before .before .args in
     sym (length-take-le (a .a + 1) (now (a .q)) (omega arith))
 
-sub-is : tie.Need-sub-is
-sub-is c = search needs
+sub-same-bytes : tie.Need-sub-same-bytes
+sub-same-bytes c = search needs
 
-part-is-start : tie.Need-part-is-start
-part-is-start c = search needs
+part-same-bytes-start : tie.Need-part-same-bytes-start
+part-same-bytes-start c = search needs
 
-part-is-end : tie.Need-part-is-end
-part-is-end c = search needs
+part-same-bytes-end : tie.Need-part-same-bytes-end
+part-same-bytes-end c = search needs
 
-is-requires : tie.Need-is-requires
-is-requires c κs = search needs
+same-bytes-requires : tie.Need-same-bytes-requires
+same-bytes-requires c κs = search needs
 
 returns-2 : tie.Need-returns-2
 returns-2 c =
     let a = c .before .before .before .before .before .before .args in
-    early-cut (a .a) (now (a .q)) _ (omega arith) (c .before .before .before .before .if1 .left) (c .is .ensures)
+    early-cut (a .a) (now (a .q)) _ (omega arith) (c .before .before .before .before .if1 .left) (c .same-bytes .ensures)
 
 pub is-cut-end-spec : {M : Type 1} → statement M
 is-cut-end-spec =
@@ -51,9 +51,9 @@ is-cut-end-spec =
     slice-aggregate-t
     sub-from
     add-to
-    slice-aggregate-is
-    sub-is
-    part-is-start
-    part-is-end
-    is-requires
+    slice-aggregate-same-bytes
+    sub-same-bytes
+    part-same-bytes-start
+    part-same-bytes-end
+    same-bytes-requires
     returns-2)

@@ -20,8 +20,8 @@ abbrev μ-loop : tie.MeasureT-loop
 loop-holds : tie.Need-loop-holds Inv-loop μ-loop
 loop-holds c = (search needs, search needs, search needs, c .before .before .pre, (refl, refl))
 
-put-plain-requires : tie.Need-put-plain-requires Inv-loop μ-loop
-put-plain-requires c κs =
+put-unescaped-requires : tie.Need-put-unescaped-requires Inv-loop μ-loop
+put-unescaped-requires c κs =
     let l = c .before .before .loop in
     let a = c .before .before .before .before .before .args in
     let p = now (a .payload) in
@@ -40,12 +40,12 @@ add-o c = search needs
 shared-slice-read-b : tie.Need-shared-slice-read-b Inv-loop μ-loop
 shared-slice-read-b c = search needs
 
-push-requires : tie.Need-push-requires Inv-loop μ-loop
-push-requires c κs =
+put-byte-requires : tie.Need-put-byte-requires Inv-loop μ-loop
+put-byte-requires c κs =
     let l = c .before .before .before .before .before .before .before .before .before .loop in
     let a = c .before .before .before .before .before .before .before .before .before .before .before .before .args in
     let p = now (a .payload) in
-    let k = c .before .before .before .before .before .before .put-plain in
+    let k = c .before .before .before .before .before .before .put-unescaped in
     let g = c .before .before .before .run-after in
     let m = k .last .1 .1 .1 .0 in
     let w = plain-done (l .out) m (now (a .out)) p (l .o) (k .result) (l .n) (g .result) (l .i) (a .at) 0 0 (k .ensures .1) (g .ensures .0) (l .inv .4) in
@@ -67,11 +67,11 @@ loop-again c =
     let l = c .before .before .before .before .before .before .before .before .before .before .before .before .before .loop in
     let a = c .before .before .before .before .before .before .before .before .before .before .before .before .before .before .before .before .args in
     let p = now (a .payload) in
-    let k = c .before .before .before .before .before .before .before .before .before .before .put-plain in
+    let k = c .before .before .before .before .before .before .before .before .before .before .put-unescaped in
     let g = c .before .before .before .before .before .before .before .run-after in
     let m = k .last .1 .1 .1 .0 in
     let w = plain-done (l .out) m (now (a .out)) p (l .o) (k .result) (l .n) (g .result) (l .i) (a .at) 0 0 (k .ensures .1) (g .ensures .0) (l .inv .4) in
-    let q = c .before .before .before .push in
+    let q = c .before .before .before .put-byte in
     let h = c .run-with in (
       search needs,
       h .ensures .1,
@@ -88,7 +88,7 @@ loop-again-2 c =
     let l = c .before .before .before .before .before .before .before .loop in
     let a = c .before .before .before .before .before .before .before .before .before .before .args in
     let p = now (a .payload) in
-    let k = c .before .before .before .before .put-plain in
+    let k = c .before .before .before .before .put-unescaped in
     let g = c .before .run-after in
     let m = k .last .1 .1 .1 .0 in
     let w = plain-done (l .out) m (now (a .out)) p (l .o) (k .result) (l .n) (g .result) (l .i) (a .at) 0 0 (k .ensures .1) (g .ensures .0) (l .inv .4) in
@@ -111,12 +111,12 @@ put-escaped-spec =
     Inv-loop
     μ-loop
     loop-holds
-    put-plain-requires
+    put-unescaped-requires
     run-after-requires
     add-i
     add-o
     shared-slice-read-b
-    push-requires
+    put-byte-requires
     run-with-requires
     add-i-2
     loop-less

@@ -86,8 +86,8 @@ returns-5 c =
     c .give-end .ensures ∙ ap (λ (z : ℤ). ended z (c .before .before .before .before .before .before .before .args .place) (c .before .before .before .before .before .before .before .args .crc)) back
     ∙ at-end (c .before .before .before .before .before .before .before .args .place) (c .before .before .before .before .before .before .before .args .crc) (now (c .before .before .before .before .before .before .before .args .payload)) (c .before .before .before .before .before .before .before .args .state) (c .before .before .before .before .state4 .given .0 .0) (c .before .before .before .before .state4 .given .1) (sym (ap lastEnd back) ∙ sym (c .before .before .last-end .ensures) ∙ c .before .if4 .left)
 
-look-requires : tie.Need-look-requires
-look-requires c κs =
+looking-for-escape-requires : tie.Need-looking-for-escape-requires
+looking-for-escape-requires c κs =
     ⊎-elim
     (λ w. let e : c .match .run ≡ 0 = w .4 in omega (arith, e))
     (⊎-elim
@@ -100,7 +100,7 @@ returns-6 c =
     let a = c .before .before .before .args in
     let p = now (a .payload) in
     let run : ℕ → Step = λ n. looked n (a .place) (a .crc) p in
-    c .look .ensures
+    c .looking-for-escape .ensures
     ∙ ⊎-elim
     (λ w. ap run (w .4) ∙ behind-start (a .place) (a .crc) p (a .state) (w .1 .given .0 .0) (w .1 .given .1) (w .3 .left))
     (⊎-elim
@@ -133,5 +133,5 @@ step-spec =
     returns-4
     give-end-requires
     returns-5
-    look-requires
+    looking-for-escape-requires
     returns-6)

@@ -47,15 +47,15 @@ use denote.Triple.Spec.{Meets, tripleOf}
 use denote.Triple.Table.{entered, cited}
 use denote.Triple.Walked.{says, Stays, stay-none, stay-none-slice, walkOf, goes-none, goes-none-slice, Walks, ends-at, walked, walk-meets}
 use denote.Exit.{yes}
-use Rattle.streaming.specs.Next.{After, nextAt}
-use Rattle.streaming.specs.Answers.{after}
+use Rattle.streaming.specs.Next.{ReaderAfter, nextAt}
+use Rattle.streaming.specs.Answers.{readerAfter}
 use Rattle.streaming.specs.declared.Answer.{Answer}
 use Rattle.streaming.specs.declared.Next.{Next}
 use Rattle.streaming.proofs.Next as N
 use Rattle.streaming.proofs.Next.Laws as N′
 use Rattle.streaming.proofs.Answer as E
 use Rattle.streaming.proofs.Answer.Laws as E′
-use Rattle.parser.specs.Reader.{Called, leaves, nextOf}
+use Rattle.parser.specs.Reader.{Called, afterNext, calledNext}
 use Rattle.parser.specs.declared.Parser.{Parser}
 use Rattle.parser.proofs.Lies.{lies-in, lies-out}
 use Rattle.parser.proofs.Parser as T
@@ -84,8 +84,8 @@ abbrev Callee : {M : Type 1} (𝓤 : URA M) (H : Heap 𝓤) (A : Atoms 𝓤) (at
 Callee 𝓤 H A at-mem run = tripleOf 𝓤 H A callee.signature (callee.spec 𝓤 H A at-mem run)
 
 -- a call's numbers, without the input that the reader holds
-abbrev numbers : Called → After
-numbers c = record { said = c .said; place = c .reader .place; start = c .reader .«message_start»; pending = c .reader .pending }
+abbrev numbers : Called → ReaderAfter
+numbers c = record { said = c .said; place = c .reader .place; start = c .reader .start; pending = c .reader .pending }
 
 module _ {M : Type 1} (𝓤 : URA M) (H : Heap 𝓤) (A : Atoms 𝓤) (W : Given 𝓤 H A) (at-mem : Memory → SProp 𝓤) (run : Routine → Fun 𝓤) (κ : Lft) (q : Share) (s : RefT (List ℕ)) (a m p : ℕ) (a-fits : a < 2 ^ 64) (m-fits : m < 2 ^ 64) (p-fits : p < 2 ^ 64) where
   abbrev x : RefT (List ℕ) × (ℕ × (ℕ × (ℕ × Unit {0})))
@@ -107,9 +107,9 @@ module _ {M : Type 1} (𝓤 : URA M) (H : Heap 𝓤) (A : Atoms 𝓤) (W : Given
 
   -- the reader, its type, and as a local of a body has it
   abbrev h : Parser
-  h = record { input = s; place = a; «message_start» = m; pending = p }
+  h = record { input = s; place = a; start = m; pending = p }
 
-  start-fits : h .«message_start» < 2 ^ 64
+  start-fits : h .start < 2 ^ 64
   start-fits = m-fits
 
   abbrev R : RattleType
@@ -143,8 +143,8 @@ module _ {M : Type 1} (𝓤 : URA M) (H : Heap 𝓤) (A : Atoms 𝓤) (W : Given
   parts : ent 𝓤 (sem 𝓤 H A Owns) (sep 𝓤 (sem 𝓤 H A (R .own h (mach h ∷ []))) (sem 𝓤 H A Own))
   parts =
       qed W (‵ Owns ∷ []) ∵ fsplit ! $ move ! (1 ∷ []) $ drop ! $ use1 W (‵ Own ⊛ ‵ Own) (shr-slice-copy 𝓤 H A W (named 0) κ u8 .twice s (v ∷ [])) $ split ! $ nothing ! $
-      owned ! u64 (Is u64) (uint-makes 𝓤 H A W w64) p _ (refl, p-fits) $ fjoin ! $ owned ! usize (Is usize) (uint-makes 𝓤 H A W w64) (h .«message_start») _ (refl, start-fits) $ fjoin ! $
-      owned ! usize (Is usize) (uint-makes 𝓤 H A W w64) a _ (refl, a-fits) $ fjoin ! $ move ! (1 ∷ 0 ∷ []) $ fjoin ! $ use1 W (‵ (R .own h (mach h ∷ []))) (own-shut 𝓤 H A W D L (s, (a, (h .«message_start», (p, tt))))) $ frame ! $ done !
+      owned ! u64 (Is u64) (uint-makes 𝓤 H A W w64) p _ (refl, p-fits) $ fjoin ! $ owned ! usize (Is usize) (uint-makes 𝓤 H A W w64) (h .start) _ (refl, start-fits) $ fjoin ! $
+      owned ! usize (Is usize) (uint-makes 𝓤 H A W w64) a _ (refl, a-fits) $ fjoin ! $ move ! (1 ∷ 0 ∷ []) $ fjoin ! $ use1 W (‵ (R .own h (mach h ∷ []))) (own-shut 𝓤 H A W D L (s, (a, (h .start, (p, tt))))) $ frame ! $ done !
 
   -- the call: the local l that holds the reader is lent for ν ∷ κ under the name δ
   abbrev ref : ℕ → GName → RefT Parser
@@ -159,11 +159,11 @@ module _ {M : Type 1} (𝓤 : URA M) (H : Heap 𝓤) (A : Atoms 𝓤) (W : Given
       nothing ! $ move ! (2 ∷ 0 ∷ []) $ fjoin ! $ move ! (1 ∷ 0 ∷ []) $ join ! $ frame ! $ done !
 
   abbrev Said : Answer → Parser → Type 0
-  Said t z = leaves t z ≡ nextOf h
+  Said t z = afterNext t z ≡ calledNext h
 
   -- the result, of the answer and of the reader that came back
   abbrev made : Answer → Parser → Next
-  made t z = record { answer = t; place = z .place; start = z .«message_start»; pending = z .pending }
+  made t z = record { answer = t; place = z .place; start = z .start; pending = z .pending }
 
   abbrev low : Next → Val
   low = LL.val N.the-type N′.the-laws
@@ -174,7 +174,7 @@ module _ {M : Type 1} (𝓤 : URA M) (H : Heap 𝓤) (A : Atoms 𝓤) (W : Given
   made-is : (t : Answer) (z : Parser) → Is E.the-row t (ev t ∷ []) → Is R z (mach z ∷ []) → Is N.the-row (made t z) (LL.vals N.the-type N′.the-laws (made t z))
   made-is t z f g = LL.owes N.the-type N′.the-laws (made t z) (f, LL.owed D L z _ g .1)
 
-  exits : (r : Next) → after r ≡ nextAt (now s) a m p → Is N.the-row r (LL.vals N.the-type N′.the-laws r) → ent 𝓤 (⋆ 𝓤 H A (‵ (flft κ ql) ∷ (‵ (flft κ qr) ⊛ ‵ ftrue) ∷ ‵ Own ∷ [])) (Post (low r))
+  exits : (r : Next) → readerAfter r ≡ nextAt (now s) a m p → Is N.the-row r (LL.vals N.the-type N′.the-laws r) → ent 𝓤 (⋆ 𝓤 H A (‵ (flft κ ql) ∷ (‵ (flft κ qr) ⊛ ‵ ftrue) ∷ ‵ Own ∷ [])) (Post (low r))
   exits r e is =
       qed W (‵ (flft κ ql) ∷ (‵ (flft κ qr) ⊛ ‵ ftrue) ∷ ‵ Own ∷ []) ∵
       suffices ! _ (ends-at 𝓤 H A self.ended stayed (self.clauses 𝓤 H A at-mem run) W (((κ, tt), (q, tt), tt, x, at), tt) (low r) r (tt, (tt, (tt, (tt, tt)))) (tt, (tt, (tt, (tt, tt))))) $ says ! e $

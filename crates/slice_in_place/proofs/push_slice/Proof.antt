@@ -42,14 +42,14 @@ use denote.Exit.{yes}
 use Rattle.decoder.specs.declared.Decoder.{Decoder}
 use Rattle.decoder.proofs.Decoder as T
 use Rattle.decoder.proofs.Decoder.Laws as T′
-use Rattle.slice.specs.Slice.{leaves, sliceRecord}
-use Rattle.slice.specs.declared.Sliced.{Sliced}
-use Rattle.slice.proofs.Sliced as P
-use Rattle.slice.proofs.Sliced.Laws as P′
-use Rattle.slice.proofs.push_slice as callee
-use Rattle.slice.proofs.push_slice.Symbol as callee-def
-use Rattle.slice.proofs.push_slice.Symbol.{name as #slice·push-slice}
-use Rattle.slice.proofs.push_slice.Met as callee-thm
+use Rattle.decoder_slice.specs.Slice.{afterSlice, sliceRecord}
+use Rattle.decoder_slice.specs.declared.Sliced.{Sliced}
+use Rattle.decoder_slice.proofs.Sliced as P
+use Rattle.decoder_slice.proofs.Sliced.Laws as P′
+use Rattle.decoder_slice.proofs.push_slice as callee
+use Rattle.decoder_slice.proofs.push_slice.Symbol as callee-def
+use Rattle.decoder_slice.proofs.push_slice.Symbol.{name as #slice·push-slice}
+use Rattle.decoder_slice.proofs.push_slice.Met as callee-thm
 use Rattle.slice_in_place.specs.declared.Taken.{Taken}
 use Rattle.slice_in_place.proofs.Taken as K
 use Rattle.slice_in_place.proofs.Taken.Laws as K′
@@ -90,7 +90,7 @@ module _ {M : Type 1} (𝓤 : URA M) (H : Heap 𝓤) (A : Atoms 𝓤) (W : Given
 
   -- what `push_slice` by value ensures, and what its triple binds outside
   abbrev Said : Sliced → List ℕ → Type 0
-  Said r zs = leaves r zs ≡ sliceRecord h (y .now) (z .now)
+  Said r zs = afterSlice r zs ≡ sliceRecord h (y .now) (z .now)
 
   abbrev to : Callee 𝓤 H A at-mem run .Ghost
   to = (((κ′, (κ″, tt)), (q′, (q″, tt)), tt, (h, (y, (z, tt))), (mach ∷ [], (s ∷ [], (c ∷ [], tt)))), tt)
@@ -174,4 +174,4 @@ push-slice-spec 𝓤 H 𝓜 𝓖 𝓡 =
     entered 𝓤 H (tripleOf 𝓤 H (𝓖 .A) self.signature (self.spec 𝓤 H (𝓖 .A) (𝓜 .mem) (𝓡 .run)))
     (tables 𝓤 H 𝓜 𝓡 code.env .C) (tables 𝓤 H 𝓜 𝓡 code.env .Λ) #slice-in-place·push-slice code.function (code.unfolded 𝓤 H 𝓜 𝓡)
     (self-meets 𝓤 H (𝓖 .A) (givenOf 𝓤 H 𝓜 𝓖) (𝓜 .mem) (𝓡 .run) (tablesOf 𝓤 H 𝓜 (tables 𝓤 H 𝓜 𝓡 code.env))
-    (cited 𝓤 H (Callee 𝓤 H (𝓖 .A) (𝓜 .mem) (𝓡 .run)) 𝓜 𝓡 code.env #slice·push-slice callee-def.routine code.calls-slice·push-slice (callee-thm.met 𝓤 H 𝓜 𝓖 𝓡)))
+    (cited 𝓤 H (Callee 𝓤 H (𝓖 .A) (𝓜 .mem) (𝓡 .run)) 𝓜 𝓡 code.env #slice·push-slice callee-def.routine code.calls-decoder-slice·push-slice (callee-thm.met 𝓤 H 𝓜 𝓖 𝓡)))

@@ -44,10 +44,10 @@ use denote.Exit.{yes}
 use Rattle.decoder.specs.declared.Decoder.{Decoder}
 use Rattle.decoder.proofs.Decoder as T
 use Rattle.decoder.proofs.Decoder.Laws as T′
-use Rattle.slice.specs.Slice.{leaves, sliceRecord}
-use Rattle.slice.specs.declared.Sliced.{Sliced}
-use Rattle.slice.proofs.Sliced as P
-use Rattle.slice.proofs.Sliced.Laws as P′
+use Rattle.decoder_slice.specs.Slice.{afterSlice, sliceRecord}
+use Rattle.decoder_slice.specs.declared.Sliced.{Sliced}
+use Rattle.decoder_slice.proofs.Sliced as P
+use Rattle.decoder_slice.proofs.Sliced.Laws as P′
 use Rattle.transport.proofs.Lies.{lies-in, lies-out}
 use Rattle.slice_in_place.specs.declared.Taken.{Taken}
 use Rattle.slice_in_place.proofs.Taken as K
@@ -112,12 +112,12 @@ module _ {M : Type 1} (𝓤 : URA M) (H : Heap 𝓤) (A : Atoms 𝓤) (W : Given
   made t d = record { decoder = d; event = t .event; taken = t .taken }
 
   abbrev Said : Taken → Decoder → List ℕ → Type 0
-  Said t d zs = leaves (made t d) zs ≡ sliceRecord h (y .now) (z .now)
+  Said t d zs = afterSlice (made t d) zs ≡ sliceRecord h (y .now) (z .now)
 
   made-is : (t : Taken) (d : Decoder) (ws : List Val) → Is K.the-row t ws → Is T.the-row d (mach d ∷ []) → Is P.the-row (made t d) (LL.vals P.the-type P′.the-laws (made t d))
   made-is t d ws f g = LL.owes P.the-type P′.the-laws (made t d) (g, LL.owed K.the-type K′.the-laws t ws f)
 
-  exits : (r : Sliced) (zs : List ℕ) → leaves r zs ≡ sliceRecord h (y .now) (z .now) → length zs ≡ length (y .now) → Is T.the-row h (mach h ∷ []) → Is P.the-row r (LL.vals P.the-type P′.the-laws r)
+  exits : (r : Sliced) (zs : List ℕ) → afterSlice r zs ≡ sliceRecord h (y .now) (z .now) → length zs ≡ length (y .now) → Is T.the-row h (mach h ∷ []) → Is P.the-row r (LL.vals P.the-type P′.the-laws r)
       → ent 𝓤 (⋆ 𝓤 H A ((‵ (flft κ q) ⊛ ‵ (flft κ′ q′) ⊛ ‵ ftrue) ∷ ‵ (finally u8 (y .name) zs) ∷ ‵ Own ∷ [])) (Post (LL.val P.the-type P′.the-laws r))
   exits r zs e l g is =
       qed W ((‵ (flft κ q) ⊛ ‵ (flft κ′ q′) ⊛ ‵ ftrue) ∷ ‵ (finally u8 (y .name) zs) ∷ ‵ Own ∷ []) ∵

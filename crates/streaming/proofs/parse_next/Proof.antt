@@ -8,19 +8,19 @@ returns : tie.Need-returns
 unfolding nextAt
 returns c = rw (lt-ltb _ _ (c .if1 .taken))
 
-is-sound-requires : tie.Need-is-sound-requires
-is-sound-requires c κs = search needs
+is-sound-reader-requires : tie.Need-is-sound-reader-requires
+is-sound-reader-requires c κs = search needs
 
-step-requires : tie.Need-step-requires
-step-requires c κs = search needs
+next-event-requires : tie.Need-next-event-requires
+next-event-requires c κs = search needs
 
 returns-2 : tie.Need-returns-2
 unfolding nextAt
-returns-2 c = rw (le-ltb _ _ (c .before .before .before .if1 .left), ← c .before .before .is-sound .ensures, c .before .if2 .taken) (c .step .ensures)
+returns-2 c = rw (le-ltb _ _ (c .before .before .before .if1 .left), ← c .before .before .is-sound-reader .ensures, c .before .if2 .taken) (c .next-event .ensures)
 
 returns-3 : tie.Need-returns-3
 unfolding nextAt
-returns-3 c = rw (le-ltb _ _ (c .before .before .if1 .left), ← c .before .is-sound .ensures, c .if2 .left)
+returns-3 c = rw (le-ltb _ _ (c .before .before .if1 .left), ← c .before .is-sound-reader .ensures, c .if2 .left)
 
 pub parse-next-spec : {M : Type 1} → statement M
-parse-next-spec = tie.close (tie.spec returns is-sound-requires step-requires returns-2 returns-3)
+parse-next-spec = tie.close (tie.spec returns is-sound-reader-requires next-event-requires returns-2 returns-3)

@@ -5,7 +5,7 @@ use borrow.Author.Tests.{eq-eqb, ne-eqb}
 use lib.ListN.{length, drop}
 use Rattle.tlf.specs.Read.{guard}
 use Rattle.tlf.specs.Lengths.{lengthFrom}
-use Rattle.tlf.proofs.Lengths.{length-stop, length-end, length-next}
+use Rattle.tlf.proofs.Lengths.{length-stop, length-cut, length-next}
 use Rattle.tlf.proofs.more_bytes.Statement.{statement}
 use Rattle.tlf.proofs.more_bytes.Tie as tie
 
@@ -23,7 +23,7 @@ returns : tie.Need-returns Inv-loop μ-loop
 returns c =
     let a = c .before .before .before .before .args in
     let l = c .before .before .loop in
-    rw (← l .inv, c .before .loop-test .taken) (sym (length-end (a .input .now) (a .start) (l .next) (l .len) (c .if1 .taken)))
+    rw (← l .inv, c .before .loop-test .taken) (sym (length-cut (a .input .now) (a .start) (l .next) (l .len) (c .if1 .taken)))
 
 shared-slice-read-b : tie.Need-shared-slice-read-b Inv-loop μ-loop
 shared-slice-read-b c = search needs

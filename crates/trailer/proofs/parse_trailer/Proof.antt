@@ -2,7 +2,7 @@ use native.Mathlib.Omega.{arith}
 use borrow.Author.Tests.{eq-eqb, ne-eqb}
 use Rattle.tlf.specs.Read.{then, guard}
 use Rattle.tlf.proofs.Read.{ok-at}
-use Rattle.num.proofs.Ahead.{unsigned-found}
+use Rattle.numbers.proofs.Ahead.{unsigned-found}
 use Rattle.common.proofs.Fields.{message-end-found}
 use Rattle.trailer.specs.Trailer.{trailerAt}
 use borrow.Author.Needs.{needs}
@@ -43,8 +43,8 @@ returns-2 c =
     let p1 = p2 .before .before in
     rw (← p1 .parse-u16 .ensures, p2 .value .given .1, ← p3 .parse-message-end .ensures, p4 .f2 .given .1)
 
-checksum-requires : tie.Need-checksum-requires
-checksum-requires c κs =
+message-crc-requires : tie.Need-message-crc-requires
+message-crc-requires c κs =
     let p = c .before .before .before .before in
     let h = ok-at (rw (p .before .value .given .1) at (p .before .before .before .parse-u16 .ensures)) (unsigned-found 2 _ _) in
     let w = h .1 in
@@ -63,7 +63,7 @@ returns-3 c =
     let p3 = p4 .before .before in
     let p2 = p3 .before .before in
     let p1 = p2 .before .before in
-    rw (← p1 .parse-u16 .ensures, p2 .value .given .1, ← p3 .parse-message-end .ensures, p4 .next .given .1, ← p5 .checksum .ensures, ← p6 .swap-bytes .ensures, eq-eqb _ _ (c .if1 .taken))
+    rw (← p1 .parse-u16 .ensures, p2 .value .given .1, ← p3 .parse-message-end .ensures, p4 .next .given .1, ← p5 .message-crc .ensures, ← p6 .swap-bytes .ensures, eq-eqb _ _ (c .if1 .taken))
 
 returns-4 : tie.Need-returns-4
 unfolding trailerAt then guard
@@ -74,7 +74,7 @@ returns-4 c =
     let p3 = p4 .before .before in
     let p2 = p3 .before .before in
     let p1 = p2 .before .before in
-    rw (← p1 .parse-u16 .ensures, p2 .value .given .1, ← p3 .parse-message-end .ensures, p4 .next .given .1, ← p5 .checksum .ensures, ← p6 .swap-bytes .ensures, ne-eqb _ _ (c .if1 .left))
+    rw (← p1 .parse-u16 .ensures, p2 .value .given .1, ← p3 .parse-message-end .ensures, p4 .next .given .1, ← p5 .message-crc .ensures, ← p6 .swap-bytes .ensures, ne-eqb _ _ (c .if1 .left))
 
 pub parse-trailer-spec : {M : Type 1} → statement M
 parse-trailer-spec =
@@ -88,7 +88,7 @@ parse-trailer-spec =
     enum-known-next
     enum-known-f-2
     returns-2
-    checksum-requires
+    message-crc-requires
     swap-bytes-requires
     returns-3
     returns-4)

@@ -36,7 +36,7 @@ use denote.Triple.Entry.{onEntry}
 use denote.Triple.Spec.{Meets, tripleOf}
 use denote.Triple.Table.{entered, cited}
 use denote.Triple.Walked.{says, Stays, stay-ref, walkOf, AllGo, goes-ref, Walks, ends-at, walked, walk-meets}
-use Rattle.decoder.specs.Record.{leavesFinal, finalizeRecord}
+use Rattle.decoder.specs.Record.{afterFinalize, finalizeRecord}
 use Rattle.decoder.specs.declared.Decoder.{Decoder}
 use Rattle.decoder.specs.declared.Finalized.{Finalized}
 use Rattle.decoder.specs.declared.Event.{Event}
@@ -81,14 +81,14 @@ module _ {M : Type 1} (𝓤 : URA M) (H : Heap 𝓤) (A : Atoms 𝓤) (W : Given
   goes : ent 𝓤 (sem 𝓤 H A (T.the-row .own h (mach ∷ []))) (Callee 𝓤 H A at-mem run .pre to)
   goes = qed W (‵ (T.the-row .own h (mach ∷ [])) ∷ []) ∵ nothing ! $ move ! (1 ∷ 0 ∷ []) $ join ! $ nothing ! $ join ! $ frame ! $ done !
 
-  said : (r : Finalized) → ent 𝓤 (ensured 𝓤 H A callee.ended (callee.clauses 𝓤 H A at-mem run) tt (h, tt) tt r) (fact 𝓤 (leavesFinal r ≡ finalizeRecord h))
-  said r = exE 𝓤 _ (λ ws. snd∗ 𝓤 (sem 𝓤 H A (lasts callee.ended tt (h, tt) ws)) (fact 𝓤 (leavesFinal r ≡ finalizeRecord h)))
+  said : (r : Finalized) → ent 𝓤 (ensured 𝓤 H A callee.ended (callee.clauses 𝓤 H A at-mem run) tt (h, tt) tt r) (fact 𝓤 (afterFinalize r ≡ finalizeRecord h))
+  said r = exE 𝓤 _ (λ ws. snd∗ 𝓤 (sem 𝓤 H A (lasts callee.ended tt (h, tt) ws)) (fact 𝓤 (afterFinalize r ≡ finalizeRecord h)))
 
   -- the result's machine value
   abbrev ev : Finalized → Val
   ev r = EL.val E.the-type E′.the-laws (r .event)
 
-  exits : (r : Finalized) → leavesFinal r ≡ finalizeRecord h → Is E.the-row (r .event) (ev r ∷ []) → ent 𝓤 (sep 𝓤 (A .obs γ (T.the-row .coded .code (r .decoder))) (sep 𝓤 (A .bor κ (Body (mem T.the-row) b o γ)) (A .lft κ q))) (Post (ev r))
+  exits : (r : Finalized) → afterFinalize r ≡ finalizeRecord h → Is E.the-row (r .event) (ev r ∷ []) → ent 𝓤 (sep 𝓤 (A .obs γ (T.the-row .coded .code (r .decoder))) (sep 𝓤 (A .bor κ (Body (mem T.the-row) b o γ)) (A .lft κ q))) (Post (ev r))
   exits r e is =
       qed W (‵ (fobs γ (T.the-row .coded .code (r .decoder))) ∷ ‵ (fbor κ (Body (mem T.the-row) b o γ)) ∷ ‵ (flft κ q) ∷ []) ∵
       suffices ! _ (ends-at 𝓤 H A self.ended stayed (self.clauses 𝓤 H A at-mem run) W (((κ, tt), (q, tt), tt, x, at), tt) (ev r) (r .event) (r .decoder, tt) (tt, tt)) $
@@ -110,7 +110,7 @@ module _ {M : Type 1} (𝓤 : URA M) (H : Heap 𝓤) (A : Atoms 𝓤) (W : Given
         owned ! T.the-row (Is T.the-row) (LL.makes T.the-type T′.the-plain 𝓤 H A) h _ g $ use1 W (raw (Callee 𝓤 H A at-mem run .pre to)) goes $
         calls-at ! fm (Callee 𝓤 H A at-mem run) known to (and-then ! (load ! (from ! (stop !)) (look ! 6 refl)) (no-more !)) (λ u.
         use1 W (later (some (λ (r : Finalized). (‵ ftrue ⊛ ‵ (P.the-row .own r (u ∷ []))) ⊛ raw (ensured 𝓤 H A callee.ended (callee.clauses 𝓤 H A at-mem run) tt (h, tt) tt r)))) (id⊢ 𝓤 _) $ await ! tt $ pick ! (λ r.
-        split ! $ move ! (1 ∷ []) $ use1 W (raw (fact 𝓤 (leavesFinal r ≡ finalizeRecord h))) (said r) $ heard ! (leavesFinal r ≡ finalizeRecord h) (λ e. split ! $ drop ! $
+        split ! $ move ! (1 ∷ []) $ use1 W (raw (fact 𝓤 (afterFinalize r ≡ finalizeRecord h))) (said r) $ heard ! (afterFinalize r ≡ finalizeRecord h) (λ e. split ! $ drop ! $
         -- [the result; the struct's cell; what a Decoder owns; the open borrow; obs; auth; _3; …; _2; …; _1; …; room for _0; …]
         peeks ! P.the-row (Is P.the-row) (shows 𝓤 H A P.the-row) r (u ∷ []) (λ is.
         land ! (from ! (stop !)) (init ! 8 refl (LL.lawful P.the-type P′.the-laws 𝓤 H A W .typed r _ is .0)) $

@@ -38,7 +38,7 @@ use denote.Triple.Spec.{Meets, tripleOf}
 use denote.Triple.Table.{entered, cited}
 use denote.Triple.Walked.{says, Stays, stay-none, walkOf, goes-none, Walks, ends-at, walked, walk-meets}
 use denote.Exit.{yes}
-use Rattle.decoder.specs.Record.{leavesFinal, finalizeRecord}
+use Rattle.decoder.specs.Record.{afterFinalize, finalizeRecord}
 use Rattle.decoder.specs.declared.Decoder.{Decoder}
 use Rattle.decoder.specs.declared.Finalized.{Finalized}
 use Rattle.decoder.specs.declared.Event.{Event}
@@ -91,12 +91,12 @@ module _ {M : Type 1} (𝓤 : URA M) (H : Heap 𝓤) (A : Atoms 𝓤) (W : Given
   made t d = record { decoder = d; event = t }
 
   abbrev Said : Event → Decoder → Type 0
-  Said t d = leavesFinal (made t d) ≡ finalizeRecord h
+  Said t d = afterFinalize (made t d) ≡ finalizeRecord h
 
   made-is : (t : Event) (d : Decoder) → Is E.the-row t (EL.val E.the-type E′.the-laws t ∷ []) → Is T.the-row d (mach d ∷ []) → Is P.the-row (made t d) (LL.vals P.the-type P′.the-laws (made t d))
   made-is t d f g = LL.owes P.the-type P′.the-laws (made t d) (g, (f, tt))
 
-  exits : (r : Finalized) → leavesFinal r ≡ finalizeRecord h → Is P.the-row r (LL.vals P.the-type P′.the-laws r) → ent 𝓤 (⋆ 𝓤 H A (‵ ftrue ∷ ‵ (owns (T.the-row ∷ []) (h, tt) at) ∷ [])) (Post (LL.val P.the-type P′.the-laws r))
+  exits : (r : Finalized) → afterFinalize r ≡ finalizeRecord h → Is P.the-row r (LL.vals P.the-type P′.the-laws r) → ent 𝓤 (⋆ 𝓤 H A (‵ ftrue ∷ ‵ (owns (T.the-row ∷ []) (h, tt) at) ∷ [])) (Post (LL.val P.the-type P′.the-laws r))
   exits r e is =
       qed W (‵ ftrue ∷ ‵ (owns (T.the-row ∷ []) (h, tt) at) ∷ []) ∵
       suffices ! _ (ends-at 𝓤 H A self.ended stayed (self.clauses 𝓤 H A at-mem run) W ((tt, tt, tt, (h, tt), at), tt) (LL.val P.the-type P′.the-laws r) r (tt, tt) (tt, tt)) $

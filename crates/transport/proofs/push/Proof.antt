@@ -41,7 +41,7 @@ use denote.Triple.Spec.{Meets, tripleOf}
 use denote.Triple.Table.{entered, cited}
 use denote.Triple.Walked.{says, Stays, stay-ref, stay-none, gave-slice, walkOf, goes-ref, goes-none, goes-gave-slice, Walks, ends-at, walked, walk-meets}
 use denote.Exit.{yes}
-use Rattle.decoder.specs.Record.{leaves, pushRecord}
+use Rattle.decoder.specs.Record.{afterPush, pushRecord}
 use Rattle.decoder.specs.declared.Decoder.{Decoder}
 use Rattle.decoder.specs.declared.Pushed.{Pushed}
 use Rattle.decoder.specs.declared.Event.{Event}
@@ -89,7 +89,7 @@ module _ {M : Type 1} (𝓤 : URA M) (H : Heap 𝓤) (A : Atoms 𝓤) (W : Given
 
   -- what `push_byte` ensures, and what its triple binds outside
   abbrev Said : Pushed → List ℕ → Type 0
-  Said r zs = leaves r zs ≡ pushRecord h (y .now) v
+  Said r zs = afterPush r zs ≡ pushRecord h (y .now) v
 
   abbrev to : Callee 𝓤 H A at-mem run .Ghost
   to = (((κ′, tt), (q′, tt), tt, (h, (y, (v, tt))), (mach ∷ [], (s ∷ [], (vint w8 v ∷ [], tt)))), tt)

@@ -43,7 +43,7 @@ use denote.Triple.Spec.{Meets, tripleOf}
 use denote.Triple.Table.{entered, cited}
 use denote.Triple.Walked.{says, Stays, stay-none, gave-slice, walkOf, goes-none, goes-gave-slice, Walks, ends-at, walked, walk-meets}
 use denote.Exit.{yes}
-use Rattle.decoder.specs.Record.{leaves, pushRecord}
+use Rattle.decoder.specs.Record.{afterPush, pushRecord}
 use Rattle.decoder.specs.declared.Decoder.{Decoder}
 use Rattle.decoder.specs.declared.Pushed.{Pushed}
 use Rattle.decoder.specs.declared.Event.{Event}
@@ -105,12 +105,12 @@ module _ {M : Type 1} (𝓤 : URA M) (H : Heap 𝓤) (A : Atoms 𝓤) (W : Given
   made t d = record { decoder = d; event = t }
 
   abbrev Said : Event → Decoder → List ℕ → Type 0
-  Said t d zs = leaves (made t d) zs ≡ pushRecord h (y .now) v
+  Said t d zs = afterPush (made t d) zs ≡ pushRecord h (y .now) v
 
   made-is : (t : Event) (d : Decoder) → Is E.the-row t (EL.val E.the-type E′.the-laws t ∷ []) → Is T.the-row d (mach d ∷ []) → Is P.the-row (made t d) (LL.vals P.the-type P′.the-laws (made t d))
   made-is t d f g = LL.owes P.the-type P′.the-laws (made t d) (g, (f, tt))
 
-  exits : (r : Pushed) (zs : List ℕ) → leaves r zs ≡ pushRecord h (y .now) v → length zs ≡ length (y .now) → Is T.the-row h (mach h ∷ []) → Is P.the-row r (LL.vals P.the-type P′.the-laws r)
+  exits : (r : Pushed) (zs : List ℕ) → afterPush r zs ≡ pushRecord h (y .now) v → length zs ≡ length (y .now) → Is T.the-row h (mach h ∷ []) → Is P.the-row r (LL.vals P.the-type P′.the-laws r)
       → ent 𝓤 (⋆ 𝓤 H A ((‵ (flft κ q) ⊛ ‵ ftrue) ∷ ‵ (finally u8 (y .name) zs) ∷ [])) (Post (LL.val P.the-type P′.the-laws r))
   exits r zs e l g is =
       qed W ((‵ (flft κ q) ⊛ ‵ ftrue) ∷ ‵ (finally u8 (y .name) zs) ∷ []) ∵

@@ -37,13 +37,13 @@ use denote.Triple.Entry.{onEntry}
 use denote.Triple.Spec.{Meets, tripleOf}
 use denote.Triple.Table.{entered, cited}
 use denote.Triple.Walked.{says, Stays, stay-ref, walkOf, AllGo, goes-ref, Walks, ends-at, walked, walk-meets}
-use Rattle.decoder.specs.Record.{leavesReset, resetRecord}
+use Rattle.decoder.specs.Record.{afterReset, resetRecord}
 use Rattle.decoder.specs.declared.Decoder.{Decoder}
-use Rattle.decoder.specs.declared.Resetted.{Resetted}
+use Rattle.decoder.specs.declared.AfterReset.{AfterReset}
 use Rattle.decoder.proofs.Decoder as T
 use Rattle.decoder.proofs.Decoder.Laws as T′
-use Rattle.decoder.proofs.Resetted as P
-use Rattle.decoder.proofs.Resetted.Laws as P′
+use Rattle.decoder.proofs.AfterReset as P
+use Rattle.decoder.proofs.AfterReset.Laws as P′
 use Rattle.decoder.proofs.Decoder.reset as callee
 use Rattle.decoder.proofs.Decoder.reset.Symbol as callee-def
 use Rattle.decoder.proofs.Decoder.reset.Symbol.{name as #decoder·Decoder·reset}
@@ -79,14 +79,14 @@ module _ {M : Type 1} (𝓤 : URA M) (H : Heap 𝓤) (A : Atoms 𝓤) (W : Given
   goes : ent 𝓤 (sem 𝓤 H A (T.the-row .own h (mach ∷ []))) (Callee 𝓤 H A at-mem run .pre to)
   goes = qed W (‵ (T.the-row .own h (mach ∷ [])) ∷ []) ∵ nothing ! $ move ! (1 ∷ 0 ∷ []) $ join ! $ nothing ! $ join ! $ frame ! $ done !
 
-  said : (r : Resetted) → ent 𝓤 (ensured 𝓤 H A callee.ended (callee.clauses 𝓤 H A at-mem run) tt (h, tt) tt r) (fact 𝓤 (leavesReset r ≡ resetRecord h))
-  said r = exE 𝓤 _ (λ ws. snd∗ 𝓤 (sem 𝓤 H A (lasts callee.ended tt (h, tt) ws)) (fact 𝓤 (leavesReset r ≡ resetRecord h)))
+  said : (r : AfterReset) → ent 𝓤 (ensured 𝓤 H A callee.ended (callee.clauses 𝓤 H A at-mem run) tt (h, tt) tt r) (fact 𝓤 (afterReset r ≡ resetRecord h))
+  said r = exE 𝓤 _ (λ ws. snd∗ 𝓤 (sem 𝓤 H A (lasts callee.ended tt (h, tt) ws)) (fact 𝓤 (afterReset r ≡ resetRecord h)))
 
   -- the result's machine value
-  abbrev ev : Resetted → Val
+  abbrev ev : AfterReset → Val
   ev r = vint w32 (r .count)
 
-  exits : (r : Resetted) → leavesReset r ≡ resetRecord h → Is u32 (r .count) (ev r ∷ []) → ent 𝓤 (sep 𝓤 (A .obs γ (T.the-row .coded .code (r .decoder))) (sep 𝓤 (A .bor κ (Body (mem T.the-row) b o γ)) (A .lft κ q))) (Post (ev r))
+  exits : (r : AfterReset) → afterReset r ≡ resetRecord h → Is u32 (r .count) (ev r ∷ []) → ent 𝓤 (sep 𝓤 (A .obs γ (T.the-row .coded .code (r .decoder))) (sep 𝓤 (A .bor κ (Body (mem T.the-row) b o γ)) (A .lft κ q))) (Post (ev r))
   exits r e is =
       qed W (‵ (fobs γ (T.the-row .coded .code (r .decoder))) ∷ ‵ (fbor κ (Body (mem T.the-row) b o γ)) ∷ ‵ (flft κ q) ∷ []) ∵
       suffices ! _ (ends-at 𝓤 H A self.ended stayed (self.clauses 𝓤 H A at-mem run) W (((κ, tt), (q, tt), tt, x, at), tt) (ev r) (r .count) (r .decoder, tt) (tt, tt)) $
@@ -107,8 +107,8 @@ module _ {M : Type 1} (𝓤 : URA M) (H : Heap 𝓤) (A : Atoms 𝓤) (W : Given
         assigns ! (of-opd ! (load ! (from ! (hop ! (look ! 9 refl) (stop !))) (look-raw ! 0 refl))) (from ! (stop !)) (init ! 5 refl (LL.lawful T.the-type T′.the-laws 𝓤 H A W .typed h _ g .0)) $
         owned ! T.the-row (Is T.the-row) (LL.makes T.the-type T′.the-plain 𝓤 H A) h _ g $ use1 W (raw (Callee 𝓤 H A at-mem run .pre to)) goes $
         calls-at ! fm (Callee 𝓤 H A at-mem run) known to (and-then ! (load ! (from ! (stop !)) (look ! 6 refl)) (no-more !)) (λ u.
-        use1 W (later (some (λ (r : Resetted). (‵ ftrue ⊛ ‵ (P.the-row .own r (u ∷ []))) ⊛ raw (ensured 𝓤 H A callee.ended (callee.clauses 𝓤 H A at-mem run) tt (h, tt) tt r)))) (id⊢ 𝓤 _) $ await ! tt $ pick ! (λ r.
-        split ! $ move ! (1 ∷ []) $ use1 W (raw (fact 𝓤 (leavesReset r ≡ resetRecord h))) (said r) $ heard ! (leavesReset r ≡ resetRecord h) (λ e. split ! $ drop ! $
+        use1 W (later (some (λ (r : AfterReset). (‵ ftrue ⊛ ‵ (P.the-row .own r (u ∷ []))) ⊛ raw (ensured 𝓤 H A callee.ended (callee.clauses 𝓤 H A at-mem run) tt (h, tt) tt r)))) (id⊢ 𝓤 _) $ await ! tt $ pick ! (λ r.
+        split ! $ move ! (1 ∷ []) $ use1 W (raw (fact 𝓤 (afterReset r ≡ resetRecord h))) (said r) $ heard ! (afterReset r ≡ resetRecord h) (λ e. split ! $ drop ! $
         -- [the result; the struct's cell; what a Decoder owns; the open borrow; obs; auth; _3; …; _2; …; _1; …; room for _0; …]
         peeks ! P.the-row (Is P.the-row) (shows 𝓤 H A P.the-row) r (u ∷ []) (λ is.
         land ! (from ! (stop !)) (init ! 8 refl (LL.lawful P.the-type P′.the-laws 𝓤 H A W .typed r _ is .0)) $

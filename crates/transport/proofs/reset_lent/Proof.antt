@@ -39,13 +39,13 @@ use denote.Triple.Spec.{Meets, tripleOf}
 use denote.Triple.Table.{entered, cited}
 use denote.Triple.Walked.{says, Stays, stay-none, walkOf, goes-none, Walks, ends-at, walked, walk-meets}
 use denote.Exit.{yes}
-use Rattle.decoder.specs.Record.{leavesReset, resetRecord}
+use Rattle.decoder.specs.Record.{afterReset, resetRecord}
 use Rattle.decoder.specs.declared.Decoder.{Decoder}
-use Rattle.decoder.specs.declared.Resetted.{Resetted}
+use Rattle.decoder.specs.declared.AfterReset.{AfterReset}
 use Rattle.decoder.proofs.Decoder as T
 use Rattle.decoder.proofs.Decoder.Laws as T′
-use Rattle.decoder.proofs.Resetted as P
-use Rattle.decoder.proofs.Resetted.Laws as P′
+use Rattle.decoder.proofs.AfterReset as P
+use Rattle.decoder.proofs.AfterReset.Laws as P′
 use Rattle.transport.proofs.Lies.{lies-in, lies-out}
 use Rattle.transport.proofs.reset as callee
 use Rattle.transport.proofs.reset.Symbol as callee-def
@@ -85,16 +85,16 @@ module _ {M : Type 1} (𝓤 : URA M) (H : Heap 𝓤) (A : Atoms 𝓤) (W : Given
       qed W (‵ (flft κ fullShare) ∷ ‵ (MutRef (named 0) κ T.the-row .own (args l δ .0) (vptr l 0 ∷ [])) ∷ []) ∵
       nothing ! $ move ! (1 ∷ 0 ∷ []) $ join ! $ nothing ! $ move ! (2 ∷ 0 ∷ []) $ fjoin ! $ move ! (1 ∷ 0 ∷ []) $ join ! $ frame ! $ done !
 
-  abbrev made : ℕ → Decoder → Resetted
+  abbrev made : ℕ → Decoder → AfterReset
   made t d = record { decoder = d; count = t }
 
   abbrev Said : ℕ → Decoder → Type 0
-  Said t d = leavesReset (made t d) ≡ resetRecord h
+  Said t d = afterReset (made t d) ≡ resetRecord h
 
   made-is : (t : ℕ) (d : Decoder) → Is u32 t (vint w32 t ∷ []) → Is T.the-row d (mach d ∷ []) → Is P.the-row (made t d) (LL.vals P.the-type P′.the-laws (made t d))
   made-is t d f g = LL.owes P.the-type P′.the-laws (made t d) (g, (f, tt))
 
-  exits : (r : Resetted) → leavesReset r ≡ resetRecord h → Is P.the-row r (LL.vals P.the-type P′.the-laws r) → ent 𝓤 (⋆ 𝓤 H A (‵ ftrue ∷ ‵ (owns (T.the-row ∷ []) (h, tt) at) ∷ [])) (Post (LL.val P.the-type P′.the-laws r))
+  exits : (r : AfterReset) → afterReset r ≡ resetRecord h → Is P.the-row r (LL.vals P.the-type P′.the-laws r) → ent 𝓤 (⋆ 𝓤 H A (‵ ftrue ∷ ‵ (owns (T.the-row ∷ []) (h, tt) at) ∷ [])) (Post (LL.val P.the-type P′.the-laws r))
   exits r e is =
       qed W (‵ ftrue ∷ ‵ (owns (T.the-row ∷ []) (h, tt) at) ∷ []) ∵
       suffices ! _ (ends-at 𝓤 H A self.ended stayed (self.clauses 𝓤 H A at-mem run) W ((tt, tt, tt, (h, tt), at), tt) (LL.val P.the-type P′.the-laws r) r (tt, tt) (tt, tt)) $

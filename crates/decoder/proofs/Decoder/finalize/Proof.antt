@@ -4,11 +4,11 @@ use borrow.Author.Needs.{needs}
 use Rattle.decoder.proofs.Decoder.finalize.Statement.{statement}
 use Rattle.decoder.proofs.Decoder.finalize.Tie as tie
 
-bad-state-requires : tie.Need-bad-state-requires
-bad-state-requires c κs = search needs
+bad-decoder-requires : tie.Need-bad-decoder-requires
+bad-decoder-requires c κs = search needs
 
 returns : tie.Need-returns
-returns c = final-bad (c .before .before .args .self) (sym (c .before .bad-state .ensures) ∙ c .if1 .taken)
+returns c = final-bad (c .before .before .args .self) (sym (c .before .bad-decoder .ensures) ∙ c .if1 .taken)
 
 new-requires : tie.Need-new-requires
 new-requires c κs = search needs
@@ -17,7 +17,7 @@ is-fresh-requires : tie.Need-is-fresh-requires
 is-fresh-requires c κs = search needs
 
 returns-2 : tie.Need-returns-2
-returns-2 c = simp (c .before .before .new .ensures) (final-fresh (c .before .before .before .before .before .args .self) (sym (c .before .before .before .before .bad-state .ensures) ∙ c .before .before .before .if1 .left) (sym (c .before .is-fresh .ensures) ∙ c .if2 .taken))
+returns-2 c = simp (c .before .before .new .ensures) (final-fresh (c .before .before .before .before .before .args .self) (sym (c .before .before .before .before .bad-decoder .ensures) ∙ c .before .before .before .if1 .left) (sym (c .before .is-fresh .ensures) ∙ c .if2 .taken))
 
 is-done-requires : tie.Need-is-done-requires
 is-done-requires c κs = search needs
@@ -25,18 +25,18 @@ is-done-requires c κs = search needs
 returns-3 : tie.Need-returns-3
 returns-3 c =
     simp (c .before .before .before .before .new .ensures)
-    (final-done (c .before .before .before .before .before .before .before .args .self) (sym (c .before .before .before .before .before .before .bad-state .ensures) ∙ c .before .before .before .before .before .if1 .left) (sym (c .before .before .before .is-fresh .ensures) ∙ c .before .before .if2 .left) (sym (c .before .is-done .ensures) ∙ c .if3 .taken))
+    (final-done (c .before .before .before .before .before .before .before .args .self) (sym (c .before .before .before .before .before .before .bad-decoder .ensures) ∙ c .before .before .before .before .before .if1 .left) (sym (c .before .before .before .is-fresh .ensures) ∙ c .before .before .if2 .left) (sym (c .before .is-done .ensures) ∙ c .if3 .taken))
 
 returns-4 : tie.Need-returns-4
 returns-4 c =
     simp (c .before .before .before .before .new .ensures)
-    (final-lost (c .before .before .before .before .before .before .before .args .self) (sym (c .before .before .before .before .before .before .bad-state .ensures) ∙ c .before .before .before .before .before .if1 .left) (sym (c .before .before .before .is-fresh .ensures) ∙ c .before .before .if2 .left) (sym (c .before .is-done .ensures) ∙ c .if3 .left))
+    (final-lost (c .before .before .before .before .before .before .before .args .self) (sym (c .before .before .before .before .before .before .bad-decoder .ensures) ∙ c .before .before .before .before .before .if1 .left) (sym (c .before .before .before .is-fresh .ensures) ∙ c .before .before .if2 .left) (sym (c .before .is-done .ensures) ∙ c .if3 .left))
 
 pub finalize-spec : {M : Type 1} → statement M
 finalize-spec =
     tie.close
     (tie.spec
-    bad-state-requires
+    bad-decoder-requires
     returns
     new-requires
     is-fresh-requires

@@ -1,7 +1,7 @@
 use mathlib.Core.Path.{sym, ap, _∙_}
 use denote.Ref.{now}
 use lib.ListN.{length}
-use Rattle.decoder.specs.Record.{pushRecord, leaves}
+use Rattle.decoder.specs.Record.{pushRecord, afterPush}
 use Rattle.decoder.specs.declared.Decoder.{Decoder}
 use Rattle.decoder.proofs.Plain.{plain-says, plain-fits, push-plain}
 use borrow.Author.Needs.{needs}
@@ -50,7 +50,7 @@ returns-2 c =
     let pushed = c .before .before .before .before .push-any in
     let asked = c .before .before .before .before .before .before .in-state in
     let a = c .before .before .before .before .before .before .before .before .before .before .args in
-    ap (λ (x : Decoder). leaves (record { decoder = x; event = pushed .result .event }) (pushed .last .1 .0)) (c .in-state2 .ensures)
+    ap (λ (x : Decoder). afterPush (record { decoder = x; event = pushed .result .event }) (pushed .last .1 .0)) (c .in-state2 .ensures)
     ∙ pushed .ensures
     ∙ ap (λ (x : Decoder). pushRecord x (now (a .buf)) (a .b)) (asked .ensures)
 

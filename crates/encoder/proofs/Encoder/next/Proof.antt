@@ -11,20 +11,20 @@ answered-requires c κs = search needs
 returns : tie.Need-returns
 returns c = c .answered .ensures ∙ next-long (c .before .before .before .args .self) (now (c .before .before .before .args .payload)) (c .before .if1 .taken)
 
-bad-state-requires : tie.Need-bad-state-requires
-bad-state-requires c κs = search needs
+bad-encoder-requires : tie.Need-bad-encoder-requires
+bad-encoder-requires c κs = search needs
 
 answered-requires-2 : tie.Need-answered-requires-2
 answered-requires-2 c κs = search needs
 
 returns-2 : tie.Need-returns-2
-returns-2 c = c .answered2 .ensures ∙ next-bad (c .before .before .before .before .before .args .self) (now (c .before .before .before .before .before .args .payload)) (c .before .before .before .if1 .left) (sym (c .before .before .bad-state .ensures) ∙ c .before .if2 .taken)
+returns-2 c = c .answered2 .ensures ∙ next-bad (c .before .before .before .before .before .args .self) (now (c .before .before .before .before .before .args .payload)) (c .before .before .before .if1 .left) (sym (c .before .before .bad-encoder .ensures) ∙ c .before .if2 .taken)
 
 step-requires : tie.Need-step-requires
 step-requires c κs = search needs
 
 returns-3 : tie.Need-returns-3
-returns-3 c = c .step .ensures ∙ next-good (c .before .before .before .before .before .args .self) (now (c .before .before .before .before .before .args .payload)) (c .before .before .before .if1 .left) (sym (c .before .before .bad-state .ensures) ∙ c .before .if2 .left)
+returns-3 c = c .step .ensures ∙ next-good (c .before .before .before .before .before .args .self) (now (c .before .before .before .before .before .args .payload)) (c .before .before .before .if1 .left) (sym (c .before .before .bad-encoder .ensures) ∙ c .before .if2 .left)
 
 pub next-spec : {M : Type 1} → statement M
 next-spec =
@@ -32,7 +32,7 @@ next-spec =
     (tie.spec
     answered-requires
     returns
-    bad-state-requires
+    bad-encoder-requires
     answered-requires-2
     returns-2
     step-requires

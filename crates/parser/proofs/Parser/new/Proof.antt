@@ -55,7 +55,7 @@ module _ {M : Type 1} (𝓤 : URA M) (H : Heap 𝓤) (A : Atoms 𝓤) (W : Given
   v = sliceVal (s .ptr) (length (s .now))
 
   abbrev made : Parser
-  made = record { input = s; place = 0; «message_start» = 0; pending = 0 }
+  made = record { input = s; place = 0; start = 0; pending = 0 }
 
   abbrev at : List Val × Unit {0}
   at = (v ∷ [], tt)

@@ -45,8 +45,8 @@ use denote.Triple.Entry.{onEntry}
 use denote.Triple.Spec.{Meets, tripleOf}
 use denote.Triple.Table.{entered, cited}
 use denote.Triple.Walked.{says, Stays, stay-ref, walkOf, goes-ref, Walks, ends-at, walked, walk-meets}
-use Rattle.streaming.specs.Next.{After, nextAt}
-use Rattle.streaming.specs.Answers.{after}
+use Rattle.streaming.specs.Next.{ReaderAfter, nextAt}
+use Rattle.streaming.specs.Answers.{readerAfter}
 use Rattle.parser.specs.Reader.{onwardBy}
 use Rattle.parser.specs.declared.Parser.{Parser}
 use Rattle.streaming.specs.declared.Next.{Next}
@@ -122,14 +122,14 @@ module _ {M : Type 1} (𝓤 : URA M) (H : Heap 𝓤) (A : Atoms 𝓤) (W : Given
   Own p = B κ′ .own p (mach p ∷ [])
 
   abbrev vals : Parser → Values (D .parts)
-  vals p = (p .input, (p .place, (p .«message_start», (p .pending, tt))))
+  vals p = (p .input, (p .place, (p .start, (p .pending, tt))))
 
-  abbrev found : After
-  found = nextAt (now (h .input)) (h .place) (h .«message_start») (h .pending)
+  abbrev found : ReaderAfter
+  found = nextAt (now (h .input)) (h .place) (h .start) (h .pending)
 
   -- the reader with the numbers of r
   abbrev moved : Next → Parser
-  moved r = record { input = h .input; place = r .place; «message_start» = r .start; pending = r .pending }
+  moved r = record { input = h .input; place = r .place; start = r .start; pending = r .pending }
 
   abbrev Post : Val → SProp 𝓤
   Post = walkOf 𝓤 H A self.ended stayed (self.clauses 𝓤 H A at-mem run) .post (((κ, (κ′, tt)), (q, (q′, tt)), bounds, x, at), tt)
@@ -141,7 +141,7 @@ module _ {M : Type 1} (𝓤 : URA M) (H : Heap 𝓤) (A : Atoms 𝓤) (W : Given
   place-fits : Is (B κ′) h (mach h ∷ []) → h .place < 2 ^ 64
   place-fits g = LL.owed D L h _ g .1 .0 .1
 
-  start-fits : Is (B κ′) h (mach h ∷ []) → h .«message_start» < 2 ^ 64
+  start-fits : Is (B κ′) h (mach h ∷ []) → h .start < 2 ^ 64
   start-fits g = LL.owed D L h _ g .1 .1 .0 .1
 
   pending-fits : Is (B κ′) h (mach h ∷ []) → h .pending < 2 ^ 64
@@ -149,13 +149,13 @@ module _ {M : Type 1} (𝓤 : URA M) (H : Heap 𝓤) (A : Atoms 𝓤) (W : Given
 
   -- what the callee is passed, and what it asks
   abbrev to : Callee 𝓤 H A at-mem run .Ghost
-  to = (((κ′, tt), (q′, tt), tt, vals h, (v ∷ [], (vint w64 (h .place) ∷ [], (vint w64 (h .«message_start») ∷ [], (vint w64 (h .pending) ∷ [], tt))))), tt)
+  to = (((κ′, tt), (q′, tt), tt, vals h, (v ∷ [], (vint w64 (h .place) ∷ [], (vint w64 (h .start) ∷ [], (vint w64 (h .pending) ∷ [], tt))))), tt)
 
   goes : ent 𝓤 (sep 𝓤 (sep 𝓤 (A .lft κ′ q′) (sem 𝓤 H A ftrue)) (sem 𝓤 H A (all-own (D .parts) L (vals h)))) (Callee 𝓤 H A at-mem run .pre to)
   goes = qed W ((‵ (flft κ′ q′) ⊛ ‵ ftrue) ∷ ‵ (all-own (D .parts) L (vals h)) ∷ []) ∵ join ! $ frame ! $ done !
 
-  said : (r : Next) → ent 𝓤 (ensured 𝓤 H A callee.ended (callee.clauses 𝓤 H A at-mem run) (κ′, tt) (vals h) tt r) (fact 𝓤 (after r ≡ found))
-  said r = exE 𝓤 _ (λ ws. snd∗ 𝓤 (sem 𝓤 H A (lasts callee.ended (κ′, tt) (vals h) ws)) (fact 𝓤 (after r ≡ found)))
+  said : (r : Next) → ent 𝓤 (ensured 𝓤 H A callee.ended (callee.clauses 𝓤 H A at-mem run) (κ′, tt) (vals h) tt r) (fact 𝓤 (readerAfter r ≡ found))
+  said r = exE 𝓤 _ (λ ws. snd∗ 𝓤 (sem 𝓤 H A (lasts callee.ended (κ′, tt) (vals h) ws)) (fact 𝓤 (readerAfter r ≡ found)))
 
   -- what whoever holds the result knows of its fields
   abbrev Facts : Next → Type 0
@@ -172,7 +172,7 @@ module _ {M : Type 1} (𝓤 : URA M) (H : Heap 𝓤) (A : Atoms 𝓤) (W : Given
   abbrev ev : Next → Val
   ev r = EL.val E.the-type E′.the-laws (r .answer)
 
-  exits : (r : Next) → after r ≡ found → Is E.the-row (r .answer) (ev r ∷ [])
+  exits : (r : Next) → readerAfter r ≡ found → Is E.the-row (r .answer) (ev r ∷ [])
       → ent 𝓤 (⋆ 𝓤 H A (‵ (fobs γ (B κ′ .coded .code (moved r))) ∷ ‵ (fbor κ (Body (mem (B κ′)) b o γ)) ∷ ‵ (flft κ q) ∷ (‵ (flft κ′ q′) ⊛ ‵ ftrue) ∷ [])) (Post (ev r))
   exits r e is =
       qed W (‵ (fobs γ (B κ′ .coded .code (moved r))) ∷ ‵ (fbor κ (Body (mem (B κ′)) b o γ)) ∷ ‵ (flft κ q) ∷ (‵ (flft κ′ q′) ⊛ ‵ ftrue) ∷ []) ∵
@@ -202,7 +202,7 @@ module _ {M : Type 1} (𝓤 : URA M) (H : Heap 𝓤) (A : Atoms 𝓤) (W : Given
         move ! (6 ∷ 0 ∷ []) $ use2 W (raw (Callee 𝓤 H A at-mem run .pre to)) goes $
         calls-at ! fm (Callee 𝓤 H A at-mem run) known to (and-then ! (load ! (from ! (stop !)) (look ! 13 refl)) (and-then ! (load ! (from ! (stop !)) (look ! 11 refl)) (and-then ! (load ! (from ! (stop !)) (look ! 9 refl)) (and-then ! (load ! (from ! (stop !)) (look ! 7 refl)) (no-more !))))) (λ u.
         use1 W (later (some (λ (r : Next). ((‵ (flft κ′ q′) ⊛ ‵ ftrue) ⊛ ‵ (N.the-row .own r (u ∷ []))) ⊛ raw (ensured 𝓤 H A callee.ended (callee.clauses 𝓤 H A at-mem run) (κ′, tt) (vals h) tt r)))) (id⊢ 𝓤 _) $ await ! tt $ pick ! (λ r.
-        split ! $ move ! (1 ∷ []) $ use1 W (raw (fact 𝓤 (after r ≡ found))) (said r) $ heard ! (after r ≡ found) (λ e. split ! $ move ! (1 ∷ []) $
+        split ! $ move ! (1 ∷ []) $ use1 W (raw (fact 𝓤 (readerAfter r ≡ found))) (said r) $ heard ! (readerAfter r ≡ found) (λ e. split ! $ move ! (1 ∷ []) $
         -- [the result; 'i's token; what a Parser owns; the struct's cell; the open borrow; obs; auth; true; _6; …; _5; …; _4; …; _3; …; _2; …; _1; …; room for _0; …]
         peeks ! N.the-row (Is N.the-row) (shows 𝓤 H A N.the-row) r (u ∷ []) (λ is. let known-of = LL.owed N.the-type N′.the-laws r _ is in
         land ! (from ! {sp = (N-ty, l₂, 0)} (stop !)) (init ! 16 {τ = N-ty} {b = l₂} {o = 0} {v = u} refl (LL.lawful N.the-type N′.the-laws 𝓤 H A W .typed r _ is .0)) $

@@ -1,0 +1,54 @@
+use borrow.Author.Tests.{eq-eqb, ne-eqb}
+use Rattle.decoder.specs.Cut.{normalStep}
+use Rattle.decoder.proofs.Tests.{lt-room, le-room}
+use borrow.Author.Needs.{needs}
+use Rattle.decoder.proofs.parsing_normal.Statement.{statement}
+use Rattle.decoder.proofs.parsing_normal.Tie as tie
+
+pushed-on-requires : tie.Need-pushed-on-requires
+pushed-on-requires c κs = search needs
+
+quietly-requires : tie.Need-quietly-requires
+quietly-requires c κs = search needs
+
+returns : tie.Need-returns
+unfolding normalStep
+returns c = simp (eq-eqb _ _ (c .before .before .if1 .taken), c .quietly .ensures, c .before .pushed-on .ensures)
+
+slice-write-buf : tie.Need-slice-write-buf
+slice-write-buf c = search needs
+
+stored-on-requires : tie.Need-stored-on-requires
+stored-on-requires c κs = search needs
+
+quietly-requires-2 : tie.Need-quietly-requires-2
+quietly-requires-2 c κs = search needs
+
+same-length : tie.Need-same-length
+same-length c = search needs
+
+returns-2 : tie.Need-returns-2
+unfolding normalStep
+returns-2 c = simp (ne-eqb _ _ (c .before .before .before .if1 .left), lt-room _ _ (c .before .before .if2 .taken), c .quietly2 .ensures, c .before .stored-on .ensures)
+
+fresh-with-requires : tie.Need-fresh-with-requires
+fresh-with-requires c κs = search needs
+
+returns-3 : tie.Need-returns-3
+unfolding normalStep
+returns-3 c = simp (ne-eqb _ _ (c .before .before .if1 .left), le-room _ _ (c .before .if2 .left), c .fresh-with .ensures)
+
+pub parsing-normal-spec : {M : Type 1} → statement M
+parsing-normal-spec =
+    tie.close
+    (tie.spec
+    pushed-on-requires
+    quietly-requires
+    returns
+    slice-write-buf
+    stored-on-requires
+    quietly-requires-2
+    same-length
+    returns-2
+    fresh-with-requires
+    returns-3)

@@ -1,0 +1,12 @@
+use borrow.Author.Needs.{needs}
+use Rattle.decoder.proofs.pushed_on.Statement.{statement}
+use Rattle.decoder.proofs.pushed_on.Tie as tie
+
+one-more-requires : tie.Need-one-more-requires
+one-more-requires c κs = search needs
+
+returns : tie.Need-returns
+returns c = simp (c .one-more .ensures)
+
+pub pushed-on-spec : {M : Type 1} → statement M
+pushed-on-spec = tie.close (tie.spec one-more-requires returns)

@@ -1,0 +1,376 @@
+// A push of many bytes at once. Only the bytes that may end a state are pushed one by one; the stretches between them change counts and the buffer alone.
+ghost use mathlib.Core.Path.{_≡_};
+ghost use mathlib.Core.List.{List, []};
+ghost use mathlib.Core.Bool.{true};
+ghost use Prim.Native.Nat.{ℕ, _+_, _-_, _%_, _<_, _≤_, _^_};
+ghost use lib.ListN.{length};
+ghost use Rattle.decoder.specs.declared.DecodeState.the-variants.{LookingForMessageStart, ParsingNormal, ParsingEscChars, ParsingEscPayload};
+ghost use Rattle.decoder.specs.Push.{stopped};
+ghost use Rattle.decoder.specs.Record.{answerOf};
+ghost use Rattle.decoder_slice.specs.Slice.{afterSlice, saysNothing, pushesFrom, sliceRecord};
+ghost use Rattle.decoder_slice.specs.Stretch.{stretched, stretchedIn, Goes, Plain, Escapes};
+use decoder::DecodeState;
+use decoder::Decoder;
+use decoder::Event;
+
+// What a push of a slice gives: the first event, and how many bytes were taken up to and with the one that brought it.
+pub struct Sliced {
+    pub decoder: Decoder,
+    pub event: Event,
+    pub taken: usize,
+}
+
+// A decoder, and the place in the chunk that it has reached.
+struct Stretch {
+    decoder: Decoder,
+    at: usize,
+}
+
+fn says_nothing(e: Event) -> bool
+    ensures { λ r. ⌜ r ≡ saysNothing (answerOf e []) ⌝ }
+{
+    match e {
+        Event::Nothing => true,
+        Event::Payload => false,
+        Event::DiscardedBytes(_) => false,
+        Event::InvalidEsc(_, _, _, _) => false,
+        Event::OutOfMemory => false,
+        Event::InvalidMessage {
+            read_crc: _,
+            calculated_crc: _,
+            misaligned: _,
+            num_padding_bytes: _,
+        } => false,
+        Event::BadState => false,
+        Event::WrongBuffer => false,
+    }
+}
+
+// k more, or as many as 32 bits hold.
+fn more(x: u32, k: usize) -> u32
+    ensures { λ r. ⌜ r ≡ stopped (x + k) ⌝ }
+{
+    if k <= (4294967295 - x) as usize {
+        x + k as u32
+    } else {
+        4294967295
+    }
+}
+
+// d behind k bytes of which j were stored.
+fn stretched_on(d: Decoder, j: usize, k: usize, s: DecodeState) -> Decoder
+    requires { ⌜ d .fill + j < 2 ^ 64 ⌝ }
+    ensures { λ r. ⌜ r ≡ stretched d j k s ⌝ }
+{
+    let raw = more(d.raw_msg_len, k);
+    Decoder {
+        capacity: d.capacity,
+        fill: d.fill + j,
+        raw_msg_len: raw,
+        crc: d.crc,
+        crc_idx: d.crc_idx,
+        state: s,
+    }
+}
+
+fn least(a: usize, b: usize) -> usize
+    ensures { λ r. ⌜ (r ≤ a) × (r ≤ b) ⌝ }
+{
+    if a < b { a } else { b }
+}
+
+// None of four bytes is 1b.
+fn all_plain(a: u8, b: u8, c: u8, d: u8) -> bool
+    ensures { λ r. ⌜ (r ≡ true → (a ≡ 0x1b → ⊥) × (b ≡ 0x1b → ⊥) × (c ≡ 0x1b → ⊥) × (d ≡ 0x1b → ⊥)) ⌝ }
+{
+    if a == 0x1b {
+        return false;
+    }
+    if b == 0x1b {
+        return false;
+    }
+    if c == 0x1b {
+        return false;
+    }
+    if d == 0x1b {
+        return false;
+    }
+    true
+}
+
+// Four bytes a turn, as long as none of them is 1b.
+fn plain_fours(chunk: &[u8], from: usize, to: usize) -> usize
+    requires { ⌜ (from ≤ to) × (to ≤ length (now chunk)) ⌝ }
+    ensures { λ r. ⌜ (from ≤ r) × (r ≤ to) × Plain (now (chunk .entry)) from r ⌝ }
+{
+    let left = to - from;
+    let end = to - left % 4;
+    let mut k = from;
+    while k < end {
+        if !all_plain(chunk[k], chunk[k + 1], chunk[k + 2], chunk[k + 3]) {
+            break;
+        }
+        k += 4;
+    }
+    k
+}
+
+// The place of the first 1b in from..to, or `to`.
+fn plain_end(chunk: &[u8], from: usize, to: usize) -> usize
+    requires { ⌜ (from ≤ to) × (to ≤ length (now chunk)) ⌝ }
+    ensures { λ r. ⌜ (from ≤ r) × (r ≤ to) × Plain (now (chunk .entry)) from r ⌝ }
+{
+    let mut k = plain_fours(chunk, from, to);
+    while k < to {
+        if chunk[k] == 0x1b {
+            break;
+        }
+        k += 1;
+    }
+    k
+}
+
+// The bytes from `from` on that are no 1b, as many as there is room for, go to the buffer.
+fn store_plain(d: Decoder, buf: &mut [u8], chunk: &[u8], from: usize) -> Stretch
+    requires { ⌜ (d .«crc_idx» ≤ d .fill) × (d .fill ≤ length (now buf)) × (8 ≤ d .«raw_msg_len») × (length (now buf) ≡ d .capacity) × (d .capacity ≤ 1048576) × (from ≤ length (now chunk)) ⌝ }
+    ensures { λ r. ⌜ (r .at ≤ length (now (chunk .entry))) × (from ≤ r .at) × Goes (r .decoder) (r .at) (now (buf .exit)) from (stretchedIn d ParsingNormal) (now (buf .entry)) (now (chunk .entry)) ⌝ }
+{
+    let at = d.fill;
+    let room = buf.len() - at;
+    let left = chunk.len() - from;
+    let limit = least(left, room);
+    let to = plain_end(chunk, from, from + limit);
+    let all = to - from;
+    let mut k = 0;
+    while k < all {
+        buf[at + k] = chunk[from + k];
+        k += 1;
+    }
+    let n = stretched_on(d, k, k, DecodeState::ParsingNormal);
+    Stretch {
+        decoder: n,
+        at: from + k,
+    }
+}
+
+// Five bytes are 1b.
+fn all_escape(a: u8, b: u8, c: u8, d: u8, e: u8) -> bool
+    ensures { λ r. ⌜ (r ≡ true → (a ≡ 0x1b) × (b ≡ 0x1b) × (c ≡ 0x1b) × (d ≡ 0x1b) × (e ≡ 0x1b)) ⌝ }
+{
+    if a != 0x1b {
+        return false;
+    }
+    if b != 0x1b {
+        return false;
+    }
+    if c != 0x1b {
+        return false;
+    }
+    if d != 0x1b {
+        return false;
+    }
+    if e != 0x1b {
+        return false;
+    }
+    true
+}
+
+// Five bytes a turn, as long as all of them are 1b: behind four matched ones a fifth is noise, and the four behind it match again.
+fn fives_end(chunk: &[u8], from: usize) -> usize
+    requires { ⌜ from ≤ length (now chunk) ⌝ }
+    ensures { λ r. ⌜ (from ≤ r) × (r ≤ length (now (chunk .entry))) × ((r - from) % 5 ≡ 0) × Escapes (now (chunk .entry)) from r ⌝ }
+{
+    let left = chunk.len() - from;
+    let end = chunk.len() - left % 5;
+    let mut k = from;
+    while k < end {
+        if !all_escape(
+            chunk[k],
+            chunk[k + 1],
+            chunk[k + 2],
+            chunk[k + 3],
+            chunk[k + 4],
+        ) {
+            break;
+        }
+        k += 5;
+    }
+    k
+}
+
+// The bytes of a search from `from` on, up to the last of a start sequence. Matched bytes and noise are all the bytes there are.
+fn search_more(d: Decoder, noise: u32, n: u8, chunk: &[u8], from: usize) -> Stretch
+    requires { ⌜ (d .«crc_idx» ≡ 0) × (d .fill ≡ 0) × (d .capacity ≤ 1048576) × (n < 8) × (from ≤ length (now chunk)) × (d .crc ≡ 0xffff) ⌝ }
+    ensures { λ r. ⌜ (r .at ≤ length (now (chunk .entry))) × (from ≤ r .at) × ((m : List ℕ) → length m ≡ d .capacity → Goes (r .decoder) (r .at) m from (stretchedIn d (LookingForMessageStart n noise)) m (now (chunk .entry))) ⌝ }
+{
+    let left = chunk.len() - from;
+    let mut k = 0;
+    let mut q = n;
+    while k < left {
+        if decoder::matching(q, chunk[from + k]) {
+            if q == 7 {
+                break;
+            }
+            q += 1;
+            k += 1;
+            if q == 4 {
+                k = fives_end(chunk, from + k) - from;
+            }
+        } else {
+            // Nothing is matched now, so all bytes up to the next 1b are noise.
+            q = 0;
+            k = plain_end(chunk, from + (k + 1), chunk.len()) - from;
+        }
+    }
+    let all = more(noise, (n as usize) + k - (q as usize));
+    let g = stretched_on(
+        d,
+        0,
+        k,
+        DecodeState::LookingForMessageStart {
+            num_discarded_bytes: all,
+            num_init_seq_bytes: q,
+        },
+    );
+    Stretch {
+        decoder: g,
+        at: from + k,
+    }
+}
+
+// More 1b, up to three.
+fn wait_more(d: Decoder, n: u8, chunk: &[u8], from: usize) -> Stretch
+    requires { ⌜ (d .«crc_idx» ≤ d .fill) × (d .fill ≤ d .capacity) × (8 ≤ d .«raw_msg_len») × (d .capacity ≤ 1048576) × (1 ≤ n) × (n ≤ 3) × (from ≤ length (now chunk)) ⌝ }
+    ensures { λ r. ⌜ (r .at ≤ length (now (chunk .entry))) × (from ≤ r .at) × ((m : List ℕ) → length m ≡ d .capacity → Goes (r .decoder) (r .at) m from (stretchedIn d (ParsingEscChars n)) m (now (chunk .entry))) ⌝ }
+{
+    let left = chunk.len() - from;
+    let mut k = 0;
+    let mut q = n;
+    while k < left {
+        if q == 3 {
+            break;
+        }
+        if chunk[from + k] != 0x1b {
+            break;
+        }
+        q += 1;
+        k += 1;
+    }
+    let g = stretched_on(d, 0, k, DecodeState::ParsingEscChars(q));
+    Stretch {
+        decoder: g,
+        at: from + k,
+    }
+}
+
+// The bytes behind an escape, up to three.
+fn put_judged(d: Decoder, n: u8, buf: &mut [u8], chunk: &[u8], from: usize) -> Stretch
+    requires { ⌜ (d .«crc_idx» + n ≤ d .fill) × (d .fill ≤ length (now buf)) × (8 ≤ d .«raw_msg_len») × (length (now buf) ≡ d .capacity) × (d .capacity ≤ 1048576) × (n ≤ 3) × (from ≤ length (now chunk)) ⌝ }
+    ensures { λ r. ⌜ (r .at ≤ length (now (chunk .entry))) × (from ≤ r .at) × Goes (r .decoder) (r .at) (now (buf .exit)) from (stretchedIn d (ParsingEscPayload n)) (now (buf .entry)) (now (chunk .entry)) ⌝ }
+{
+    let at = d.fill;
+    let room = buf.len() - at;
+    let left = chunk.len() - from;
+    let fits = least(left, room);
+    let limit = least(fits, (3 - n) as usize);
+    let mut k = 0;
+    while k < limit {
+        buf[at + k] = chunk[from + k];
+        k += 1;
+    }
+    let g = stretched_on(d, k, k, DecodeState::ParsingEscPayload(n + k as u8));
+    Stretch {
+        decoder: g,
+        at: from + k,
+    }
+}
+
+// The bytes from `from` on that change nothing but counts and the buffer. A search whose register isn't ffff yet gets it from a single push.
+fn ahead(d: Decoder, buf: &mut [u8], chunk: &[u8], from: usize) -> Stretch
+    requires { ⌜ from < length (now chunk) ⌝ }
+    ensures { λ r. ⌜ (r .at ≤ length (now (chunk .entry))) × (from ≤ r .at) × Goes (r .decoder) (r .at) (now (buf .exit)) from d (now (buf .entry)) (now (chunk .entry)) ⌝ }
+{
+    if decoder::bad_decoder(d) {
+        return Stretch {
+            decoder: d,
+            at: from,
+        };
+    }
+    if decoder::wrong_buffer(d.capacity, buf.len()) {
+        return Stretch {
+            decoder: d,
+            at: from,
+        };
+    }
+    let s = d.state;
+    match s {
+        DecodeState::LookingForMessageStart {
+            num_discarded_bytes,
+            num_init_seq_bytes,
+        } => {
+            if d.crc == 0xffff {
+                return search_more(d, num_discarded_bytes, num_init_seq_bytes, chunk, from);
+            }
+            Stretch {
+                decoder: d,
+                at: from,
+            }
+        }
+        DecodeState::ParsingNormal => store_plain(d, buf, chunk, from),
+        DecodeState::ParsingEscChars(n) => wait_more(d, n, chunk, from),
+        DecodeState::ParsingEscPayload(n) => put_judged(d, n, buf, chunk, from),
+        DecodeState::Done => search_more(Decoder::new(d.capacity), 0, 0, chunk, from),
+    }
+}
+
+// Bytes pushed one after another, up to and with the one that brings the first event.
+fn until_event(d: Decoder, buf: &mut [u8], chunk: &[u8]) -> Sliced
+    ensures { λ r. ⌜ afterSlice r (now (buf .exit)) ≡ pushesFrom 0 d (now (buf .entry)) (now (chunk .entry)) ⌝ }
+{
+    let mut now = d;
+    let mut i = 0;
+    while i < chunk.len() {
+        let a = ahead(now, buf, chunk, i);
+        now = a.decoder;
+        i = a.at;
+        if i < chunk.len() {
+            let p = decoder::push_any(now, buf, chunk[i]);
+            let e = p.event;
+            now = p.decoder;
+            i += 1;
+            if !says_nothing(e) {
+                return Sliced {
+                    decoder: now,
+                    event: e,
+                    taken: i,
+                };
+            }
+        }
+    }
+    Sliced {
+        decoder: now,
+        event: Event::Nothing,
+        taken: i,
+    }
+}
+
+// Pushes bytes until the first event. The checks of record and buffer come first, as in a push; a refusal takes no byte.
+pub fn push_slice(d: Decoder, buf: &mut [u8], chunk: &[u8]) -> Sliced
+    ensures { λ r. ⌜ afterSlice r (now (buf .exit)) ≡ sliceRecord d (now (buf .entry)) (now (chunk .entry)) ⌝ }
+{
+    if decoder::bad_decoder(d) {
+        return Sliced {
+            decoder: d,
+            event: Event::BadState,
+            taken: 0,
+        };
+    }
+    if decoder::wrong_buffer(d.capacity, buf.len()) {
+        return Sliced {
+            decoder: d,
+            event: Event::WrongBuffer,
+            taken: 0,
+        };
+    }
+    until_event(d, buf, chunk)
+}
