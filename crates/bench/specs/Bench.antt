@@ -11,7 +11,7 @@ use Rattle.decoder.specs.declared.Decoder.{Decoder}
 use Rattle.encoder.specs.Encode as E
 use Rattle.encoder.specs.Encode.{limit, length-is, encodeTo}
 use Rattle.streaming.specs.Next as N
-use Rattle.streaming.specs.Next.{Said, event, noEvent, failed, nextAt}
+use Rattle.streaming.specs.Next.{Said, event, noEvent, failed, alone, nextAt}
 
 -- a number, with the lent memory as it is then
 pub record CountedIn : Type 0 where
@@ -64,6 +64,7 @@ abbrev pub isEvent : Said → Bool
 isEvent (event e) = true
 isEvent noEvent = false
 isEvent (failed f) = false
+isEvent (alone n) = false
 
 -- the events of k calls, up to the first that brings none
 unfoldable pub eventsFrom : ℕ → List ℕ → ℕ → ℕ → ℕ → ℕ

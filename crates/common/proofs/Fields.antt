@@ -3,10 +3,10 @@ use mathlib.Core.List.{List}
 use Prim.Native.Nat.{ℕ, _+_, _≤_, _<_}
 use native.Mathlib.Omega.{arith}
 use lib.ListN.{length}
-use Rattle.tlf.specs.declared.Span.{Span}
-use Rattle.tlf.proofs.Read.{Ok, ok-guard, ok-weak, byte-ok}
+use Rattle.refusals.specs.declared.Span.{Span}
+use Rattle.refusals.proofs.Read.{Ok}
+use Rattle.refusals.proofs.Found.{Found, Any, any, from, on, found}
 use Rattle.tlf.proofs.Lengths.{list-of-ok}
-use Rattle.tlf.proofs.Found.{Found, Any, any, from, on, found}
 use Rattle.numbers.specs.Numbers.{unsignedAt, signedAt}
 use Rattle.numbers.proofs.Ahead.{unsigned-found, signed-found}
 use Rattle.octet_string.specs.Strings.{octetsAt}
@@ -14,7 +14,7 @@ use Rattle.octet_string.specs.Optional.{optional}
 use Rattle.octet_string.proofs.Within.{Within, Has, octets-found, optional-found}
 use Rattle.value.specs.Values.{timeAt, statusAt}
 use Rattle.value.proofs.Values.{time-found, status-found, ValueWithin, value-found}
-use Rattle.common.specs.Fields.{OpenResponse, CloseResponse, ListEntry, openAt, closeAt, entryAt, messageEndAt}
+use Rattle.common.specs.Fields.{OpenResponse, CloseResponse, ListEntry, openAt, closeAt, entryAt}
 
 pub record OpenWithin (s : List ℕ) (x : OpenResponse Span) : Type 0 where
   pub codepage : Has (Within s) (x .codepage)
@@ -67,8 +67,3 @@ entry-found s at =
     on s at n₅ (value-found s n₅) (omega arith) (λ value n₆ h₆ p₆ q₆.
     on s at n₆ (opt-octets s n₆) (omega arith) (λ signature n₇ h₇ p₇ q₇.
     found s at _ n₇ (record { name = h₁; value = h₆; signature = h₇ }) p₇ q₇))))))))
-
-pub message-end-found : (s : List ℕ) (at : ℕ) → Ok (Found Any s at) (messageEndAt s at)
-unfolding messageEndAt
-message-end-found s at =
-    from s at (ok-weak {Q = Found Any s at} (λ b n h. (tt, h .2)) (byte-ok s at)) (λ b n h p q. ok-guard _ _ _ (λ e. found s at _ n tt p q))

@@ -1,18 +1,17 @@
--- What the bytes of open, close, list entry and the end byte are read as, and what they leave: one line a field, in the order of the definition.
-use mathlib.Core.Path.{_≡_, refl}
-use mathlib.Core.List.{List, [], _∷_, _++_, append-assoc}
+-- What the bytes of open, close and list entry are read as, and what they leave: one line a field, in the order of the definition.
+use mathlib.Core.List.{List, _++_, append-assoc}
 use mathlib.Core.Option.{Option}
 use Prim.Native.Nat.{ℕ}
 use lib.IntN.{ℤ}
-use Rattle.tlf.specs.Read.{Read}
+use Rattle.refusals.specs.Read.{Read}
+use Rattle.refusals.specs.declared.Span.{Span}
+use Rattle.refusals.proofs.Rest.{Rest, Gets, Reads, Is, gets-is, gets-then, gets-got}
 use Rattle.tlf.specs.Lengths.{listOfAt}
-use Rattle.tlf.specs.declared.Span.{Span}
-use Rattle.tlf.proofs.Rest.{Rest, Gets, Reads, Is, gets-is, gets-then, gets-guard, gets-got, byte-gets}
 use Rattle.numbers.specs.Numbers.{unsignedAt, signedAt}
 use Rattle.octet_string.specs.Strings.{octetsAt}
 use Rattle.octet_string.specs.Optional.{optional}
 use Rattle.value.specs.Values.{Status, Value, timeAt, statusAt, valueAt}
-use Rattle.common.specs.Fields.{OpenResponse, CloseResponse, ListEntry, openAt, closeAt, entryAt, messageEndAt}
+use Rattle.common.specs.Fields.{OpenResponse, CloseResponse, ListEntry, openAt, closeAt, entryAt}
 
 -- each field has its own property
 pub record OpenHas (P₁ P₂ : List ℕ → Option Span → Type 0) (P₃ P₄ : List ℕ → Span → Type 0) (P₅ P₆ : List ℕ → Option ℕ → Type 0) (s : List ℕ) (x : OpenResponse Span) : Type 0 where
@@ -97,7 +96,3 @@ entry-reads r₀ r₁ r₂ r₃ r₄ r₅ r₆ r₇ =
           gets-then _ _ (r₇ .reads l k₆) (λ a₇ n₇ h₇ k₇.
           gets-got (record { name = h₁; status = h₂; time = h₃; unit = h₄; scaler = h₅; value = h₆; signature = h₇ }) k₇))))))));
     }
-
-pub message-end-reads : Reads messageEndAt (Is tt) (0x00 ∷ [])
-unfolding messageEndAt
-message-end-reads = record { reads = λ l h. gets-is _ _ (byte-gets h) (λ n k. gets-guard _ _ _ refl (gets-got refl k)) }

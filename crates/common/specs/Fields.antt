@@ -1,12 +1,11 @@
--- What a reader must believe: the fields of open, close and list entry, by the rules marked (S) of document 01, and the end byte.
+-- What a reader must believe: the fields of open, close and list entry, by the rules marked (S) of document 01.
 use Prim.Native.Nat.{ℕ}
 use mathlib.Core.List.{List}
 use mathlib.Core.Option.{Option}
-use lib.Dec.{eqb}
 use lib.IntN.{ℤ}
-use Rattle.tlf.specs.Read.{Read, got, then, guard, wrongEnd, byteAt}
+use Rattle.refusals.specs.Read.{Read, got, then}
+use Rattle.refusals.specs.declared.Span.{Span}
 use Rattle.tlf.specs.Lengths.{listOfAt}
-use Rattle.tlf.specs.declared.Span.{Span}
 use Rattle.numbers.specs.Numbers.{unsignedAt, signedAt}
 use Rattle.octet_string.specs.Strings.{octetsAt}
 use Rattle.octet_string.specs.Optional.{optional}
@@ -64,10 +63,3 @@ entryAt s at =
     then (valueAt s n₅) λ value n₆.
     then (optional octetsAt s n₆) λ signature n₇.
     got (record { name = name; status = status; time = time; unit = unit; scaler = scaler; value = value; signature = signature }) n₇
-
--- the end byte of a message is 00
-unfoldable pub messageEndAt : List ℕ → ℕ → Read (Unit {0})
-messageEndAt s at =
-    then (byteAt s at) λ b next.
-    guard (eqb b 0x00) (wrongEnd at)
-    (got tt next)

@@ -1,19 +1,16 @@
-// Ports OpenResponse, CloseResponse, ListEntry and EndOfSmlMessage of parser/common.rs; Time, Status and Value stand in crate value.
+// Ports OpenResponse, CloseResponse and ListEntry of parser/common.rs; Time, Status and Value stand in crate value, EndOfSmlMessage in crate trailer.
 ghost use mathlib.Core.Path.{_≡_};
-ghost use Rattle.common.specs.Fields.{openAt, closeAt, entryAt, messageEndAt};
+ghost use Rattle.common.specs.Fields.{openAt, closeAt, entryAt};
 ghost use Rattle.common.specs.Cut.{openRest, entryRest};
-ghost use Rattle.tlf.specs.Refusals.{placeRead};
 ghost use Rattle.octet_string.specs.Answers.{optSpan};
 ghost use Rattle.value.specs.Answers.{optU8, optTime, optStatus};
 ghost use Rattle.common.specs.Answers.{openRead, closeRead, entryRead};
 use octet_string::OptSpan;
 use octet_string::OptSpanRead;
-use tlf::ByteRead;
-use tlf::Fault;
-use tlf::ParseError;
+use refusals::Fault;
+use refusals::Span;
+use refusals::SpanRead;
 use tlf::PlaceRead;
-use tlf::Span;
-use tlf::SpanRead;
 use value::OptI8;
 use value::OptI8Read;
 use value::OptStatus;
@@ -247,23 +244,4 @@ pub fn parse_list_entry(input: &[u8], at: usize) -> EntryRead
         OptU8Read::Refused(f) => return EntryRead::Refused(f),
     };
     entry_rest(input, n, obj_name, status, val_time, unit)
-}
-
-// EndOfSmlMessage of the Rust.
-pub fn parse_message_end(input: &[u8], at: usize) -> PlaceRead
-    ensures { λ r. ⌜ placeRead r ≡ messageEndAt (now (input .entry)) at ⌝ }
-{
-    match tlf::take_byte(input, at) {
-        ByteRead::Is { byte, next } => {
-            if byte == 0x00 {
-                PlaceRead::Is { next }
-            } else {
-                PlaceRead::Refused(Fault {
-                    error: ParseError::MsgEndMismatch,
-                    place: at,
-                })
-            }
-        }
-        ByteRead::Refused(f) => PlaceRead::Refused(f),
-    }
 }

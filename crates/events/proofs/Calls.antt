@@ -7,17 +7,18 @@ use native.Mathlib.Omega.{arith}
 use lib.ListN.{length}
 use lib.Dec.{ltb, leb}
 use borrow.Author.Tests.{le-ltb, lt-ltb, le-leb, lt-leb, leb-true, leb-false, ltb-true, ltb-false}
-use Rattle.tlf.specs.Read.{Read, got, refused, Refusal, eof}
-use Rattle.tlf.specs.declared.Span.{Span}
-use Rattle.tlf.proofs.Read.{Ok, ok-at}
-use Rattle.tlf.proofs.Found.{Found}
+use Rattle.refusals.specs.Numbers.{inputTooLongNo, limit}
+use Rattle.refusals.specs.Read.{Read, got, refused, Refusal, eof}
+use Rattle.refusals.specs.declared.Span.{Span}
+use Rattle.refusals.proofs.Read.{Ok, ok-at}
+use Rattle.refusals.proofs.Found.{Found}
 use Rattle.common.specs.Fields.{ListEntry, entryAt}
 use Rattle.common.proofs.Fields.{EntryWithin, entry-found}
 use Rattle.message.specs.Messages.{ListStart, ListEnd, Body, opened, closed, listed, MessageStart, startAt, listEndAt}
 use Rattle.message.proofs.Messages.{ListStartWithin, BodyWithin, StartWithin, start-found, list-end-found}
 use Rattle.trailer.specs.Trailer.{trailerAt}
 use Rattle.trailer.proofs.Trailer.{trailer-found}
-use Rattle.streaming.specs.Next.{MessageEvent, starts, entry, ends, Said, event, noEvent, failed, ReaderAfter, inputTooLong, onward, pendingOf, beginAt, trailerNext, endNext, entryNext, stepAt, nextAt}
+use Rattle.streaming.specs.Next.{MessageEvent, starts, entry, ends, Said, event, noEvent, failed, alone, ReaderAfter, onward, pendingOf, beginAt, trailerNext, endNext, entryNext, stepAt, nextAt}
 use Rattle.events.specs.Events.{Answers, nth, answer, saysFirst, noMore, atStart, inside, entriesFrom, contentFrom, messagesFrom, eventsOf}
 use Rattle.events.specs.Calls.{call}
 use Rattle.common.proofs.Ends.{entry-end}
@@ -26,7 +27,7 @@ use Rattle.trailer.proofs.Ends.{trailer-end}
 
 -- a reader whose numbers are sound
 pub record SoundReader (s : List ℕ) (at start pending : ℕ) : Type 0 where
-  pub short : length s ≤ 1048576
+  pub short : length s ≤ limit
   pub inside-input : at ≤ length s
   pub begun : start ≤ at
   pub few : pending ≤ 4294967297
@@ -35,7 +36,7 @@ pub record SoundReader (s : List ℕ) (at start pending : ℕ) : Type 0 where
 pub sound-next : (s : List ℕ) (at start pending : ℕ) → SoundReader s at start pending → nextAt s at start pending ≡ stepAt s at start pending
 unfolding nextAt
 sound-next s at start pending h =
-    rw (le-ltb 1048576 (length s) (h .short), le-leb at (length s) (h .inside-input), le-leb start at (h .begun), le-leb pending 4294967297 (h .few))
+    rw (le-ltb limit (length s) (h .short), le-leb at (length s) (h .inside-input), le-leb start at (h .begun), le-leb pending 4294967297 (h .few))
 
 -- every call answers as `a` says
 pub record Gives (s : List ℕ) (at start pending : ℕ) (a : Answers) : Type 0 where
@@ -141,7 +142,7 @@ trailer-gives {s} {at} {start} k h g =
     (λ e m w p q x. let b = h .begun in
     gives-same (x ∙ sym (sound-next s m start zero (record { short = h .short; inside-input = q; begun = omega arith; few = omega arith }))) (g m p q))
 
-content-gives : (b : Body Span) {s : List ℕ} {at start : ℕ} (k : ℕ → Answers) → length s ≤ 1048576 → at ≤ length s → start ≤ at → BodyWithin s b
+content-gives : (b : Body Span) {s : List ℕ} {at start : ℕ} (k : ℕ → Answers) → length s ≤ limit → at ≤ length s → start ≤ at → BodyWithin s b
     → ((m : ℕ) → at ≤ m → m ≤ length s → Gives s m start (suc zero) (k m)) → Gives s at start (pendingOf b) (contentFrom b s at k)
 unfolding contentFrom
 content-gives (opened b) k l p q w g = g _ (omega arith) p
@@ -182,12 +183,12 @@ messages-give (suc many) {s} at start h m = by (leb (length s) at) refl (λ n₃
 -- repeated calls from (0, 0, 0) give exactly what the tables say, for ever
 pub calls-are-events : (s : List ℕ) (k : ℕ) → call k s 0 0 0 ≡ answer (eventsOf s) k
 unfolding eventsOf nextAt
-calls-are-events s k = by (ltb 1048576 (length s)) refl
+calls-are-events s k = by (ltb limit (length s)) refl
   where
-    by : (t : Bool) → ltb 1048576 (length s) ≡ t → call k s 0 0 0 ≡ answer (eventsOf s) k
+    by : (t : Bool) → ltb limit (length s) ≡ t → call k s 0 0 0 ≡ answer (eventsOf s) k
     by true e = rw e (too-long e .gives k)
       where
-        too-long : ltb 1048576 (length s) ≡ true → Gives s 0 0 0 (record { first = []; later = failed inputTooLong })
-        too-long i = gives-ever (failed inputTooLong) (rw i)
+        too-long : ltb limit (length s) ≡ true → Gives s 0 0 0 (record { first = []; later = alone inputTooLongNo })
+        too-long i = gives-ever (alone inputTooLongNo) (rw i)
     by false e =
-        rw e (messages-give (suc (length s)) {s = s} 0 0 (record { short = ltb-false 1048576 (length s) e; inside-input = omega arith; begun = omega arith; few = omega arith }) (omega arith) .gives k)
+        rw e (messages-give (suc (length s)) {s = s} 0 0 (record { short = ltb-false limit (length s) e; inside-input = omega arith; begun = omega arith; few = omega arith }) (omega arith) .gives k)

@@ -5,15 +5,15 @@ use mathlib.Core.Option.{Option, some}
 use Prim.Native.Nat.{ℕ, zero, suc}
 use lib.ListN.{take}
 use Rattle.crc_x25.specs.Crc.{reflect, polynomial, bitStep, bitSteps, byteStep, register, finalXor, crcOf}
-use Rattle.tlf.specs.Read.{Refusal, then, guard, need, eof, byteAt, spanAt}
+use Rattle.refusals.specs.Read.{Refusal, then, guard, need, eof, byteAt, spanAt}
 use Rattle.tlf.specs.Lengths.{tlfAt, lengthFrom, lessOwn, listOfAt}
 use Rattle.numbers.specs.Numbers.{number, bytesAt, rawFrom, rawAt, unsignedAt, signedOf, signedAt, boolFrom, boolAt}
 use Rattle.octet_string.specs.Strings.{octetsAt}
 use Rattle.octet_string.specs.Optional.{absentAt, optional}
 use Rattle.value.specs.Values.{timeAt, statusOf, statusAt, signedValue, unsignedValue, listTypeAt, valueOf, valueAt}
-use Rattle.common.specs.Fields.{openAt, closeAt, entryAt, messageEndAt}
+use Rattle.common.specs.Fields.{openAt, closeAt, entryAt}
 use Rattle.message.specs.Messages.{listStartAt, listEndAt, contentAt, bodyAt, startAt}
-use Rattle.trailer.specs.Trailer.{crcFrom, trailerAt}
+use Rattle.trailer.specs.Trailer.{messageEndAt, crcFrom, trailerAt}
 use Rattle.events.specs.Events.{saysFirst, atStart, inside, entriesFrom, contentFrom, messagesFrom, eventsOf}
 use Rattle.events.specs.Telling.{firstRefusal}
 

@@ -1,44 +1,19 @@
 -- What the bytes of a whole message are read as, and what they leave: start, entries, end, trailer.
-use mathlib.Core.Path.{_≡_, refl}
-use mathlib.Core.List.{List, [], _∷_, _++_, append-assoc}
+use mathlib.Core.Path.{refl}
+use mathlib.Core.List.{List, [], _++_, append-assoc}
 use mathlib.Core.Option.{Option, some, none}
-use Prim.Native.Nat.{ℕ, zero, suc}
+use Prim.Native.Nat.{ℕ}
 use Rattle.crc_x25.specs.Crc.{crcOf}
-use Rattle.tlf.specs.Read.{Read}
-use Rattle.tlf.specs.declared.Span.{Span}
-use Rattle.tlf.proofs.Rest.{Rest, Gets, Reads, Is, Made, gets-then, gets-is, gets-got}
+use Rattle.refusals.specs.Read.{Read}
+use Rattle.refusals.specs.declared.Span.{Span}
+use Rattle.refusals.proofs.Rest.{Rest, Gets, Reads, Is, Made, gets-then, gets-is, gets-got}
 use Rattle.numbers.specs.Numbers.{unsignedAt}
-use Rattle.common.specs.Fields.{OpenResponse, CloseResponse, ListEntry, entryAt, messageEndAt}
+use Rattle.common.specs.Fields.{OpenResponse, CloseResponse, ListEntry}
 use Rattle.message.specs.Messages.{ListStart, ListEnd, Body, opened, closed, listed, MessageStart, startAt, listEndAt}
 use Rattle.message.proofs.Gets.{ListStartHas}
-use Rattle.trailer.specs.Trailer.{swapped, trailerAt}
+use Rattle.trailer.specs.Trailer.{messageEndAt, swapped, trailerAt}
 use Rattle.trailer.proofs.Gets.{trailer-reads}
 use Rattle.events.specs.Message.{Content, Message, entriesAt, contentOf, messageAt}
-
--- a first entry that has P, and others that have Q
-pub record EntriesHave (P : List ℕ → ListEntry Span → Type 0) (Q : List ℕ → List (ListEntry Span) → Type 0) (s : List ℕ) (x : List (ListEntry Span)) : Type 0 where
-  pub first : ListEntry Span
-  pub others : List (ListEntry Span)
-  pub is : x ≡ first ∷ others
-  pub first-has : P s first
-  pub others-have : Q s others
-
-pub no-entries-reads : Reads (entriesAt zero) (Is []) []
-unfolding entriesAt
-no-entries-reads = record { reads = λ l h. gets-got refl h }
-
-pub entries-reads : {P : List ℕ → ListEntry Span → Type 0} {Q : List ℕ → List (ListEntry Span) → Type 0} (k : ℕ) {b₁ b₂ : List ℕ}
-    → Reads entryAt P b₁
-    → Reads (entriesAt k) Q b₂
-    → Reads (entriesAt (suc k)) (EntriesHave P Q) (b₁ ++ b₂)
-unfolding entriesAt
-entries-reads k r₁ r₂ =
-    record {
-      reads = λ l h.
-          gets-then _ _ (r₁ .reads _ (simp append-assoc at h)) (λ a₁ n₁ h₁ k₁.
-          gets-then _ _ (r₂ .reads l k₁) (λ a₂ n₂ h₂ k₂.
-          gets-got (record { first = a₁; others = a₂; is = refl; first-has = h₁; others-have = h₂ }) k₂));
-    }
 
 pub record ContentHas (P : List ℕ → List (ListEntry Span) → Type 0) (Q : List ℕ → Option (ListEnd Span) → Type 0) (s : List ℕ) (x : Content Span) : Type 0 where
   pub entries : P s (x .entries)

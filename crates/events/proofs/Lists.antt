@@ -3,8 +3,8 @@ use mathlib.Core.Path.{_≡_, refl}
 use mathlib.Core.List.{List, [], _∷_}
 use Prim.Native.Nat.{ℕ, zero, suc}
 use lib.ListN.{length}
-use Rattle.tlf.specs.Read.{Read, got, refused, Refusal}
-use Rattle.tlf.specs.declared.Span.{Span}
+use Rattle.refusals.specs.Read.{Read, got, refused, Refusal}
+use Rattle.refusals.specs.declared.Span.{Span}
 use Rattle.common.specs.Fields.{ListEntry, entryAt}
 use Rattle.message.specs.Messages.{ListStart, ListEnd, listed, listEndAt}
 use Rattle.streaming.specs.Next.{MessageEvent, entry, ends, Said, failed}

@@ -5,8 +5,8 @@ use mathlib.Core.Bool.{Bool}
 use mathlib.Core.Option.{Option, some, none}
 use Prim.Native.Nat.{ℕ}
 use lib.IntN.{ℤ}
-use Rattle.tlf.specs.declared.Span.{Span}
-use Rattle.tlf.proofs.Rest.{Made, Is}
+use Rattle.refusals.specs.declared.Span.{Span}
+use Rattle.refusals.proofs.Rest.{Made, Is}
 use Rattle.octet_string.specs.Strings.{partOf}
 use Rattle.octet_string.proofs.Gets.{Part}
 use Rattle.value.specs.Values.{Status, Value, truth, bytes, signed, unsigned, listTime}

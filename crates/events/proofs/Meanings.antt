@@ -5,16 +5,16 @@ use mathlib.Core.Option.{some, none}
 use Prim.Native.Nat.{ℕ}
 use lib.IntN.{pos, negsuc}
 use Rattle.crc_x25.specs.Crc.{reflect, polynomial, bitStep, bitSteps, byteStep, register, finalXor, crcOf}
-use Rattle.tlf.specs.Read.{Read, got, then, guard, need, byteAt, spanAt}
+use Rattle.refusals.specs.Read.{Read, got, then, guard, need, byteAt, spanAt}
 use Rattle.tlf.specs.Lengths.{tlfAt, lengthFrom, lessOwn, listOfAt}
 use Rattle.numbers.specs.Numbers.{number, bytesAt, rawFrom, rawAt, unsignedAt, signedOf, signedAt, boolFrom, boolAt}
 use Rattle.octet_string.specs.Strings.{octetsAt, isWithin, partOf}
 use Rattle.octet_string.specs.Optional.{absentAt, optional}
 use Rattle.value.specs.Values.{bytes, signed, unsigned, timeAt, statusOf, statusAt, signedValue, unsignedValue, listTypeAt, valueOf, valueAt}
-use Rattle.common.specs.Fields.{openAt, closeAt, entryAt, messageEndAt}
+use Rattle.common.specs.Fields.{openAt, closeAt, entryAt}
 use Rattle.message.specs.Messages.{opened, closed, listed, listStartAt, listEndAt, contentAt, bodyAt, startAt}
-use Rattle.trailer.specs.Trailer.{crcFrom, trailerAt}
-use Rattle.streaming.specs.Next.{MessageEvent, starts, entry, ends, Said, event, noEvent, failed}
+use Rattle.trailer.specs.Trailer.{messageEndAt, crcFrom, trailerAt}
+use Rattle.streaming.specs.Next.{MessageEvent, starts, entry, ends, Said, event, noEvent, failed, alone}
 use Rattle.events.specs.Events.{saysFirst, atStart, inside, entriesFrom, contentFrom, messagesFrom, eventsOf}
 use Rattle.events.specs.Meaning.{meaning}
 use Rattle.events.proofs.Cuts.{openMessage, listMessage, closeMessage}
@@ -25,6 +25,7 @@ meaningsIn s [] = []
 meaningsIn s (event e ∷ xs) = meaning s e ∷ meaningsIn s xs
 meaningsIn s (noEvent ∷ xs) = meaningsIn s xs
 meaningsIn s (failed f ∷ xs) = meaningsIn s xs
+meaningsIn s (alone n ∷ xs) = meaningsIn s xs
 
 unfoldable pub meaningsOf : List ℕ → List (MessageEvent (List ℕ))
 meaningsOf s = meaningsIn s (eventsOf s .first)

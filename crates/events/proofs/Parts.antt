@@ -4,7 +4,7 @@ use mathlib.Core.List.{List, [], _∷_, map}
 use mathlib.Core.Option.{Option, some, none}
 use Prim.Native.Nat.{ℕ}
 use lib.ListN.{take, drop}
-use Rattle.tlf.specs.declared.Span.{Span}
+use Rattle.refusals.specs.declared.Span.{Span}
 use Rattle.octet_string.specs.Strings.{partOf, spanRefusal}
 use Rattle.octet_string.proofs.Strings.{part-is, never-refused}
 use Rattle.octet_string.proofs.Within.{Within, Has}

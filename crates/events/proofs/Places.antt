@@ -6,17 +6,17 @@ use Prim.Native.Nat.{ℕ, zero, suc, _+_, _^_, _≤_, _<_}
 use native.Mathlib.Omega.{arith}
 use lib.ListN.{length}
 use lib.Dec.{leb}
-use Rattle.tlf.specs.Read.{Read, got, refused}
-use Rattle.tlf.specs.declared.Span.{Span}
-use Rattle.tlf.proofs.Read.{Ok, Ahead}
-use Rattle.tlf.proofs.Found.{Found}
+use Rattle.refusals.specs.Read.{Read, got, refused}
+use Rattle.refusals.specs.declared.Span.{Span}
+use Rattle.refusals.proofs.Read.{Ok, Ahead}
+use Rattle.refusals.proofs.Found.{Found}
 use Rattle.common.specs.Fields.{ListEntry, entryAt}
 use Rattle.common.proofs.Fields.{EntryWithin, entry-found}
 use Rattle.message.specs.Messages.{ListStart, ListEnd, Body, opened, closed, listed, MessageStart, startAt, listEndAt}
 use Rattle.message.proofs.Messages.{ListStartWithin, ListEndWithin, BodyWithin, StartWithin, start-found, list-end-found}
 use Rattle.trailer.specs.Trailer.{trailerAt}
 use Rattle.trailer.proofs.Trailer.{trailer-found}
-use Rattle.streaming.specs.Next.{MessageEvent, starts, entry, ends, Said, event, noEvent, failed, ReaderAfter, onward, pendingOf, beginAt, trailerNext, endNext, entryNext, stepAt, nextAt}
+use Rattle.streaming.specs.Next.{MessageEvent, starts, entry, ends, Said, event, noEvent, failed, alone, ReaderAfter, onward, pendingOf, beginAt, trailerNext, endNext, entryNext, stepAt, nextAt}
 use Rattle.events.proofs.Calls.{SoundReader, sound-next}
 
 -- every string of an event lies within the input
@@ -30,6 +30,7 @@ abbrev pub SaidWithin : List ℕ → ℕ → ℕ → Said → Type 0
 SaidWithin s at place (event e) = EventWithin s e × (at < place)
 SaidWithin s at place noEvent = Unit {0}
 SaidWithin s at place (failed f) = Unit {0}
+SaidWithin s at place (alone n) = Unit {0}
 
 -- behind a call: the place has not fallen and lies within the input, the reader is sound again, and an event's strings lie within the input
 pub record Kept (s : List ℕ) (at : ℕ) (r : ReaderAfter) : Type 0 where
@@ -102,6 +103,7 @@ isEntry (event (entry e)) = 1
 isEntry (event (ends e)) = 0
 isEntry noEvent = 0
 isEntry (failed f) = 0
+isEntry (alone n) = 0
 
 abbrev theEntry : ListEntry Span → Said → ListEntry Span
 theEntry d (event (starts m)) = d
@@ -109,6 +111,7 @@ theEntry d (event (entry e)) = e
 theEntry d (event (ends e)) = d
 theEntry d noEvent = d
 theEntry d (failed f) = d
+theEntry d (alone n) = d
 
 no-entry : {s : List ℕ} {at : ℕ} {r : ReaderAfter} → isEntry (r .said) ≡ 0 → AtEntry s at r
 no-entry {r = r} h = record { spans = λ e p. let z : _≡_ {A = ℕ} 1 0 = sym (ap isEntry p) ∙ h in absurd (omega arith) }

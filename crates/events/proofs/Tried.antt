@@ -8,13 +8,13 @@ use native.Mathlib.Omega.{arith}
 use lib.ListN.{length}
 use lib.IntN.{pos, negsuc}
 use Rattle.crc_x25.specs.Crc.{reflect, polynomial, bitStep, bitSteps, byteStep, register, finalXor, crcOf}
-use Rattle.tlf.specs.Read.{Read}
+use Rattle.refusals.specs.Read.{Read}
+use Rattle.refusals.specs.declared.Span.{Span}
+use Rattle.refusals.proofs.Rest.{Reads, Is, Made, OneMore, none-reads, more-reads}
 use Rattle.tlf.specs.Lengths.{tlfAt, listOfAt, isBoolean}
 use Rattle.tlf.specs.declared.Ty.{Ty}
 use Rattle.tlf.specs.declared.Ty.the-variants.{OctetString, Boolean, Integer, Unsigned, ListOf}
 use Rattle.tlf.specs.declared.TypeLengthField.{TypeLengthField}
-use Rattle.tlf.specs.declared.Span.{Span}
-use Rattle.tlf.proofs.Rest.{Reads, Is, Made}
 use Rattle.tlf.proofs.Gets.{tyNumber, total, lengthBytes, typed, typed-reads, typed-not-one, list-of-reads}
 use Rattle.numbers.specs.Numbers.{number, unsignedAt, signedOf, signedAt}
 use Rattle.numbers.proofs.Gets.{unsigned-reads, signed-reads}
@@ -24,13 +24,14 @@ use Rattle.octet_string.proofs.Gets.{Part, octets-reads, absent-reads, present-
 use Rattle.value.specs.Values.{bytes, signed, timeAt, statusAt, valueAt}
 use Rattle.value.proofs.Gets.{time-reads, bare-time-reads, status-reads, bytes-value-reads, signed-value-reads}
 use Rattle.common.specs.Fields.{ListEntry, entryAt}
-use Rattle.common.proofs.Gets.{CloseHas, EntryHas, close-reads, entry-reads, message-end-reads}
+use Rattle.common.proofs.Gets.{CloseHas, EntryHas, close-reads, entry-reads}
 use Rattle.message.specs.Messages.{MessageStart, closed, listed, bodyAt, startAt, listEndAt}
 use Rattle.message.proofs.Gets.{ListStartHas, ListEndHas, StartHas, list-start-reads, list-end-reads, close-content-reads, list-content-reads, body-reads, start-reads}
 use Rattle.trailer.specs.Trailer.{swapped}
+use Rattle.trailer.proofs.Gets.{message-end-reads}
 use Rattle.events.specs.Message.{messageAt}
 use Rattle.events.proofs.Cuts.{listMessage, closeMessage}
-use Rattle.events.proofs.Gets.{EntriesHave, ContentHas, MessageHas, no-entries-reads, entries-reads, close-body-rest, list-body-rest, message-reads}
+use Rattle.events.proofs.Gets.{ContentHas, MessageHas, close-body-rest, list-body-rest, message-reads}
 
 -- one length byte
 one : (ty : Ty) (len : ℕ) → total ty len 1 < 16 → Reads tlfAt (Is (record { ty = ty; len = len })) (typed ty 1 (total ty len 1))
@@ -162,9 +163,9 @@ list-crc : Reads (unsignedAt 2) (Is (swapped (crcOf (listHead ++ listContent))))
 unfolding typed lengthBytes number reflect polynomial bitStep bitSteps byteStep register finalXor crcOf
 list-crc = unsigned-field 2 (0x29 ∷ 0x11 ∷ []) (omega arith) (omega arith) (omega arith)
 
-pub list-message : Reads messageAt (MessageHas ListStarts (ContentHas (EntriesHave FirstEntry (EntriesHave SecondEntry (Is []))) (Made some (ListEndHas (Made some (Part (10 ∷ []))) (Made some (Is 9)))))) listMessage
+pub list-message : Reads messageAt (MessageHas ListStarts (ContentHas (OneMore FirstEntry (OneMore SecondEntry (Is []))) (Made some (ListEndHas (Made some (Part (10 ∷ []))) (Made some (Is 9)))))) listMessage
 list-message =
     message-reads listHead listContent list-start
-    (λ s x h. list-body-rest (h .body) (entries-reads 1 first-entry (entries-reads 0 second-entry no-entries-reads)) list-end)
+    (λ s x h. list-body-rest (h .body) (more-reads 1 first-entry (more-reads 0 second-entry (none-reads entryAt))) list-end)
     list-crc
     message-end-reads

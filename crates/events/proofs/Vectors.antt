@@ -5,16 +5,16 @@ use mathlib.Core.Bool.{true}
 use mathlib.Core.Option.{some, none}
 use lib.IntN.{pos, negsuc}
 use Rattle.crc_x25.specs.Crc.{reflect, polynomial, bitStep, bitSteps, byteStep, register, finalXor, crcOf}
-use Rattle.tlf.specs.Read.{then, guard, need, eof, mismatch, unexpected, crcMismatch, wrongEnd, byteAt, spanAt}
-use Rattle.tlf.specs.Refusals.{reserved, underflow, nextType, invalidTy}
+use Rattle.refusals.specs.Read.{then, guard, need, eof, mismatch, unexpected, crcMismatch, wrongEnd, byteAt, spanAt}
+use Rattle.refusals.specs.Answers.{reserved, underflow, nextType, invalidTy}
 use Rattle.tlf.specs.Lengths.{tlfAt, lengthFrom, lessOwn, listOfAt}
 use Rattle.numbers.specs.Numbers.{number, bytesAt, rawFrom, rawAt, unsignedAt, signedOf, signedAt, boolFrom, boolAt}
 use Rattle.octet_string.specs.Strings.{octetsAt}
 use Rattle.octet_string.specs.Optional.{absentAt, optional}
 use Rattle.value.specs.Values.{truth, bytes, signed, unsigned, listTime, timeAt, statusOf, statusAt, signedValue, unsignedValue, listTypeAt, valueOf, valueAt}
-use Rattle.common.specs.Fields.{openAt, closeAt, entryAt, messageEndAt}
+use Rattle.common.specs.Fields.{openAt, closeAt, entryAt}
 use Rattle.message.specs.Messages.{opened, closed, listed, listStartAt, listEndAt, contentAt, bodyAt, startAt}
-use Rattle.trailer.specs.Trailer.{crcFrom, trailerAt}
+use Rattle.trailer.specs.Trailer.{messageEndAt, crcFrom, trailerAt}
 use Rattle.streaming.specs.Next.{starts, entry, ends, event, noEvent, failed}
 use Rattle.events.specs.Events.{saysFirst, atStart, inside, entriesFrom, contentFrom, messagesFrom, eventsOf}
 

@@ -6,8 +6,8 @@ use mathlib.Core.Option.{Option, some, none}
 use Prim.Native.Nat.{ℕ, zero, suc, _≤_, _<_}
 use lib.ListN.{length}
 use borrow.Author.Tests.{lt-leb}
-use Rattle.tlf.specs.Read.{Read, got, refused, Refusal, then}
-use Rattle.tlf.specs.declared.Span.{Span}
+use Rattle.refusals.specs.Read.{Read, got, refused, Refusal, then, many}
+use Rattle.refusals.specs.declared.Span.{Span}
 use Rattle.common.specs.Fields.{ListEntry, entryAt}
 use Rattle.message.specs.Messages.{ListStart, ListEnd, Body, opened, closed, listed, MessageStart, startAt, listEndAt}
 use Rattle.trailer.specs.Trailer.{trailerAt}
@@ -30,7 +30,7 @@ entry-first end (got e n) q a k h = entry-more e (q n) (a n) k (h n)
 entry-first end (refused f) q a k h = record { tells = refl }
 
 entries-tell : (n : ℕ) (s : List ℕ) (at : ℕ) (k : ℕ → Answers) → Tells (λ xs. entryEvents xs []) (entriesAt n s at) (entriesFrom n s at k) k
-unfolding entriesAt entriesFrom entryEvents saysAll
+unfolding many entriesFrom entryEvents saysAll
 entries-tell zero s at k = record { tells = refl }
 entries-tell (suc n) s at k = entry-first (length s) (entryAt s at) _ _ k (λ m. entries-tell n s m k)
 

@@ -4,12 +4,13 @@ use mathlib.Core.List.{List, [], _∷_}
 use mathlib.Core.Bool.{cond}
 use lib.ListN.{length}
 use lib.Dec.{ltb, leb}
-use Rattle.tlf.specs.Read.{Read, got, refused, eof}
-use Rattle.tlf.specs.declared.Span.{Span}
+use Rattle.refusals.specs.Numbers.{inputTooLongNo, limit}
+use Rattle.refusals.specs.Read.{Read, got, refused, eof}
+use Rattle.refusals.specs.declared.Span.{Span}
 use Rattle.common.specs.Fields.{entryAt}
 use Rattle.message.specs.Messages.{MessageStart, Body, opened, closed, listed, startAt, listEndAt}
 use Rattle.trailer.specs.Trailer.{trailerAt}
-use Rattle.streaming.specs.Next.{MessageEvent, starts, entry, ends, Said, event, noEvent, failed, inputTooLong}
+use Rattle.streaming.specs.Next.{MessageEvent, starts, entry, ends, Said, event, noEvent, failed, alone}
 
 -- the answers of the first calls, and that of every later one
 pub record Answers : Type 0 where
@@ -70,5 +71,5 @@ messagesFrom (suc many) s at =
 -- a message has at least a byte, so that no input has more messages than bytes; an input that is too long is refused for ever
 unfoldable pub eventsOf : List ℕ → Answers
 eventsOf s =
-    cond (ltb 1048576 (length s)) (record { first = []; later = failed inputTooLong })
+    cond (ltb limit (length s)) (record { first = []; later = alone inputTooLongNo })
     (messagesFrom (suc (length s)) s 0)

@@ -2,7 +2,7 @@
 use Prim.Native.Nat.{ℕ}
 use mathlib.Core.List.{List}
 use mathlib.Core.Option.{Option, some, none}
-use Rattle.tlf.specs.declared.Span.{Span}
+use Rattle.refusals.specs.declared.Span.{Span}
 use Rattle.octet_string.specs.Strings.{partOf}
 use Rattle.value.specs.Values.{Status, Value, truth, bytes, signed, unsigned, listTime}
 use Rattle.common.specs.Fields.{OpenResponse, CloseResponse, ListEntry}

@@ -1,9 +1,9 @@
 -- What a reader must believe: a whole message, from its first byte to its end byte.
-use Prim.Native.Nat.{ℕ, zero, suc}
-use mathlib.Core.List.{List, [], _∷_}
+use Prim.Native.Nat.{ℕ}
+use mathlib.Core.List.{List, []}
 use mathlib.Core.Option.{Option, some, none}
-use Rattle.tlf.specs.Read.{Read, got, then}
-use Rattle.tlf.specs.declared.Span.{Span}
+use Rattle.refusals.specs.Read.{Read, got, then, many}
+use Rattle.refusals.specs.declared.Span.{Span}
 use Rattle.common.specs.Fields.{ListEntry, entryAt}
 use Rattle.message.specs.Messages.{MessageStart, ListEnd, Body, opened, closed, listed, startAt, listEndAt}
 use Rattle.trailer.specs.Trailer.{trailerAt}
@@ -18,12 +18,8 @@ pub record Message (T : Type 0) : Type 0 where
   pub content : Content T
 
 -- as many entries as the list's head says, one behind the other
-unfoldable pub entriesAt : ℕ → List ℕ → ℕ → Read (List (ListEntry Span))
-entriesAt zero s at = got [] at
-entriesAt (suc k) s at =
-    then (entryAt s at) λ e n.
-    then (entriesAt k s n) λ es m.
-    got (e ∷ es) m
+abbrev pub entriesAt : ℕ → List ℕ → ℕ → Read (List (ListEntry Span))
+entriesAt n s at = many n (entryAt s) at
 
 unfoldable pub contentOf : Body Span → List ℕ → ℕ → Read (Content Span)
 contentOf (opened b) s at = got (record { entries = []; end = none }) at

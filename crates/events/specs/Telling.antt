@@ -3,11 +3,11 @@ use Prim.Native.Nat.{ℕ}
 use mathlib.Core.Path.{_≡_}
 use mathlib.Core.List.{List, [], _∷_}
 use mathlib.Core.Option.{Option, some, none}
-use Rattle.tlf.specs.Read.{Read, got, refused, Refusal}
-use Rattle.tlf.specs.declared.Span.{Span}
+use Rattle.refusals.specs.Read.{Read, got, refused, Refusal}
+use Rattle.refusals.specs.declared.Span.{Span}
 use Rattle.common.specs.Fields.{ListEntry}
 use Rattle.message.specs.Messages.{ListEnd}
-use Rattle.streaming.specs.Next.{MessageEvent, starts, entry, ends, Said, event, noEvent, failed}
+use Rattle.streaming.specs.Next.{MessageEvent, starts, entry, ends, Said, event, noEvent, failed, alone}
 use Rattle.events.specs.Message.{Message}
 use Rattle.events.specs.Events.{Answers, saysFirst}
 
@@ -29,12 +29,13 @@ endEvents none = []
 unfoldable pub messageEvents : Message Span → List (MessageEvent Span)
 messageEvents m = starts (m .start) ∷ entryEvents (m .content .entries) (endEvents (m .content .end))
 
--- the first answer that is a refusal
+-- the first answer that is a refusal, if it stands at a place
 unfoldable pub firstRefusal : List Said → Option Refusal
 firstRefusal [] = none
 firstRefusal (event e ∷ xs) = firstRefusal xs
 firstRefusal (noEvent ∷ xs) = firstRefusal xs
 firstRefusal (failed f ∷ xs) = some f
+firstRefusal (alone n ∷ xs) = none
 
 -- the answers tell what a reading says: its events and what follows, or its refusal
 abbrev pub Telling : {A : Type 0} → (A → List (MessageEvent Span)) → Read A → Answers → (ℕ → Answers) → Type 0

@@ -10,11 +10,11 @@ use encoder::EncoderState;
 use encoder::Given;
 use encoder::Item;
 use octet_string::SpanCheck;
+use refusals::Fault;
+use refusals::ParseError;
+use refusals::Span;
 use streaming::Answer;
 use streaming::Next;
-use tlf::Fault;
-use tlf::ParseError;
-use tlf::Span;
 
 // What memory is filled with, and the byte that is pushed, so that a byte that is stored is seen.
 const FILL: u8 = 0xa5;

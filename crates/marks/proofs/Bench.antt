@@ -3,7 +3,7 @@ use mathlib.Core.Path.{refl}
 use Rattle.crc_x25.specs.Crc.{reflect, polynomial, bitStep, bitSteps, byteStep, register, finalXor, crcOf}
 use Rattle.frame.specs.Frame.{escaped, closed, frameOf}
 use Rattle.encoder.specs.Encode.{encodeTo}
-use Rattle.tlf.specs.Read.{then, guard, need, byteAt, spanAt}
+use Rattle.refusals.specs.Read.{then, guard, need, byteAt, spanAt}
 use Rattle.tlf.specs.Lengths.{tlfAt, lengthFrom, lessOwn}
 use Rattle.numbers.specs.Numbers.{number, bytesAt, rawFrom, rawAt, unsignedAt, signedOf, signedAt}
 use Rattle.octet_string.specs.Strings.{octetsAt}

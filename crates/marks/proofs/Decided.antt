@@ -4,9 +4,10 @@ use mathlib.Core.Bool.{cond}
 use mathlib.Core.Option.{Option, some, none}
 use Prim.Native.Nat.{ℕ}
 use lib.Dec.{eqb}
-use Rattle.tlf.specs.Refusals.{byteRead, spanRead, tlfRead, placeRead}
-use Rattle.tlf.specs.declared.ByteRead.the-variants as ByteR
-use Rattle.tlf.specs.declared.SpanRead.the-variants as SpanR
+use Rattle.refusals.specs.Answers.{byteRead, spanRead}
+use Rattle.refusals.specs.declared.ByteRead.the-variants as ByteR
+use Rattle.refusals.specs.declared.SpanRead.the-variants as SpanR
+use Rattle.tlf.specs.Answers.{tlfRead, placeRead}
 use Rattle.tlf.specs.declared.TlfRead.the-variants as TlfR
 use Rattle.tlf.specs.declared.PlaceRead.the-variants as PlaceR
 use Rattle.numbers.specs.Answers.{u8Read, u16Read, u32Read, u64Read, i8Read, i16Read, i32Read, i64Read, boolRead}
@@ -268,11 +269,11 @@ decided =
       parse-open-response = λ input at. injective openRead (views .open-response) _;
       parse-close-response = λ input at. injective closeRead (views .close-response) _;
       parse-list-entry = λ input at. injective entryRead (views .list-entry) _;
-      parse-message-end = λ input at. injective placeRead (views .place) _;
       parse-list-start = λ input at. injective listStartRead (views .list-start) _;
       parse-list-end = λ input at. injective listEndRead (views .list-end) _;
       parse-message-body = λ input at. injective bodyRead (views .message-body) _;
       parse-message-start = λ input at. injective startRead (views .message-start) _;
+      parse-message-end = λ input at. injective placeRead (views .place) _;
       parse-trailer = λ input start at. injective placeRead (views .place) _;
       parse-next = λ input at start pending. injective A.readerAfter (views .event) _;
       parser-new = λ input. oneOutcome _;

@@ -7,12 +7,13 @@ use lib.ListN.{length}
 use lib.Dec.{ltb, leb}
 use denote.Ref.{RefT, now}
 use Rattle.frame.proofs.Cases.{by-test}
-use Rattle.tlf.specs.Read.{Read, got, refused, eof}
-use Rattle.tlf.specs.declared.Span.{Span}
+use Rattle.refusals.specs.Numbers.{inputTooLongNo, limit}
+use Rattle.refusals.specs.Read.{Read, got, refused, eof}
+use Rattle.refusals.specs.declared.Span.{Span}
 use Rattle.common.specs.Fields.{entryAt}
 use Rattle.message.specs.Messages.{MessageStart, ListStart, Body, opened, closed, listed, startAt, listEndAt}
 use Rattle.trailer.specs.Trailer.{trailerAt}
-use Rattle.streaming.specs.Next.{MessageEvent, starts, entry, ends, Said, event, noEvent, failed, inputTooLong}
+use Rattle.streaming.specs.Next.{MessageEvent, starts, entry, ends, Said, event, noEvent, failed, alone}
 use Rattle.events.specs.Events.{Answers, nth, answer, saysFirst, atStart, inside, entriesFrom, contentFrom, messagesFrom, eventsOf}
 use Rattle.events.specs.Calls.{call}
 use Rattle.events.proofs.Calls.{calls-are-events}
@@ -66,6 +67,7 @@ isStart (event (entry e)) = false
 isStart (event (ends e)) = false
 isStart noEvent = false
 isStart (failed f) = false
+isStart (alone n) = false
 
 -- the start that an answer is, or else m
 startIn : MessageStart Span → Said → MessageStart Span
@@ -74,6 +76,7 @@ startIn m (event (entry e)) = m
 startIn m (event (ends e)) = m
 startIn m noEvent = m
 startIn m (failed f) = m
+startIn m (alone n) = m
 
 no-start : {x : Said} {m : MessageStart Span} {P : Type 0} → isStart x ≡ false → x ≡ event (starts m) → P
 unfolding isStart
@@ -140,7 +143,7 @@ listed-messages (suc many) s at =
 
 tables-list : (s : List ℕ) → Listed (eventsOf s)
 unfolding eventsOf isStart
-tables-list s = by-test Listed (ltb 1048576 (length s)) _ _ (λ e. listed-ever (failed inputTooLong) refl) (λ e. listed-messages (suc (length s)) s 0)
+tables-list s = by-test Listed (ltb limit (length s)) _ _ (λ e. listed-ever (alone inputTooLongNo) refl) (λ e. listed-messages (suc (length s)) s 0)
 
 -- ---- and so of every reader that says what they say
 

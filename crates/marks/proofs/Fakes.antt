@@ -15,7 +15,7 @@ use Rattle.encoder.specs.Encoder as N
 use Rattle.decoder.specs.Push.{Setup, searching, store, same, finish, judge, step, finalized}
 use Rattle.decoder.specs.Record.{Answer, nothing, payload, count, refusal, wrote, badDecoder, wrongBuffer, pushed, pushRecord, finalizeRecord, newRecord, hasPayload, payloadRecord}
 use Rattle.decoder.specs.Run.{push, act}
-use Rattle.tlf.specs.Read.{then, guard, need, byteAt, spanAt}
+use Rattle.refusals.specs.Read.{then, guard, need, byteAt, spanAt}
 use Rattle.tlf.specs.Lengths.{tlfAt, lengthFrom, lessOwn, listOfAt}
 use Rattle.numbers.specs.Numbers.{number, bytesAt, rawFrom, rawAt, unsignedAt, signedOf, signedAt}
 use Rattle.octet_string.specs.Strings.{octetsAt}
@@ -23,7 +23,7 @@ use Rattle.octet_string.specs.Optional.{absentAt, optional}
 use Rattle.value.specs.Values.{timeAt, statusOf, statusAt, signedValue, unsignedValue, listTypeAt, valueOf, valueAt}
 use Rattle.common.specs.Fields.{entryAt}
 use Rattle.message.specs.Messages.{listStartAt, contentAt, bodyAt, startAt}
-use Rattle.streaming.specs.Next.{Said, event, starts, entry, ends, noEvent, failed, onward, beginAt, entryNext, stepAt, nextAt}
+use Rattle.streaming.specs.Next.{Said, event, starts, entry, ends, noEvent, failed, alone, onward, beginAt, entryNext, stepAt, nextAt}
 use Rattle.events.specs.Events.{nth, answer, saysFirst, atStart, inside, entriesFrom, contentFrom, messagesFrom, eventsOf}
 use Rattle.marks.specs.Decoders.{answers, behindOf, countFrom, ours}
 use Rattle.marks.specs.Mark2.{PushesBytes, Soundness, Completeness, OurSearch}
@@ -204,6 +204,7 @@ saidCode (event (entry e)) = 2
 saidCode (event (ends e)) = 3
 saidCode noEvent = 0
 saidCode (failed f) = 4
+saidCode (alone n) = 5
 
 silent-events : ReaderGives withoutEvents → ⊥
 unfolding then guard need byteAt spanAt tlfAt lengthFrom lessOwn listOfAt number bytesAt rawFrom rawAt unsignedAt signedOf signedAt octetsAt absentAt optional timeAt statusOf statusAt signedValue unsignedValue listTypeAt valueOf valueAt entryAt listStartAt contentAt bodyAt startAt saidCode saysAt nth answer saysFirst atStart messagesFrom eventsOf

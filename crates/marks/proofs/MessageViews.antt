@@ -3,10 +3,8 @@ use mathlib.Core.Path.{_≡_, refl, ap}
 use mathlib.Core.Bool.{cond}
 use Prim.Native.Nat.{ℕ}
 use lib.Dec.{eqb}
-use Rattle.tlf.specs.Refusals.{refusalOf}
-use Rattle.tlf.specs.declared.ParseError.{ParseError}
-use Rattle.tlf.specs.declared.ParseError.the-variants.{UnexpectedEOF, InvalidTlf, TlfMismatch, CrcMismatch, MsgEndMismatch, UnexpectedVariant}
-use Rattle.tlf.specs.declared.Span.{Span}
+use Rattle.refusals.specs.Numbers.{inputTooLongNo}
+use Rattle.refusals.specs.declared.Span.{Span}
 use Rattle.octet_string.specs.Answers.{optSpan}
 use Rattle.octet_string.specs.declared.OptSpan.{OptSpan}
 use Rattle.octet_string.specs.declared.OptSpan.the-variants.{Present, Absent}
@@ -52,7 +50,7 @@ use Rattle.message.specs.declared.ListEndRead.the-variants as ListEndR
 use Rattle.message.specs.declared.BodyRead.the-variants as BodyR
 use Rattle.message.specs.declared.StartRead.the-variants as StartR
 use Rattle.streaming.specs.Next as N
-use Rattle.streaming.specs.Next.{starts, entry, ends, Said, event, noEvent, failed, ReaderAfter}
+use Rattle.streaming.specs.Next.{starts, entry, ends, Said, event, noEvent, failed, alone, ReaderAfter}
 use Rattle.streaming.specs.Answers.{parseEvent, said, readerAfter}
 use Rattle.streaming.specs.declared.ParseEvent.{ParseEvent}
 use Rattle.streaming.specs.declared.ParseEvent.the-variants as EventC
@@ -61,7 +59,7 @@ use Rattle.streaming.specs.declared.Answer.the-variants as AnswerC
 use Rattle.parser.specs.Reader.{Called, afterNext}
 use Rattle.parser.specs.declared.Parser.{Parser}
 use Rattle.marks.specs.Decided.{Beside, Injective}
-use Rattle.marks.proofs.Undone.{undone, faultFrom, error-back, itIs, itLost, reads, fieldFrom}
+use Rattle.marks.proofs.Undone.{undone, faultFrom, fault-back, itIs, itLost, reads, fieldFrom}
 
 -- ---- optional fields
 
@@ -245,26 +243,18 @@ event-back (EventC.MessageStart x) = ap EventC.MessageStart (start-back x)
 event-back (EventC.GetListResponseEnd x) = ap EventC.GetListResponseEnd (list-end-back x)
 event-back (EventC.ListEntry x) = ap EventC.ListEntry (entry-back x)
 
--- 9 and 4 are answers of their own, every other refusal is a reading's
+-- 9 and 4 stand at no place, every other refusal is a reading's
 answerFrom : Said → Answer
 answerFrom (event e) = AnswerC.Event (eventFrom e)
 answerFrom noEvent = AnswerC.NoEvent
-answerFrom (failed f) = cond (eqb (f .number) 9) AnswerC.InputTooLong (cond (eqb (f .number) 4) AnswerC.BadState (AnswerC.Refused (faultFrom f)))
-
-refused-back : (e : ParseError) (p : ℕ) → answerFrom (failed (refusalOf e p)) ≡ AnswerC.Refused (record { error = e; place = p })
-unfolding answerFrom
-refused-back UnexpectedEOF p = ap AnswerC.Refused (error-back UnexpectedEOF p)
-refused-back (InvalidTlf kind) p = ap AnswerC.Refused (error-back (InvalidTlf kind) p)
-refused-back TlfMismatch p = ap AnswerC.Refused (error-back TlfMismatch p)
-refused-back UnexpectedVariant p = ap AnswerC.Refused (error-back UnexpectedVariant p)
-refused-back CrcMismatch p = ap AnswerC.Refused (error-back CrcMismatch p)
-refused-back MsgEndMismatch p = ap AnswerC.Refused (error-back MsgEndMismatch p)
+answerFrom (failed f) = AnswerC.Refused (faultFrom f)
+answerFrom (alone n) = cond (eqb n inputTooLongNo) AnswerC.InputTooLong AnswerC.BadState
 
 said-back : (r : Answer) → answerFrom (said r) ≡ r
 unfolding answerFrom
 said-back (AnswerC.Event e) = ap AnswerC.Event (event-back e)
 said-back AnswerC.NoEvent = refl
-said-back (AnswerC.Refused f) = refused-back (f .error) (f .place)
+said-back (AnswerC.Refused f) = ap AnswerC.Refused (fault-back f)
 said-back AnswerC.InputTooLong = refl
 said-back AnswerC.BadState = refl
 

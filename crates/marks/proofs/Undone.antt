@@ -4,13 +4,14 @@ use mathlib.Core.Bool.{cond}
 use mathlib.Core.Option.{Option, some, none}
 use Prim.Native.Nat.{ℕ}
 use lib.Dec.{eqb}
-use Rattle.tlf.specs.Read.{Read, got, refused, Refusal}
-use Rattle.tlf.specs.Refusals.{refusalOf, faultOf}
-use Rattle.tlf.specs.declared.TlfParseError.{TlfParseError}
-use Rattle.tlf.specs.declared.TlfParseError.the-variants.{TlfLengthOverflow, TlfReserved, TlfLengthUnderflow, TlfNextByteTypeMismatch, TlfInvalidTy}
-use Rattle.tlf.specs.declared.ParseError.{ParseError}
-use Rattle.tlf.specs.declared.ParseError.the-variants.{UnexpectedEOF, InvalidTlf, TlfMismatch, CrcMismatch, MsgEndMismatch, UnexpectedVariant}
-use Rattle.tlf.specs.declared.Fault.{Fault}
+use Rattle.refusals.specs.Numbers.{unexpectedEofNo, invalidTlfNo, tlfMismatchNo, unexpectedVariantNo, crcMismatchNo}
+use Rattle.refusals.specs.Read.{Read, got, refused, Refusal}
+use Rattle.refusals.specs.Answers.{refusalOf, faultOf}
+use Rattle.refusals.specs.declared.TlfParseError.{TlfParseError}
+use Rattle.refusals.specs.declared.TlfParseError.the-variants.{TlfLengthOverflow, TlfReserved, TlfLengthUnderflow, TlfNextByteTypeMismatch, TlfInvalidTy}
+use Rattle.refusals.specs.declared.ParseError.{ParseError}
+use Rattle.refusals.specs.declared.ParseError.the-variants.{UnexpectedEOF, InvalidTlf, TlfMismatch, CrcMismatch, MsgEndMismatch, UnexpectedVariant}
+use Rattle.refusals.specs.declared.Fault.{Fault}
 use Rattle.marks.specs.Decided.{One, Injective}
 
 -- ---- the argument, once
@@ -34,8 +35,8 @@ kindFrom k = cond (eqb k 1) TlfLengthOverflow (cond (eqb k 2) TlfReserved (cond 
 
 errorFrom : ℕ → ℕ → ParseError
 errorFrom n k =
-    cond (eqb n 10) UnexpectedEOF
-    (cond (eqb n 11) (InvalidTlf (kindFrom k)) (cond (eqb n 12) TlfMismatch (cond (eqb n 13) UnexpectedVariant (cond (eqb n 14) CrcMismatch MsgEndMismatch))))
+    cond (eqb n unexpectedEofNo) UnexpectedEOF
+    (cond (eqb n invalidTlfNo) (InvalidTlf (kindFrom k)) (cond (eqb n tlfMismatchNo) TlfMismatch (cond (eqb n unexpectedVariantNo) UnexpectedVariant (cond (eqb n crcMismatchNo) CrcMismatch MsgEndMismatch))))
 
 pub faultFrom : Refusal → Fault
 faultFrom r = record { error = errorFrom (r .number) (r .kind); place = r .place }

@@ -5,12 +5,12 @@ use mathlib.Core.Option.{Option, some}
 use Prim.Native.Nat.{ℕ, suc}
 use lib.ListN.{replicate}
 use lib.IntN.{ℤ, negsuc}
-use Rattle.tlf.specs.Read.{Read, got, Refusal}
-use Rattle.tlf.specs.Read as L
+use Rattle.refusals.specs.Read.{Read, got, Refusal}
+use Rattle.refusals.specs.Read as L
+use Rattle.refusals.specs.declared.Span.{Span}
 use Rattle.tlf.specs.Lengths.{tlfAt}
 use Rattle.tlf.specs.declared.Ty.the-variants.{OctetString}
 use Rattle.tlf.specs.declared.TypeLengthField.{TypeLengthField}
-use Rattle.tlf.specs.declared.Span.{Span}
 use Rattle.numbers.specs.Numbers.{unsignedAt, signedAt}
 use Rattle.octet_string.specs.Strings.{octetsAt}
 use Rattle.octet_string.specs.Optional.{optional}

@@ -5,13 +5,14 @@ use mathlib.Core.List.{List}
 use Prim.Native.Nat.{ℕ}
 use denote.Ref.{RefT}
 use Rattle.crc_x25.specs.Crc.{start, byteStep, register, finalXor, crcOf}
-use Rattle.tlf.specs.Read.{byteAt, spanAt}
-use Rattle.tlf.specs.Refusals.{byteRead, spanRead, tlfRead, placeRead}
+use Rattle.refusals.specs.Read.{byteAt, spanAt}
+use Rattle.refusals.specs.Answers.{byteRead, spanRead}
+use Rattle.refusals.specs.declared.Span.{Span}
+use Rattle.refusals.specs.declared.ByteRead.{ByteRead}
+use Rattle.refusals.specs.declared.SpanRead.{SpanRead}
+use Rattle.tlf.specs.Answers.{tlfRead, placeRead}
 use Rattle.tlf.specs.Lengths.{isList, isBoolean, tlfAt, isListOf, listOfAt}
 use Rattle.tlf.specs.declared.Ty.{Ty}
-use Rattle.tlf.specs.declared.Span.{Span}
-use Rattle.tlf.specs.declared.ByteRead.{ByteRead}
-use Rattle.tlf.specs.declared.SpanRead.{SpanRead}
 use Rattle.tlf.specs.declared.TlfRead.{TlfRead}
 use Rattle.tlf.specs.declared.PlaceRead.{PlaceRead}
 use Rattle.tlf.specs.declared.TypeLengthField.{TypeLengthField}
@@ -61,7 +62,7 @@ use Rattle.value.specs.declared.OptU8Read.{OptU8Read}
 use Rattle.value.specs.declared.OptI8Read.{OptI8Read}
 use Rattle.value.specs.declared.OptTimeRead.{OptTimeRead}
 use Rattle.value.specs.declared.OptStatusRead.{OptStatusRead}
-use Rattle.common.specs.Fields.{openAt, closeAt, entryAt, messageEndAt}
+use Rattle.common.specs.Fields.{openAt, closeAt, entryAt}
 use Rattle.common.specs.Answers.{openRead, closeRead, entryRead}
 use Rattle.common.specs.declared.OpenRead.{OpenRead}
 use Rattle.common.specs.declared.CloseRead.{CloseRead}
@@ -72,7 +73,7 @@ use Rattle.message.specs.declared.ListStartRead.{ListStartRead}
 use Rattle.message.specs.declared.ListEndRead.{ListEndRead}
 use Rattle.message.specs.declared.BodyRead.{BodyRead}
 use Rattle.message.specs.declared.StartRead.{StartRead}
-use Rattle.trailer.specs.Trailer.{trailerAt}
+use Rattle.trailer.specs.Trailer.{messageEndAt, trailerAt}
 use Rattle.streaming.specs.Next.{nextAt}
 use Rattle.streaming.specs.Answers.{readerAfter}
 use Rattle.streaming.specs.declared.Answer.{Answer}
@@ -154,9 +155,10 @@ pub record Decided : Type 0 where
   pub update : (reg : ℕ) (s : List ℕ) → One (λ (r : ℕ). r ≡ register reg s)
   pub finalize : (reg : ℕ) → One (λ (r : ℕ). r ≡ finalXor reg)
   pub checksum : (s : List ℕ) → One (λ (r : ℕ). r ≡ crcOf s)
-  -- tlf
+  -- refusals
   pub take-byte : (input : List ℕ) (at : ℕ) → One (λ (r : ByteRead). byteRead r ≡ byteAt input at)
   pub take-n : (input : List ℕ) (at n : ℕ) → One (λ (r : SpanRead). spanRead r ≡ spanAt input at n)
+  -- tlf
   pub is-list : (self : Ty) → One (λ (r : Bool). r ≡ isList self)
   pub is-boolean : (self : Ty) → One (λ (r : Bool). r ≡ isBoolean self)
   pub tlf-parse : (input : List ℕ) (at : ℕ) → One (λ (r : TlfRead). tlfRead r ≡ tlfAt input at)
@@ -228,13 +230,13 @@ pub record Decided : Type 0 where
   pub parse-open-response : (input : List ℕ) (at : ℕ) → One (λ (r : OpenRead). openRead r ≡ openAt input at)
   pub parse-close-response : (input : List ℕ) (at : ℕ) → One (λ (r : CloseRead). closeRead r ≡ closeAt input at)
   pub parse-list-entry : (input : List ℕ) (at : ℕ) → One (λ (r : EntryRead). entryRead r ≡ entryAt input at)
-  pub parse-message-end : (input : List ℕ) (at : ℕ) → One (λ (r : PlaceRead). placeRead r ≡ messageEndAt input at)
   -- message
   pub parse-list-start : (input : List ℕ) (at : ℕ) → One (λ (r : ListStartRead). listStartRead r ≡ listStartAt input at)
   pub parse-list-end : (input : List ℕ) (at : ℕ) → One (λ (r : ListEndRead). listEndRead r ≡ listEndAt input at)
   pub parse-message-body : (input : List ℕ) (at : ℕ) → One (λ (r : BodyRead). bodyRead r ≡ bodyAt input at)
   pub parse-message-start : (input : List ℕ) (at : ℕ) → One (λ (r : StartRead). startRead r ≡ startAt input at)
   -- trailer
+  pub parse-message-end : (input : List ℕ) (at : ℕ) → One (λ (r : PlaceRead). placeRead r ≡ messageEndAt input at)
   pub parse-trailer : (input : List ℕ) (start at : ℕ) → One (λ (r : PlaceRead). placeRead r ≡ trailerAt input start at)
   -- streaming
   pub parse-next : (input : List ℕ) (at start pending : ℕ) → One (λ (r : Next). readerAfter r ≡ nextAt input at start pending)

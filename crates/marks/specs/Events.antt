@@ -3,8 +3,8 @@ use mathlib.Core.Path.{_≡_}
 use mathlib.Core.List.{List}
 use Prim.Native.Nat.{ℕ, zero, suc}
 use denote.Ref.{RefT, now}
-use Rattle.tlf.specs.Read.{Refusal}
-use Rattle.tlf.specs.declared.Span.{Span}
+use Rattle.refusals.specs.Read.{Refusal}
+use Rattle.refusals.specs.declared.Span.{Span}
 use Rattle.common.specs.Fields.{ListEntry}
 use Rattle.message.specs.Messages.{MessageStart, ListStart, ListEnd, listed}
 use Rattle.streaming.specs.Next.{starts, entry, ends, Said, event, failed, ReaderAfter, nextAt}

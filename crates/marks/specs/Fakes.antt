@@ -8,7 +8,7 @@ use Rattle.encoder.specs.Encoder.{finished}
 use Rattle.decoder.specs.Record.{Answer, nothing, payload, count, refusal, payloadRecord}
 use Rattle.decoder.specs.Run.{Op, push, finalize, reset}
 use Rattle.decoder.specs.declared.Decoder.{Decoder}
-use Rattle.streaming.specs.Next.{Said, event, starts, entry, ends, noEvent, failed}
+use Rattle.streaming.specs.Next.{Said, event, starts, entry, ends, noEvent, failed, alone}
 use Rattle.marks.specs.Decoders.{Gave, Machine, ours}
 use Rattle.marks.specs.Mark2.{Soundness, Completeness, OurSearch}
 use Rattle.marks.specs.Mark3.{Encode, Mark3}
@@ -125,6 +125,7 @@ entryless (event (entry e)) = noEvent
 entryless (event (ends e)) = event (ends e)
 entryless noEvent = noEvent
 entryless (failed f) = failed f
+entryless (alone n) = alone n
 
 -- a list start and no entries
 abbrev pub noEntries : Reader (List ℕ) Numbers

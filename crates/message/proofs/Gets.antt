@@ -3,12 +3,12 @@ use mathlib.Core.Path.{_≡_, refl}
 use mathlib.Core.List.{List, [], _∷_, _++_, append-assoc}
 use mathlib.Core.Option.{Option}
 use Prim.Native.Nat.{ℕ}
-use Rattle.tlf.specs.Read.{Read}
+use Rattle.refusals.specs.Read.{Read}
+use Rattle.refusals.specs.declared.Span.{Span}
+use Rattle.refusals.proofs.Rest.{Rest, Gets, Reads, Is, Made, gets-is, gets-then, gets-guard, gets-got, gets-made}
 use Rattle.tlf.specs.Lengths.{tlfAt, listOfAt}
 use Rattle.tlf.specs.declared.Ty.the-variants.{ListOf}
 use Rattle.tlf.specs.declared.TypeLengthField.{TypeLengthField}
-use Rattle.tlf.specs.declared.Span.{Span}
-use Rattle.tlf.proofs.Rest.{Rest, Gets, Reads, Is, Made, gets-is, gets-then, gets-guard, gets-got, gets-made}
 use Rattle.numbers.specs.Numbers.{unsignedAt}
 use Rattle.octet_string.specs.Strings.{octetsAt}
 use Rattle.octet_string.specs.Optional.{optional}

@@ -5,13 +5,13 @@ use Prim.Native.Nat.{ℕ, _+_, _^_, _≤_, _<_}
 use native.Mathlib.Omega.{arith}
 use lib.ListN.{length}
 use lib.Dec.{eqb}
-use Rattle.tlf.specs.Read.{Read, got, refused}
+use Rattle.refusals.specs.Read.{Read, got, refused}
+use Rattle.refusals.specs.declared.Span.{Span}
+use Rattle.refusals.proofs.Read.{Ok, ok-guard, ok-cond}
+use Rattle.refusals.proofs.Found.{Found, Any, any, from, on, found, found-on}
 use Rattle.tlf.specs.Lengths.{tlfAt}
 use Rattle.tlf.specs.declared.TypeLengthField.{TypeLengthField}
-use Rattle.tlf.specs.declared.Span.{Span}
-use Rattle.tlf.proofs.Read.{Ok, ok-guard, ok-cond}
 use Rattle.tlf.proofs.Lengths.{tlf-ok, tlf-small, list-of-ok}
-use Rattle.tlf.proofs.Found.{Found, Any, any, from, on, found, found-on}
 use Rattle.numbers.proofs.Ahead.{unsigned-found}
 use Rattle.octet_string.proofs.Within.{Within, Has, octets-found}
 use Rattle.common.proofs.Fields.{OpenWithin, CloseWithin, opt-octets, opt-time, open-found, close-found}

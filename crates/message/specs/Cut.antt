@@ -2,10 +2,10 @@
 use Prim.Native.Nat.{ℕ}
 use mathlib.Core.List.{List}
 use mathlib.Core.Option.{Option}
-use Rattle.tlf.specs.Read.{Read, got, then, guard, mismatch}
+use Rattle.refusals.specs.Read.{Read, got, then, guard, mismatch}
+use Rattle.refusals.specs.declared.Span.{Span}
 use Rattle.tlf.specs.Lengths.{tlfAt, isList}
 use Rattle.tlf.specs.declared.TypeLengthField.{TypeLengthField}
-use Rattle.tlf.specs.declared.Span.{Span}
 use Rattle.message.specs.Messages.{ListStart}
 
 unfoldable pub listStartRest : Option Span → Span → Option Span → Option ℕ → List ℕ → ℕ → Read (ListStart Span)

@@ -4,10 +4,10 @@ use mathlib.Core.List.{List}
 use mathlib.Core.Bool.{cond}
 use mathlib.Core.Option.{Option}
 use lib.Dec.{eqb}
-use Rattle.tlf.specs.Read.{Read, got, refused, then, guard, mismatch, unexpected}
+use Rattle.refusals.specs.Read.{Read, got, refused, then, guard, mismatch, unexpected}
+use Rattle.refusals.specs.declared.Span.{Span}
 use Rattle.tlf.specs.Lengths.{tlfAt, isList, listOfAt}
 use Rattle.tlf.specs.declared.TypeLengthField.{TypeLengthField}
-use Rattle.tlf.specs.declared.Span.{Span}
 use Rattle.numbers.specs.Numbers.{unsignedAt}
 use Rattle.octet_string.specs.Strings.{octetsAt}
 use Rattle.octet_string.specs.Optional.{optional}

@@ -4,10 +4,10 @@ use mathlib.Core.Bool.{Bool}
 use Prim.Native.Nat.{ℕ, _+_, _≤_, _<_}
 use native.Mathlib.Omega.{arith}
 use lib.ListN.{length}
-use Rattle.tlf.specs.Read.{Read}
-use Rattle.tlf.proofs.Read.{Ok, ok-got, ok-then, ok-guard, ok-weak, Ahead, span-ok}
+use Rattle.refusals.specs.Read.{Read}
+use Rattle.refusals.proofs.Read.{Ok, ok-got, ok-then, ok-guard, ok-weak, Ahead, span-ok}
+use Rattle.refusals.proofs.Found.{Found, Any, any, from, found}
 use Rattle.tlf.proofs.Lengths.{tlf-ok}
-use Rattle.tlf.proofs.Found.{Found, Any, any, from, found}
 use Rattle.numbers.specs.Numbers.{bytesAt, rawFrom, rawAt, unsignedAt, signedAt, boolAt}
 use Rattle.numbers.proofs.Numbers.{bool-ok}
 

@@ -3,7 +3,7 @@ use mathlib.Core.Path.{_≡_, refl}
 use mathlib.Core.Bool.{true, false}
 use mathlib.Core.List.{List, [], _∷_}
 use lib.IntN.{pos, negsuc}
-use Rattle.tlf.specs.Read.{got, refused, then, guard, need, eof, mismatch, byteAt, spanAt}
+use Rattle.refusals.specs.Read.{got, refused, then, guard, need, eof, mismatch, byteAt, spanAt}
 use Rattle.tlf.specs.Lengths.{tlfAt, lengthFrom, lessOwn}
 use Rattle.numbers.specs.Numbers.{number, bytesAt, rawFrom, rawAt, unsignedAt, signedOf, signedAt, boolFrom, boolAt}
 

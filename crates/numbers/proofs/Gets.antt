@@ -7,12 +7,12 @@ use lib.ListN.{length}
 use lib.Dec.{leb, eqb}
 use lib.IntN.{ℤ}
 use borrow.Author.Tests.{le-leb}
-use Rattle.tlf.specs.Read.{Read}
+use Rattle.refusals.specs.Read.{Read}
+use Rattle.refusals.proofs.Rest.{Rest, Gets, Reads, Is, gets-is, gets-guard, gets-got, byte-gets}
 use Rattle.tlf.specs.Lengths.{tlfAt}
 use Rattle.tlf.specs.declared.Ty.{Ty}
 use Rattle.tlf.specs.declared.Ty.the-variants.{Boolean, Integer, Unsigned}
 use Rattle.tlf.specs.declared.TypeLengthField.{TypeLengthField}
-use Rattle.tlf.proofs.Rest.{Rest, Gets, Reads, Is, gets-is, gets-guard, gets-got, byte-gets}
 use Rattle.numbers.specs.Numbers.{number, Raw, isNumber, rawFrom, rawAt, unsignedAt, signedOf, signedAt, boolFrom, boolAt}
 use Rattle.numbers.proofs.Numbers.{bytes-gets}
 

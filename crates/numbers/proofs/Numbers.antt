@@ -15,13 +15,13 @@ use mir.Syntax.{Width, w8, w64}
 use mir.Val.{toZ, ofZ, Fits, SFits}
 use mir.ValLaws.{toZ-ofZ}
 use borrow.Author.Tests.{leb-true, ltb-true, ltb-false}
-use Rattle.tlf.specs.Read.{Read, got, then, spanAt}
-use Rattle.tlf.specs.declared.Span.{Span}
+use Rattle.refusals.specs.Read.{Read, got, then, spanAt}
+use Rattle.refusals.specs.declared.Span.{Span}
+use Rattle.refusals.proofs.Read.{Ok, ok-at, ok-got, ok-then, ok-guard, Ahead, byte-ok, Inside, span-ok, and-left, and-right}
+use Rattle.refusals.proofs.Rest.{Rest, Gets, gets-then, gets-got, span-gets}
 use Rattle.tlf.specs.Lengths.{tlfAt}
 use Rattle.tlf.specs.declared.TypeLengthField.{TypeLengthField}
-use Rattle.tlf.proofs.Read.{Ok, ok-at, ok-got, ok-then, ok-guard, Ahead, byte-ok, Inside, span-ok, and-left, and-right}
 use Rattle.tlf.proofs.Lengths.{tlf-ok}
-use Rattle.tlf.proofs.Rest.{Rest, Gets, gets-then, gets-got, span-gets}
 use Rattle.numbers.specs.Numbers.{number, bytesAt, Raw, isNumber, fitsWidth, rawFrom, rawAt, unsignedAt, signedOf, signedAt, boolFrom, boolAt}
 
 pub neg-one-sub : (k : ℕ) → negsuc 0 -ℤ pos k ≡ negsuc k

@@ -8,10 +8,10 @@ use native.Mathlib.Numerals.{unary-clauses}
 use native.Mathlib.Omega.{arith}
 use lib.ListN.{length, getD, take, drop, length-drop}
 use borrow.Author.Tests.{le-leb}
-use Rattle.tlf.specs.Read.{got, then, guard}
+use Rattle.refusals.specs.Read.{got, then, guard}
+use Rattle.refusals.proofs.Read.{span-room}
 use Rattle.tlf.specs.Lengths.{tlfAt}
 use Rattle.tlf.specs.declared.Ty.the-variants.{Integer, Unsigned}
-use Rattle.tlf.proofs.Read.{span-room}
 use Rattle.tlf.proofs.Short.{field-one}
 use Rattle.numbers.specs.Numbers.{number, bytesAt, rawFrom, rawAt, unsignedAt, signedOf, signedAt}
 use Rattle.numbers.proofs.Numbers.{number-next}

@@ -2,8 +2,8 @@
 use Prim.Native.Nat.{ℕ}
 use mathlib.Core.Bool.{Bool}
 use lib.IntN.{ℤ}
-use Rattle.tlf.specs.Read.{Read, got, refused}
-use Rattle.tlf.specs.Refusals.{faultOf}
+use Rattle.refusals.specs.Read.{Read, got, refused}
+use Rattle.refusals.specs.Answers.{faultOf}
 use Rattle.numbers.specs.Numbers.{Raw}
 use Rattle.numbers.specs.declared.RawRead.{RawRead}
 use Rattle.numbers.specs.declared.RawRead.the-variants as RawR

@@ -5,7 +5,7 @@ use mathlib.Core.Bool.{Bool, true, false, cond, not, _&&_}
 use lib.ListN.{take, drop}
 use lib.Dec.{ltb, leb, eqb}
 use lib.IntN.{ℤ, pos, negsuc}
-use Rattle.tlf.specs.Read.{Read, got, then, guard, mismatch, byteAt, spanAt}
+use Rattle.refusals.specs.Read.{Read, got, then, guard, mismatch, byteAt, spanAt}
 use Rattle.tlf.specs.Lengths.{tlfAt, isBoolean}
 use Rattle.tlf.specs.declared.Ty.{Ty}
 use Rattle.tlf.specs.declared.Ty.the-variants.{OctetString, Boolean, Integer, Unsigned, ListOf}

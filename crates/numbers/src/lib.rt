@@ -7,10 +7,10 @@ ghost use lib.ListN.{length, getD, take, drop};
 ghost use Rattle.tlf.specs.Lengths.{isBoolean};
 ghost use Rattle.numbers.specs.Numbers.{number, bytesAt, isNumber, fitsWidth, rawFrom, rawAt, unsignedAt, signedOf, signedAt, boolFrom, boolAt};
 ghost use Rattle.numbers.specs.Answers.{rawRead, u8Read, u16Read, u32Read, u64Read, i8Read, i16Read, i32Read, i64Read, boolRead};
-use tlf::ByteRead;
-use tlf::Fault;
-use tlf::ParseError;
-use tlf::SpanRead;
+use refusals::ByteRead;
+use refusals::Fault;
+use refusals::ParseError;
+use refusals::SpanRead;
 use tlf::TlfRead;
 use tlf::Ty;
 use tlf::TypeLengthField;
@@ -71,7 +71,7 @@ fn take_num(input: &[u8], at: usize, len: u32) -> RawRead
     ensures { λ r. ⌜ rawRead r ≡ rawFrom (now (input .entry)) at len ⌝ }
 {
     let n = len as usize;
-    match tlf::take_n(input, at, n) {
+    match refusals::take_n(input, at, n) {
         SpanRead::Is { span: _, next } => RawRead::Is {
             len,
             value: from_be_bytes(input, at, n),
@@ -363,7 +363,7 @@ fn is_bool(tlf: TypeLengthField) -> bool
 fn take_bool(input: &[u8], at: usize) -> BoolRead
     ensures { λ r. ⌜ boolRead r ≡ boolFrom (now (input .entry)) at ⌝ }
 {
-    match tlf::take_byte(input, at) {
+    match refusals::take_byte(input, at) {
         ByteRead::Is { byte, next } => BoolRead::Is {
             value: byte != 0,
             next,

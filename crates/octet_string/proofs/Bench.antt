@@ -2,8 +2,8 @@
 use mathlib.Core.Path.{_≡_, refl}
 use mathlib.Core.List.{List, [], _∷_}
 use mathlib.Core.Option.{some, none}
-use Rattle.tlf.specs.Read.{got, refused, then, guard, need, eof, mismatch, byteAt, spanAt}
-use Rattle.tlf.specs.Refusals.{underflow}
+use Rattle.refusals.specs.Read.{got, refused, then, guard, need, eof, mismatch, byteAt, spanAt}
+use Rattle.refusals.specs.Answers.{underflow}
 use Rattle.tlf.specs.Lengths.{tlfAt, lengthFrom, lessOwn}
 use Rattle.octet_string.specs.Strings.{octetsAt, isWithin, partOf, spanRefusal}
 use Rattle.octet_string.specs.Optional.{absentAt, optional}

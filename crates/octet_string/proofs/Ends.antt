@@ -4,7 +4,7 @@ use mathlib.Core.List.{List}
 use Prim.Native.Nat.{ℕ, _≤_}
 use lib.ListN.{length}
 use borrow.Author.Tests.{le-ltb}
-use Rattle.tlf.specs.Read.{Read, refused, then, eof}
+use Rattle.refusals.specs.Read.{Read, refused, then, eof}
 use Rattle.tlf.proofs.Ends.{tlf-end}
 use Rattle.octet_string.specs.Strings.{octetsAt}
 use Rattle.octet_string.specs.Optional.{absentAt, optional}

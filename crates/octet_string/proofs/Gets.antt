@@ -5,12 +5,12 @@ use mathlib.Core.Option.{Option, some, none}
 use Prim.Native.Nat.{ℕ, _≤_}
 use native.Mathlib.Omega.{arith}
 use lib.ListN.{length, getD}
-use Rattle.tlf.specs.Read.{Read}
+use Rattle.refusals.specs.Read.{Read}
+use Rattle.refusals.specs.declared.Span.{Span}
+use Rattle.refusals.proofs.Rest.{Rest, Gets, Reads, Is, Made, gets-ok}
 use Rattle.tlf.specs.Lengths.{tlfAt}
-use Rattle.tlf.specs.declared.Span.{Span}
 use Rattle.tlf.specs.declared.TypeLengthField.{TypeLengthField}
 use Rattle.tlf.specs.declared.Ty.the-variants.{OctetString}
-use Rattle.tlf.proofs.Rest.{Rest, Gets, Reads, Is, Made, gets-ok}
 use Rattle.octet_string.specs.Strings.{octetsAt, partOf}
 use Rattle.octet_string.specs.Optional.{optional}
 use Rattle.octet_string.proofs.Strings.{octets-gets, part-is}

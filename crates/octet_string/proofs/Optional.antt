@@ -8,9 +8,9 @@ use native.Mathlib.Omega.{arith}
 use lib.ListN.{length, getD}
 use lib.Dec.{ltb, eqb}
 use borrow.Author.Tests.{ltb-true, lt-ltb, eq-eqb, ne-eqb}
-use Rattle.tlf.specs.Read.{Read, got, then}
-use Rattle.tlf.proofs.Read.{Ok, ok-got, ok-then, ok-cond, Ahead, and-left, and-right}
-use Rattle.tlf.proofs.Rest.{Rest, Gets, Made, gets-got, gets-made, rest-length, rest-byte, rest-next}
+use Rattle.refusals.specs.Read.{Read, got, then}
+use Rattle.refusals.proofs.Read.{Ok, ok-got, ok-then, ok-cond, Ahead, and-left, and-right}
+use Rattle.refusals.proofs.Rest.{Rest, Gets, Made, gets-got, gets-made, rest-length, rest-byte, rest-next}
 use Rattle.octet_string.specs.Optional.{absentAt, optional}
 
 -- an absent field's byte stands in the input

@@ -4,9 +4,9 @@ use mathlib.Core.List.{List}
 use Prim.Native.Nat.{ℕ, _+_, _*_, _-_, _≤_, _<_}
 use native.Mathlib.Omega.{arith}
 use lib.ListN.{length, getD}
-use Rattle.tlf.specs.Read.{got, then, guard}
+use Rattle.refusals.specs.Read.{got, then, guard}
+use Rattle.refusals.proofs.Read.{span-room}
 use Rattle.tlf.specs.declared.Ty.the-variants.{OctetString}
-use Rattle.tlf.proofs.Read.{span-room}
 use Rattle.tlf.proofs.Short.{field-one}
 use Rattle.octet_string.specs.Strings.{octetsAt}
 

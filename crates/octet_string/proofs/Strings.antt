@@ -8,14 +8,14 @@ use native.Mathlib.Omega.{arith}
 use lib.ListN.{length, take, drop}
 use lib.Dec.{leb}
 use borrow.Author.Tests.{leb-true, le-leb}
-use Rattle.tlf.specs.Read.{Read, got}
+use Rattle.refusals.specs.Read.{Read, got}
+use Rattle.refusals.specs.declared.Span.{Span}
+use Rattle.refusals.proofs.Read.{Ok, ok-got, ok-then, ok-guard, ok-weak, Ahead, Inside, span-ok, and-left, and-right}
+use Rattle.refusals.proofs.Rest.{Rest, Gets, gets-is, gets-guard, gets-weak, span-gets}
 use Rattle.tlf.specs.Lengths.{tlfAt}
-use Rattle.tlf.specs.declared.Span.{Span}
 use Rattle.tlf.specs.declared.TypeLengthField.{TypeLengthField}
 use Rattle.tlf.specs.declared.Ty.the-variants.{OctetString}
-use Rattle.tlf.proofs.Read.{Ok, ok-got, ok-then, ok-guard, ok-weak, Ahead, Inside, span-ok, and-left, and-right}
 use Rattle.tlf.proofs.Lengths.{tlf-ok}
-use Rattle.tlf.proofs.Rest.{Rest, Gets, gets-is, gets-guard, gets-weak, span-gets}
 use Rattle.octet_string.specs.Strings.{isOctets, octetsAt, isWithin, partOf, spanRefusal}
 
 pub within-start : (s : List ℕ) (p : Span) → isWithin s p ≡ true → p .start ≤ length s

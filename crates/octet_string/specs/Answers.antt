@@ -1,9 +1,10 @@
 -- What a reader must believe: what each answer says, number for number.
 use Prim.Native.Nat.{ℕ}
 use mathlib.Core.Option.{Option, some, none}
-use Rattle.tlf.specs.Read.{Read, got, refused}
-use Rattle.tlf.specs.Refusals.{faultOf}
-use Rattle.tlf.specs.declared.Span.{Span}
+use Rattle.refusals.specs.Numbers.{badSpanNo}
+use Rattle.refusals.specs.Read.{Read, got, refused}
+use Rattle.refusals.specs.Answers.{faultOf}
+use Rattle.refusals.specs.declared.Span.{Span}
 use Rattle.octet_string.specs.declared.SpanCheck.{SpanCheck}
 use Rattle.octet_string.specs.declared.SpanCheck.the-variants.{Good, BadSpan}
 use Rattle.octet_string.specs.declared.OptSpan.{OptSpan}
@@ -14,7 +15,7 @@ use Rattle.octet_string.specs.declared.OptSpanRead.the-variants as OptSp
 -- 16, BadSpan
 abbrev pub spanCheck : SpanCheck → Option ℕ
 spanCheck Good = none
-spanCheck BadSpan = some 16
+spanCheck BadSpan = some badSpanNo
 
 abbrev pub optSpan : OptSpan → Option Span
 optSpan (Present span) = some span

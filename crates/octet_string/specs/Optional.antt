@@ -5,7 +5,7 @@ use mathlib.Core.Bool.{Bool, cond, _&&_}
 use mathlib.Core.Option.{Option, some, none}
 use lib.ListN.{length, getD}
 use lib.Dec.{ltb, eqb}
-use Rattle.tlf.specs.Read.{Read, got, then}
+use Rattle.refusals.specs.Read.{Read, got, then}
 
 unfoldable pub absentAt : List ℕ → ℕ → Bool
 absentAt s at = ltb at (length s) && eqb (getD s at 0) 0x01

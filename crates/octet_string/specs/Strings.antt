@@ -5,11 +5,12 @@ use mathlib.Core.Bool.{Bool, true, false, cond, _&&_}
 use mathlib.Core.Option.{Option, some, none}
 use lib.ListN.{length, take, drop}
 use lib.Dec.{leb}
-use Rattle.tlf.specs.Read.{Read, then, guard, mismatch, spanAt}
+use Rattle.refusals.specs.Numbers.{badSpanNo}
+use Rattle.refusals.specs.Read.{Read, then, guard, mismatch, spanAt}
+use Rattle.refusals.specs.declared.Span.{Span}
 use Rattle.tlf.specs.Lengths.{tlfAt}
 use Rattle.tlf.specs.declared.Ty.{Ty}
 use Rattle.tlf.specs.declared.Ty.the-variants.{OctetString, Boolean, Integer, Unsigned, ListOf}
-use Rattle.tlf.specs.declared.Span.{Span}
 
 abbrev pub isOctets : Ty → Bool
 isOctets OctetString = true
@@ -35,4 +36,4 @@ partOf s p = cond (isWithin s p) (take (p .len) (drop (p .start) s)) []
 
 -- a bad span is 16
 unfoldable pub spanRefusal : List ℕ → Span → Option ℕ
-spanRefusal s p = cond (isWithin s p) none (some 16)
+spanRefusal s p = cond (isWithin s p) none (some badSpanNo)

@@ -2,14 +2,14 @@
 ghost use mathlib.Core.Path.{_≡_};
 ghost use Prim.Native.Nat.{_+_, _≤_, _<_};
 ghost use lib.ListN.{length, getD};
-ghost use Rattle.tlf.specs.Refusals.{spanRead};
+ghost use Rattle.refusals.specs.Answers.{spanRead};
 ghost use Rattle.octet_string.specs.Strings.{isOctets, octetsAt, isWithin, partOf, spanRefusal};
 ghost use Rattle.octet_string.specs.Optional.{absentAt, optional};
 ghost use Rattle.octet_string.specs.Answers.{spanCheck, optSpanRead};
-use tlf::Fault;
-use tlf::ParseError;
-use tlf::Span;
-use tlf::SpanRead;
+use refusals::Fault;
+use refusals::ParseError;
+use refusals::Span;
+use refusals::SpanRead;
 use tlf::TlfRead;
 use tlf::Ty;
 use tlf::TypeLengthField;
@@ -60,7 +60,7 @@ pub fn parse_octet_str(input: &[u8], at: usize) -> SpanRead
     match TypeLengthField::parse(input, at) {
         TlfRead::Is { tlf, next } => {
             if check_tlf(tlf) {
-                tlf::take_n(input, next, tlf.len as usize)
+                refusals::take_n(input, next, tlf.len as usize)
             } else {
                 SpanRead::Refused(Fault {
                     error: ParseError::TlfMismatch,

@@ -21,11 +21,11 @@ use numbers::U32Read;
 use numbers::U64Read;
 use octet_string::OptSpan;
 use octet_string::OptSpanRead;
-use tlf::Fault;
-use tlf::ParseError;
-use tlf::Span;
-use tlf::SpanRead;
-use tlf::TlfParseError;
+use refusals::Fault;
+use refusals::ParseError;
+use refusals::Span;
+use refusals::SpanRead;
+use refusals::TlfParseError;
 
 // No table has as many names.
 const NO_NAME: u8 = 32;

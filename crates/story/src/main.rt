@@ -2,7 +2,7 @@
 // both of its own bytes. Whoever takes off one reads 49 bytes and cuts every field behind the key wrong.
 use numbers::U8Read;
 use numbers::U32Read;
-use tlf::SpanRead;
+use refusals::SpanRead;
 
 // Each of these prints one field and answers where the next one stands; a refusal prints its place.
 fn string(input: &[u8], at: usize) -> usize {

@@ -1,9 +1,10 @@
 -- What a reader must believe: document 01's number and values for each answer of the reader.
-use Rattle.tlf.specs.Refusals.{faultOf}
-use Rattle.tlf.specs.declared.Span.{Span}
+use Rattle.refusals.specs.Numbers.{badStateNo, inputTooLongNo}
+use Rattle.refusals.specs.Answers.{faultOf}
+use Rattle.refusals.specs.declared.Span.{Span}
 use Rattle.common.specs.Answers.{listEntry}
 use Rattle.message.specs.Answers.{messageStart, listEnd}
-use Rattle.streaming.specs.Next.{MessageEvent, starts, entry, ends, Said, event, noEvent, failed, ReaderAfter, inputTooLong, badReader}
+use Rattle.streaming.specs.Next.{MessageEvent, starts, entry, ends, Said, event, noEvent, failed, alone, ReaderAfter}
 use Rattle.streaming.specs.declared.ParseEvent.{ParseEvent}
 use Rattle.streaming.specs.declared.ParseEvent.the-variants as EventC
 use Rattle.streaming.specs.declared.Answer.{Answer}
@@ -19,8 +20,8 @@ abbrev pub said : Answer → Said
 said (AnswerC.Event e) = event (parseEvent e)
 said AnswerC.NoEvent = noEvent
 said (AnswerC.Refused f) = failed (faultOf f)
-said AnswerC.InputTooLong = failed inputTooLong
-said AnswerC.BadState = failed badReader
+said AnswerC.InputTooLong = alone inputTooLongNo
+said AnswerC.BadState = alone badStateNo
 
 abbrev pub readerAfter : Next → ReaderAfter
 readerAfter r = record { said = said (r .answer); place = r .place; start = r .start; pending = r .pending }

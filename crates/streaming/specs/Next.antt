@@ -4,8 +4,9 @@ use mathlib.Core.List.{List}
 use mathlib.Core.Bool.{Bool, cond, _&&_}
 use lib.ListN.{length}
 use lib.Dec.{ltb, leb}
-use Rattle.tlf.specs.Read.{Read, got, refused, Refusal}
-use Rattle.tlf.specs.declared.Span.{Span}
+use Rattle.refusals.specs.Numbers.{badStateNo, inputTooLongNo, limit}
+use Rattle.refusals.specs.Read.{Read, got, refused, Refusal}
+use Rattle.refusals.specs.declared.Span.{Span}
 use Rattle.common.specs.Fields.{ListEntry, entryAt}
 use Rattle.message.specs.Messages.{MessageStart, ListEnd, Body, opened, closed, listed, startAt, listEndAt}
 use Rattle.trailer.specs.Trailer.{trailerAt}
@@ -16,11 +17,12 @@ pub data MessageEvent (T : Type 0) : Type 0 where
   entry : ListEntry T → MessageEvent T
   ends : ListEnd T → MessageEvent T
 
--- what a call says
+-- what a call says; `alone` is the number of a refusal that stands at no place of the input
 pub data Said : Type 0 where
   event : MessageEvent Span → Said
   noEvent : Said
   failed : Refusal → Said
+  alone : ℕ → Said
 
 -- what a call says, and the reader's three numbers behind it
 pub record ReaderAfter : Type 0 where
@@ -28,13 +30,6 @@ pub record ReaderAfter : Type 0 where
   pub place : ℕ
   pub start : ℕ
   pub pending : ℕ
-
--- 9, InputTooLong, and 4, BadState, have no place in the input
-abbrev pub inputTooLong : Refusal
-inputTooLong = record { number = 9; kind = 0; place = 0 }
-
-abbrev pub badReader : Refusal
-badReader = record { number = 4; kind = 0; place = 0 }
 
 -- a refusal drops the rest of the input, and keeps `start` and `pending`; else it goes on with what was read
 unfoldable pub onward : {A : Type 0} → ℕ → ℕ → ℕ → Read A → (A → ℕ → ReaderAfter) → ReaderAfter
@@ -79,6 +74,6 @@ isSound end at start pending = leb at end && (leb start at && leb pending 429496
 -- 9, 4, then the step; both leave the reader unchanged
 unfoldable pub nextAt : List ℕ → ℕ → ℕ → ℕ → ReaderAfter
 nextAt s at start pending =
-    cond (ltb 1048576 (length s)) (record { said = failed inputTooLong; place = at; start = start; pending = pending })
+    cond (ltb limit (length s)) (record { said = alone inputTooLongNo; place = at; start = start; pending = pending })
     (cond (isSound (length s) at start pending) (stepAt s at start pending)
-    (record { said = failed badReader; place = at; start = start; pending = pending }))
+    (record { said = alone badStateNo; place = at; start = start; pending = pending }))

@@ -11,7 +11,7 @@ use message::ListEndRead;
 use message::MessageBody;
 use message::MessageStart;
 use message::StartRead;
-use tlf::Fault;
+use refusals::Fault;
 use tlf::PlaceRead;
 
 pub enum ParseEvent {
@@ -167,7 +167,7 @@ fn is_sound_reader(end: usize, at: usize, start: usize, pending: u64) -> bool
 pub fn parse_next(input: &[u8], at: usize, start: usize, pending: u64) -> Next
     ensures { λ r. ⌜ readerAfter r ≡ nextAt (now (input .entry)) at start pending ⌝ }
 {
-    if 1_048_576 < input.len() {
+    if refusals::LIMIT < input.len() {
         return Next {
             answer: Answer::InputTooLong,
             place: at,

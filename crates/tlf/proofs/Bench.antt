@@ -1,8 +1,8 @@
 -- B10, B11 and B14 of document 01, of the definitions. They join the one table of the bench sheet.
 use mathlib.Core.Path.{_≡_, refl}
 use mathlib.Core.List.{List, [], _∷_}
-use Rattle.tlf.specs.Read.{got, refused, then, guard, need, eof, byteAt}
-use Rattle.tlf.specs.Refusals.{reserved, underflow, nextType, invalidTy}
+use Rattle.refusals.specs.Read.{got, refused, then, guard, need, eof, byteAt}
+use Rattle.refusals.specs.Answers.{reserved, underflow, nextType, invalidTy}
 use Rattle.tlf.specs.Lengths.{tlfAt, lengthFrom, lessOwn}
 use Rattle.tlf.specs.declared.Ty.the-variants.{OctetString}
 

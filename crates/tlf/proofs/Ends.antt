@@ -4,7 +4,7 @@ use mathlib.Core.List.{List}
 use Prim.Native.Nat.{ℕ, _≤_}
 use lib.ListN.{length}
 use borrow.Author.Tests.{le-ltb}
-use Rattle.tlf.specs.Read.{refused, then, guard, eof, byteAt}
+use Rattle.refusals.specs.Read.{refused, then, guard, eof, byteAt}
 use Rattle.tlf.specs.Lengths.{tlfAt, listOfAt}
 
 pub tlf-end : (s : List ℕ) (at : ℕ) → length s ≤ at → tlfAt s at ≡ refused (eof (length s))

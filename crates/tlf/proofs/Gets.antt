@@ -9,12 +9,12 @@ use native.Mathlib.Omega.{arith}
 use lib.ListN.{length, getD, drop}
 use lib.Dec.{ltb, leb, eqb, lit<}
 use borrow.Author.Tests.{lt-ltb, le-leb, lt-leb, eq-eqb}
-use Rattle.tlf.specs.Read.{Read, got, then, guard, need, byteAt}
+use Rattle.refusals.specs.Read.{Read, got, then, guard, need, byteAt}
+use Rattle.refusals.proofs.Rest.{Rest, Gets, Reads, Is, rest-length, rest-skip, rest-byte, rest-next, gets-got, gets-is, gets-guard}
 use Rattle.tlf.specs.Lengths.{tyOf, isList, isBoolean, isListOf, longer, lengthFrom, lessOwn, tlfAt, listOfAt}
 use Rattle.tlf.specs.declared.Ty.{Ty}
 use Rattle.tlf.specs.declared.Ty.the-variants.{OctetString, Boolean, Integer, Unsigned, ListOf}
 use Rattle.tlf.specs.declared.TypeLengthField.{TypeLengthField}
-use Rattle.tlf.proofs.Rest.{Rest, Gets, Reads, Is, rest-length, rest-skip, rest-byte, rest-next, gets-got, gets-is, gets-guard}
 use Rattle.tlf.proofs.Lengths.{length-stop}
 
 -- the number of a type, in bits 6 to 4

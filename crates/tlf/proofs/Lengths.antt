@@ -8,11 +8,11 @@ use native.Mathlib.Omega.{arith}
 use lib.ListN.{length, getD, drop, drop-of-length-le, length-drop}
 use lib.Seq.{drop-cons}
 use lib.Dec.{eqb}
-use Rattle.tlf.specs.Read.{Read, got, refused, guard, eof}
-use Rattle.tlf.specs.Refusals.{nextType}
+use Rattle.refusals.specs.Read.{Read, got, refused, guard, eof}
+use Rattle.refusals.specs.Answers.{nextType}
+use Rattle.refusals.proofs.Read.{Ok, ok-got, ok-guard, ok-cond, ok-weak, ok-then, ok-need, Ahead, byte-ok}
 use Rattle.tlf.specs.Lengths.{moreFollow, typeBits, longer, lengthFrom, lessOwn, isList, tlfAt, listOfAt}
 use Rattle.tlf.specs.declared.Ty.{Ty}
-use Rattle.tlf.proofs.Read.{Ok, ok-got, ok-guard, ok-cond, ok-weak, ok-then, ok-need, Ahead, byte-ok}
 
 drop-next : (s : List ℕ) (i : ℕ) → i < length s → drop i s ≡ getD s i 0 ∷ drop (i + 1) s
 drop-next s i h = rw (add-one, drop-cons s i 0)

@@ -7,7 +7,7 @@ use Prim.Native.Nat.{ℕ, _+_, _*_, _/_, _%_, _-_, _≤_, _<_}
 use native.Mathlib.Omega.{arith}
 use lib.ListN.{length, getD}
 use borrow.Author.Tests.{lt-ltb, lt-leb, le-leb, eq-eqb}
-use Rattle.tlf.specs.Read.{got, then, guard, need, byteAt}
+use Rattle.refusals.specs.Read.{got, then, guard, need, byteAt}
 use Rattle.tlf.specs.Lengths.{moreFollow, typeBits, lengthBits, tyOf, isList, isBoolean, lessOwn, tlfAt, isListOf, listOfAt}
 use Rattle.tlf.specs.declared.Ty.{Ty}
 use Rattle.tlf.specs.declared.Ty.the-variants.{ListOf}

@@ -5,8 +5,8 @@ use mathlib.Core.Bool.{Bool, true, false, cond, not, _&&_}
 use mathlib.Core.Option.{Option, some, none}
 use lib.ListN.{length, drop}
 use lib.Dec.{leb, eqb}
-use Rattle.tlf.specs.Read.{Read, got, refused, then, guard, need, eof, invalidTlf, mismatch, byteAt}
-use Rattle.tlf.specs.Refusals.{reserved, underflow, nextType, invalidTy}
+use Rattle.refusals.specs.Read.{Read, got, refused, then, guard, need, eof, invalidTlf, mismatch, byteAt}
+use Rattle.refusals.specs.Answers.{reserved, underflow, nextType, invalidTy}
 use Rattle.tlf.specs.declared.Ty.{Ty}
 use Rattle.tlf.specs.declared.Ty.the-variants.{OctetString, Boolean, Integer, Unsigned, ListOf}
 use Rattle.tlf.specs.declared.TypeLengthField.{TypeLengthField}

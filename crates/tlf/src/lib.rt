@@ -1,84 +1,14 @@
-// Ports parser/tlf.rs, and of parser/mod.rs the errors and the taking of bytes.
-// A place in the lent input stands for the Rust's rest of the input; refusals say the place, too.
+// Ports parser/tlf.rs.
 ghost use mathlib.Core.Bool.{true, _&&_};
 ghost use mathlib.Core.Path.{_≡_};
 ghost use Prim.Native.Nat.{_+_, _<_};
 ghost use lib.ListN.{length, getD, drop};
-ghost use Rattle.tlf.specs.Read.{byteAt, spanAt};
-ghost use Rattle.tlf.specs.Refusals.{byteRead, spanRead, tyRead, lenRead, tlfRead, placeRead};
+ghost use Rattle.tlf.specs.Answers.{tyRead, lenRead, tlfRead, placeRead};
 ghost use Rattle.tlf.specs.Lengths.{tyOf, longer, lengthFrom, lessOwn, tlfAt, isList, isBoolean, isListOf, listOfAt, moreFollow};
-
-pub enum TlfParseError {
-    TlfLengthOverflow,
-    TlfReserved,
-    TlfLengthUnderflow,
-    TlfNextByteTypeMismatch,
-    TlfInvalidTy,
-}
-
-pub enum ParseError {
-    UnexpectedEOF,
-    InvalidTlf(TlfParseError),
-    TlfMismatch,
-    CrcMismatch,
-    MsgEndMismatch,
-    UnexpectedVariant,
-}
-
-// What was wrong, and where.
-pub struct Fault {
-    pub error: ParseError,
-    pub place: usize,
-}
-
-pub enum ByteRead {
-    Is { byte: u8, next: usize },
-    Refused(Fault),
-}
-
-// A part of the input, by its place.
-pub struct Span {
-    pub start: usize,
-    pub len: usize,
-}
-
-pub enum SpanRead {
-    Is { span: Span, next: usize },
-    Refused(Fault),
-}
-
-pub fn take_byte(input: &[u8], at: usize) -> ByteRead
-    ensures { λ r. ⌜ byteRead r ≡ byteAt (now (input .entry)) at ⌝ }
-{
-    if at < input.len() {
-        ByteRead::Is {
-            byte: input[at],
-            next: at + 1,
-        }
-    } else {
-        ByteRead::Refused(Fault {
-            error: ParseError::UnexpectedEOF,
-            place: input.len(),
-        })
-    }
-}
-
-pub fn take_n(input: &[u8], at: usize, n: usize) -> SpanRead
-    ensures { λ r. ⌜ spanRead r ≡ spanAt (now (input .entry)) at n ⌝ }
-{
-    if at <= input.len() {
-        if n <= input.len() - at {
-            return SpanRead::Is {
-                span: Span { start: at, len: n },
-                next: at + n,
-            };
-        }
-    }
-    SpanRead::Refused(Fault {
-        error: ParseError::UnexpectedEOF,
-        place: input.len(),
-    })
-}
+use refusals::ByteRead;
+use refusals::Fault;
+use refusals::ParseError;
+use refusals::TlfParseError;
 
 pub enum Ty {
     OctetString,
@@ -222,7 +152,7 @@ impl TypeLengthField {
         ensures { λ r. ⌜ tlfRead r ≡ tlfAt (now (input .entry)) at ⌝ }
     {
         let mut next = at;
-        let b = match take_byte(input, at) {
+        let b = match refusals::take_byte(input, at) {
             ByteRead::Is { byte, next: after } => {
                 next = after;
                 byte

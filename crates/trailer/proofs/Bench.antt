@@ -3,11 +3,10 @@ use mathlib.Core.Path.{_≡_, refl}
 use mathlib.Core.List.{List, [], _∷_}
 use Prim.Native.Nat.{ℕ}
 use Rattle.crc_x25.specs.Crc.{reflect, polynomial, bitStep, bitSteps, byteStep, register, finalXor, crcOf}
-use Rattle.tlf.specs.Read.{got, refused, then, guard, need, crcMismatch, wrongEnd, byteAt, spanAt}
+use Rattle.refusals.specs.Read.{got, refused, then, guard, need, crcMismatch, wrongEnd, byteAt, spanAt}
 use Rattle.tlf.specs.Lengths.{tlfAt, lengthFrom, lessOwn}
 use Rattle.numbers.specs.Numbers.{number, bytesAt, rawFrom, rawAt, unsignedAt}
-use Rattle.common.specs.Fields.{messageEndAt}
-use Rattle.trailer.specs.Trailer.{crcFrom, trailerAt}
+use Rattle.trailer.specs.Trailer.{messageEndAt, crcFrom, trailerAt}
 
 -- a close response whose CRC's two bytes and end byte are these
 abbrev pub closing : ℕ → ℕ → ℕ → List ℕ

@@ -1,4 +1,4 @@
--- What the bytes of a trailer are read as, and what they leave; and 15 before 14.
+-- What the bytes of an end byte and of a trailer are read as, and what they leave; and 15 before 14.
 use mathlib.Core.Path.{_≡_, refl}
 use mathlib.Core.List.{List, [], _∷_, _++_, append-assoc}
 use Prim.Native.Nat.{ℕ, _+_, _-_}
@@ -6,12 +6,15 @@ use native.Mathlib.Omega.{arith}
 use lib.ListN.{length, take, drop}
 use lib.Dec.{eqb}
 use borrow.Author.Tests.{eq-eqb}
-use Rattle.tlf.specs.Read.{Read, got, refused, Refusal, then, guard}
-use Rattle.tlf.proofs.Rest.{Rest, Gets, Reads, Is, rest-place, rest-take, gets-is, gets-guard, gets-got}
+use Rattle.refusals.specs.Read.{Read, got, refused, Refusal, then, guard}
+use Rattle.refusals.proofs.Rest.{Rest, Gets, Reads, Is, rest-place, rest-take, gets-is, gets-guard, gets-got, byte-gets}
 use Rattle.numbers.specs.Numbers.{unsignedAt}
-use Rattle.common.specs.Fields.{messageEndAt}
 use Rattle.crc_x25.specs.Crc.{crcOf}
-use Rattle.trailer.specs.Trailer.{swapped, crcFrom, trailerAt}
+use Rattle.trailer.specs.Trailer.{messageEndAt, swapped, crcFrom, trailerAt}
+
+pub message-end-reads : Reads messageEndAt (Is tt) (0x00 ∷ [])
+unfolding messageEndAt
+message-end-reads = record { reads = λ l h. gets-is _ _ (byte-gets h) (λ n k. gets-guard _ _ _ refl (gets-got refl k)) }
 
 -- a wrong end byte is refused whatever the CRC is
 pub end-byte-first : (s : List ℕ) (start at crc n : ℕ) (f : Refusal) → unsignedAt 2 s at ≡ got crc n → messageEndAt s n ≡ refused f → trailerAt s start at ≡ refused f

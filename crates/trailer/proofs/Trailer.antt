@@ -1,13 +1,17 @@
--- Where a trailer's reading ends.
+-- Where the readings of an end byte and of a trailer end.
 use mathlib.Core.List.{List}
 use Prim.Native.Nat.{ℕ, _+_, _≤_, _<_}
 use native.Mathlib.Omega.{arith}
 use lib.ListN.{length}
-use Rattle.tlf.proofs.Read.{Ok, ok-guard}
-use Rattle.tlf.proofs.Found.{Found, Any, from, on, found}
+use Rattle.refusals.proofs.Read.{Ok, ok-guard, ok-weak, byte-ok}
+use Rattle.refusals.proofs.Found.{Found, Any, from, on, found}
 use Rattle.numbers.proofs.Ahead.{unsigned-found}
-use Rattle.common.proofs.Fields.{message-end-found}
-use Rattle.trailer.specs.Trailer.{trailerAt}
+use Rattle.trailer.specs.Trailer.{messageEndAt, trailerAt}
+
+pub message-end-found : (s : List ℕ) (at : ℕ) → Ok (Found Any s at) (messageEndAt s at)
+unfolding messageEndAt
+message-end-found s at =
+    from s at (ok-weak {Q = Found Any s at} (λ b n h. (tt, h .2)) (byte-ok s at)) (λ b n h p q. ok-guard _ _ _ (λ e. found s at _ n tt p q))
 
 pub trailer-found : (s : List ℕ) (start at : ℕ) → Ok (Found Any s at) (trailerAt s start at)
 unfolding trailerAt

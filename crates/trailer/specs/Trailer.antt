@@ -3,10 +3,16 @@ use Prim.Native.Nat.{ℕ, _+_, _-_, _*_, _/_, _%_}
 use mathlib.Core.List.{List}
 use lib.ListN.{take, drop}
 use lib.Dec.{eqb}
-use Rattle.tlf.specs.Read.{Read, got, then, guard, crcMismatch}
+use Rattle.refusals.specs.Read.{Read, got, then, guard, crcMismatch, wrongEnd, byteAt}
 use Rattle.numbers.specs.Numbers.{unsignedAt}
-use Rattle.common.specs.Fields.{messageEndAt}
 use Rattle.crc_x25.specs.Crc.{crcOf}
+
+-- the end byte of a message is 00
+unfoldable pub messageEndAt : List ℕ → ℕ → Read (Unit {0})
+messageEndAt s at =
+    then (byteAt s at) λ b next.
+    guard (eqb b 0x00) (wrongEnd at)
+    (got tt next)
 
 -- the two bytes of a number, swapped
 abbrev pub swapped : ℕ → ℕ

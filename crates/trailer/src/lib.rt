@@ -1,13 +1,33 @@
-// Ports the case `1` of Parser::parse_next of parser/streaming.rs: what ends a message.
+// Ports the case `1` of Parser::parse_next of parser/streaming.rs, what ends a message, and EndOfSmlMessage of parser/common.rs.
 ghost use mathlib.Core.Path.{_≡_};
 ghost use Prim.Native.Nat.{_≤_};
 ghost use lib.ListN.{length};
-ghost use Rattle.tlf.specs.Refusals.{placeRead};
-ghost use Rattle.trailer.specs.Trailer.{swapped, crcFrom, trailerAt};
+ghost use Rattle.tlf.specs.Answers.{placeRead};
+ghost use Rattle.trailer.specs.Trailer.{messageEndAt, swapped, crcFrom, trailerAt};
 use numbers::U16Read;
-use tlf::Fault;
-use tlf::ParseError;
+use refusals::ByteRead;
+use refusals::Fault;
+use refusals::ParseError;
 use tlf::PlaceRead;
+
+// EndOfSmlMessage of the Rust.
+pub fn parse_message_end(input: &[u8], at: usize) -> PlaceRead
+    ensures { λ r. ⌜ placeRead r ≡ messageEndAt (now (input .entry)) at ⌝ }
+{
+    match refusals::take_byte(input, at) {
+        ByteRead::Is { byte, next } => {
+            if byte == 0x00 {
+                PlaceRead::Is { next }
+            } else {
+                PlaceRead::Refused(Fault {
+                    error: ParseError::MsgEndMismatch,
+                    place: at,
+                })
+            }
+        }
+        ByteRead::Refused(f) => PlaceRead::Refused(f),
+    }
+}
 
 fn swap_bytes(x: u16) -> u16
     ensures { λ r. ⌜ r ≡ swapped x ⌝ }
@@ -38,7 +58,7 @@ pub fn parse_trailer(input: &[u8], start: usize, at: usize) -> PlaceRead
         }
         U16Read::Refused(f) => return PlaceRead::Refused(f),
     };
-    match common::parse_message_end(input, n) {
+    match parse_message_end(input, n) {
         PlaceRead::Is { next } => n = next,
         PlaceRead::Refused(f) => return PlaceRead::Refused(f),
     }

@@ -4,13 +4,13 @@ use mathlib.Core.List.{List, [], _∷_, _++_, append-assoc}
 use mathlib.Core.Bool.{Bool}
 use Prim.Native.Nat.{ℕ}
 use lib.IntN.{ℤ}
-use Rattle.tlf.specs.Read.{Read, got, then}
+use Rattle.refusals.specs.Read.{Read, got, then}
+use Rattle.refusals.specs.declared.Span.{Span}
+use Rattle.refusals.proofs.Rest.{Rest, Gets, Reads, Is, Made, gets-is, gets-then, gets-guard, gets-got, gets-made}
 use Rattle.tlf.specs.Lengths.{tlfAt, listOfAt}
 use Rattle.tlf.specs.declared.Ty.{Ty}
 use Rattle.tlf.specs.declared.Ty.the-variants.{OctetString, Boolean, Integer, Unsigned, ListOf}
 use Rattle.tlf.specs.declared.TypeLengthField.{TypeLengthField}
-use Rattle.tlf.specs.declared.Span.{Span}
-use Rattle.tlf.proofs.Rest.{Rest, Gets, Reads, Is, Made, gets-is, gets-then, gets-guard, gets-got, gets-made}
 use Rattle.tlf.proofs.Gets.{list-of-reads}
 use Rattle.numbers.specs.Numbers.{unsignedAt, signedAt, boolAt}
 use Rattle.octet_string.specs.Strings.{octetsAt}

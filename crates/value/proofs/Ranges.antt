@@ -3,11 +3,11 @@ use mathlib.Core.Path.{_≡_}
 use mathlib.Core.List.{List}
 use Prim.Native.Nat.{ℕ, _/_, _^_, _<_}
 use lib.Signed.{mag}
+use Rattle.refusals.specs.declared.Span.{Span}
+use Rattle.refusals.proofs.Read.{Ok, ok-any, ok-got, ok-then, ok-guard, ok-cond, ok-weak}
 use Rattle.tlf.specs.Lengths.{tlfAt, listOfAt}
 use Rattle.tlf.specs.declared.Ty.{Ty}
 use Rattle.tlf.specs.declared.Ty.the-variants.{OctetString, Boolean, Integer, Unsigned, ListOf}
-use Rattle.tlf.specs.declared.Span.{Span}
-use Rattle.tlf.proofs.Read.{Ok, ok-any, ok-got, ok-then, ok-guard, ok-cond, ok-weak}
 use Rattle.numbers.specs.Numbers.{unsignedAt, boolAt}
 use Rattle.numbers.proofs.Numbers.{Bytes, unsigned-ok, signed-ok}
 use Rattle.octet_string.specs.Strings.{octetsAt}

@@ -4,14 +4,14 @@ use mathlib.Core.Bool.{Bool}
 use Prim.Native.Nat.{ℕ, _+_, _≤_, _<_}
 use native.Mathlib.Omega.{arith}
 use lib.ListN.{length}
-use Rattle.tlf.specs.Read.{Read}
+use Rattle.refusals.specs.Read.{Read}
+use Rattle.refusals.specs.declared.Span.{Span}
+use Rattle.refusals.proofs.Read.{Ok, ok-then, ok-guard, ok-cond}
+use Rattle.refusals.proofs.Found.{Found, Any, any, from, on, found, found-on}
 use Rattle.tlf.specs.Lengths.{tlfAt}
 use Rattle.tlf.specs.declared.Ty.{Ty}
 use Rattle.tlf.specs.declared.Ty.the-variants.{OctetString, Boolean, Integer, Unsigned, ListOf}
-use Rattle.tlf.specs.declared.Span.{Span}
-use Rattle.tlf.proofs.Read.{Ok, ok-then, ok-guard, ok-cond}
 use Rattle.tlf.proofs.Lengths.{tlf-ok, list-of-ok}
-use Rattle.tlf.proofs.Found.{Found, Any, any, from, on, found, found-on}
 use Rattle.numbers.proofs.Ahead.{unsigned-found, signed-found, bool-found}
 use Rattle.octet_string.proofs.Within.{Within, octets-found}
 use Rattle.value.specs.Values.{isBareTime, timeAt, narrowest, statusOf, statusAt, Value, truth, bytes, signed, unsigned, listTime, signedValue, unsignedValue, listTypeAt, valueOf, valueAt}

@@ -2,12 +2,14 @@
 use Prim.Native.Nat.{ℕ}
 use mathlib.Core.Option.{Option, some, none}
 use lib.IntN.{ℤ}
-use Rattle.tlf.specs.Read.{Read, got, refused}
-use Rattle.tlf.specs.Refusals.{faultOf}
-use Rattle.tlf.specs.declared.Span.{Span}
+use Rattle.refusals.specs.Read.{Read, got, refused}
+use Rattle.refusals.specs.Answers.{faultOf}
+use Rattle.refusals.specs.declared.Span.{Span}
 use Rattle.value.specs.Values.{Status, Value, truth, bytes, signed, unsigned, listTime}
 use Rattle.value.specs.declared.Time.{Time}
 use Rattle.value.specs.declared.ListType.{ListType}
+use Rattle.value.specs.declared.Width.{Width}
+use Rattle.value.specs.declared.Width.the-variants as WidthC
 use Rattle.value.specs.declared.Status as Statuses
 use Rattle.value.specs.declared.Status.the-variants as StatusC
 use Rattle.value.specs.declared.Value as Values
@@ -42,6 +44,13 @@ seconds time = time .«sec_index»
 abbrev pub timeRead : TimeRead → Read ℕ
 timeRead (TimeR.Is time next) = got (seconds time) next
 timeRead (TimeR.Refused f) = refused (faultOf f)
+
+-- a width is its number of bytes
+abbrev pub widthBytes : Width → ℕ
+widthBytes WidthC.One = 1
+widthBytes WidthC.Two = 2
+widthBytes WidthC.Four = 4
+widthBytes WidthC.Eight = 8
 
 abbrev pub status : Statuses.Status → Status
 status (StatusC.Status8 n) = record { width = 1; number = n }

@@ -4,12 +4,12 @@ use mathlib.Core.List.{List}
 use mathlib.Core.Bool.{Bool, false, cond, _&&_}
 use lib.Dec.{leb, eqb}
 use lib.IntN.{ℤ}
-use Rattle.tlf.specs.Read.{Read, got, then, guard, mismatch, unexpected}
+use Rattle.refusals.specs.Read.{Read, got, then, guard, mismatch, unexpected}
+use Rattle.refusals.specs.declared.Span.{Span}
 use Rattle.tlf.specs.Lengths.{tlfAt, isListOf, listOfAt}
 use Rattle.tlf.specs.declared.Ty.{Ty}
 use Rattle.tlf.specs.declared.Ty.the-variants.{OctetString, Boolean, Integer, Unsigned, ListOf}
 use Rattle.tlf.specs.declared.TypeLengthField.{TypeLengthField}
-use Rattle.tlf.specs.declared.Span.{Span}
 use Rattle.numbers.specs.Numbers.{isNumber, unsignedAt, signedAt, boolAt}
 use Rattle.octet_string.specs.Strings.{octetsAt}
 

@@ -5,7 +5,7 @@ ghost use Rattle.numbers.specs.Numbers.{unsignedAt, signedAt};
 ghost use Rattle.numbers.specs.Answers.{u32Read};
 ghost use Rattle.octet_string.specs.Optional.{optional};
 ghost use Rattle.value.specs.Values.{isBareTime, timeAt, narrowest, statusOf, statusAt, signedValue, unsignedValue, listTypeAt, valueOf, valueAt, listTime};
-ghost use Rattle.value.specs.Answers.{seconds, value, timeRead, statusRead, valueRead, optU8Read, optI8Read, optTimeRead, optStatusRead};
+ghost use Rattle.value.specs.Answers.{widthBytes, seconds, value, timeRead, statusRead, valueRead, optU8Read, optI8Read, optTimeRead, optStatusRead};
 use numbers::BoolRead;
 use numbers::I8Read;
 use numbers::I16Read;
@@ -15,11 +15,11 @@ use numbers::U8Read;
 use numbers::U16Read;
 use numbers::U32Read;
 use numbers::U64Read;
-use tlf::Fault;
-use tlf::ParseError;
+use refusals::Fault;
+use refusals::ParseError;
+use refusals::Span;
+use refusals::SpanRead;
 use tlf::PlaceRead;
-use tlf::Span;
-use tlf::SpanRead;
 use tlf::TlfRead;
 use tlf::Ty;
 use tlf::TypeLengthField;
@@ -95,6 +95,30 @@ pub fn parse_time(input: &[u8], at: usize) -> TimeRead
     }
 }
 
+// The widths that a number of a value or a status is read at, in bytes.
+enum Width {
+    One,
+    Two,
+    Four,
+    Eight,
+}
+
+// The narrowest that holds so many bytes; more than eight are refused at any.
+fn width_of(len: u32) -> Width
+    ensures { λ r. ⌜ widthBytes r ≡ narrowest len ⌝ }
+{
+    if len <= 1 {
+        return Width::One;
+    }
+    if len <= 2 {
+        return Width::Two;
+    }
+    if len <= 4 {
+        return Width::Four;
+    }
+    Width::Eight
+}
+
 pub enum Status {
     Status8(u8),
     Status16(u16),
@@ -111,39 +135,35 @@ pub enum StatusRead {
 fn status_of(input: &[u8], at: usize, len: u32) -> StatusRead
     ensures { λ r. ⌜ statusRead r ≡ statusOf (narrowest len) (now (input .entry)) at ⌝ }
 {
-    if len <= 1 {
-        return match numbers::parse_u8(input, at) {
+    match width_of(len) {
+        Width::One => match numbers::parse_u8(input, at) {
             U8Read::Is { value, next } => StatusRead::Is {
                 status: Status::Status8(value),
                 next,
             },
             U8Read::Refused(f) => StatusRead::Refused(f),
-        };
-    }
-    if len <= 2 {
-        return match numbers::parse_u16(input, at) {
+        },
+        Width::Two => match numbers::parse_u16(input, at) {
             U16Read::Is { value, next } => StatusRead::Is {
                 status: Status::Status16(value),
                 next,
             },
             U16Read::Refused(f) => StatusRead::Refused(f),
-        };
-    }
-    if len <= 4 {
-        return match numbers::parse_u32(input, at) {
+        },
+        Width::Four => match numbers::parse_u32(input, at) {
             U32Read::Is { value, next } => StatusRead::Is {
                 status: Status::Status32(value),
                 next,
             },
             U32Read::Refused(f) => StatusRead::Refused(f),
-        };
-    }
-    match numbers::parse_u64(input, at) {
-        U64Read::Is { value, next } => StatusRead::Is {
-            status: Status::Status64(value),
-            next,
         },
-        U64Read::Refused(f) => StatusRead::Refused(f),
+        Width::Eight => match numbers::parse_u64(input, at) {
+            U64Read::Is { value, next } => StatusRead::Is {
+                status: Status::Status64(value),
+                next,
+            },
+            U64Read::Refused(f) => StatusRead::Refused(f),
+        },
     }
 }
 
@@ -208,39 +228,35 @@ fn bytes_value(input: &[u8], at: usize) -> ValueRead
 fn signed_value(input: &[u8], at: usize, len: u32) -> ValueRead
     ensures { λ r. ⌜ valueRead r ≡ signedValue (narrowest len) (now (input .entry)) at ⌝ }
 {
-    if len <= 1 {
-        return match numbers::parse_i8(input, at) {
+    match width_of(len) {
+        Width::One => match numbers::parse_i8(input, at) {
             I8Read::Is { value, next } => ValueRead::Is {
                 value: Value::I8(value),
                 next,
             },
             I8Read::Refused(f) => ValueRead::Refused(f),
-        };
-    }
-    if len <= 2 {
-        return match numbers::parse_i16(input, at) {
+        },
+        Width::Two => match numbers::parse_i16(input, at) {
             I16Read::Is { value, next } => ValueRead::Is {
                 value: Value::I16(value),
                 next,
             },
             I16Read::Refused(f) => ValueRead::Refused(f),
-        };
-    }
-    if len <= 4 {
-        return match numbers::parse_i32(input, at) {
+        },
+        Width::Four => match numbers::parse_i32(input, at) {
             I32Read::Is { value, next } => ValueRead::Is {
                 value: Value::I32(value),
                 next,
             },
             I32Read::Refused(f) => ValueRead::Refused(f),
-        };
-    }
-    match numbers::parse_i64(input, at) {
-        I64Read::Is { value, next } => ValueRead::Is {
-            value: Value::I64(value),
-            next,
         },
-        I64Read::Refused(f) => ValueRead::Refused(f),
+        Width::Eight => match numbers::parse_i64(input, at) {
+            I64Read::Is { value, next } => ValueRead::Is {
+                value: Value::I64(value),
+                next,
+            },
+            I64Read::Refused(f) => ValueRead::Refused(f),
+        },
     }
 }
 
@@ -248,39 +264,35 @@ fn signed_value(input: &[u8], at: usize, len: u32) -> ValueRead
 fn unsigned_value(input: &[u8], at: usize, len: u32) -> ValueRead
     ensures { λ r. ⌜ valueRead r ≡ unsignedValue (narrowest len) (now (input .entry)) at ⌝ }
 {
-    if len <= 1 {
-        return match numbers::parse_u8(input, at) {
+    match width_of(len) {
+        Width::One => match numbers::parse_u8(input, at) {
             U8Read::Is { value, next } => ValueRead::Is {
                 value: Value::U8(value),
                 next,
             },
             U8Read::Refused(f) => ValueRead::Refused(f),
-        };
-    }
-    if len <= 2 {
-        return match numbers::parse_u16(input, at) {
+        },
+        Width::Two => match numbers::parse_u16(input, at) {
             U16Read::Is { value, next } => ValueRead::Is {
                 value: Value::U16(value),
                 next,
             },
             U16Read::Refused(f) => ValueRead::Refused(f),
-        };
-    }
-    if len <= 4 {
-        return match numbers::parse_u32(input, at) {
+        },
+        Width::Four => match numbers::parse_u32(input, at) {
             U32Read::Is { value, next } => ValueRead::Is {
                 value: Value::U32(value),
                 next,
             },
             U32Read::Refused(f) => ValueRead::Refused(f),
-        };
-    }
-    match numbers::parse_u64(input, at) {
-        U64Read::Is { value, next } => ValueRead::Is {
-            value: Value::U64(value),
-            next,
         },
-        U64Read::Refused(f) => ValueRead::Refused(f),
+        Width::Eight => match numbers::parse_u64(input, at) {
+            U64Read::Is { value, next } => ValueRead::Is {
+                value: Value::U64(value),
+                next,
+            },
+            U64Read::Refused(f) => ValueRead::Refused(f),
+        },
     }
 }
 

@@ -1,4 +1,4 @@
-use Rattle.tlf.specs.Read.{then}
+use Rattle.refusals.specs.Read.{then}
 use Rattle.common.specs.Fields.{closeAt}
 use borrow.Author.Needs.{needs}
 use Rattle.common.proofs.parse_close_response.Statement.{statement}

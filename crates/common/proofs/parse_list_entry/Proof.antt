@@ -1,4 +1,4 @@
-use Rattle.tlf.specs.Read.{then}
+use Rattle.refusals.specs.Read.{then}
 use Rattle.common.specs.Fields.{entryAt}
 use Rattle.common.specs.Cut.{entryRest}
 use borrow.Author.Needs.{needs}

@@ -1,4 +1,4 @@
-use Rattle.tlf.specs.Read.{then, guard}
+use Rattle.refusals.specs.Read.{then, guard}
 use Rattle.message.specs.Cut.{listStartRest}
 use borrow.Author.Needs.{needs}
 use Rattle.message.proofs.list_start_rest.Statement.{statement}

@@ -1,5 +1,5 @@
 use borrow.Author.Tests.{eq-eqb, ne-eqb}
-use Rattle.tlf.specs.Read.{then}
+use Rattle.refusals.specs.Read.{then}
 use Rattle.message.specs.Messages.{contentAt}
 use borrow.Author.Needs.{needs}
 use Rattle.message.proofs.parse_content.Statement.{statement}

@@ -1,4 +1,4 @@
-use Rattle.tlf.specs.Read.{then}
+use Rattle.refusals.specs.Read.{then}
 use Rattle.message.specs.Messages.{listStartAt}
 use Rattle.message.specs.Cut.{listStartRest}
 use borrow.Author.Needs.{needs}

@@ -1,4 +1,4 @@
-use Rattle.tlf.specs.Read.{then}
+use Rattle.refusals.specs.Read.{then}
 use Rattle.message.specs.Messages.{bodyAt}
 use borrow.Author.Needs.{needs}
 use Rattle.message.proofs.parse_message_body.Statement.{statement}

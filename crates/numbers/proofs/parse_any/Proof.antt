@@ -1,6 +1,6 @@
 use mathlib.Core.Path.{sym, _∙_}
 use native.Mathlib.Omega.{arith}
-use Rattle.tlf.specs.Read.{then, guard}
+use Rattle.refusals.specs.Read.{then, guard}
 use Rattle.numbers.specs.Numbers.{rawAt}
 use Rattle.numbers.proofs.Numbers.{fits-high}
 use borrow.Author.Needs.{needs}

@@ -1,4 +1,4 @@
-use Rattle.tlf.specs.Read.{then, guard}
+use Rattle.refusals.specs.Read.{then, guard}
 use Rattle.numbers.specs.Numbers.{boolAt}
 use borrow.Author.Needs.{needs}
 use Rattle.numbers.proofs.parse_bool.Statement.{statement}

@@ -1,8 +1,8 @@
 use native.Mathlib.Omega.{arith}
 use mir.Syntax.{w64}
 use mir.ValLaws.{toZ-ofZ}
-use Rattle.tlf.specs.Read.{then}
-use Rattle.tlf.proofs.Read.{ok-at}
+use Rattle.refusals.specs.Read.{then}
+use Rattle.refusals.proofs.Read.{ok-at}
 use Rattle.numbers.specs.Numbers.{signedAt}
 use Rattle.numbers.proofs.Numbers.{raw-ok}
 use borrow.Author.Needs.{needs}

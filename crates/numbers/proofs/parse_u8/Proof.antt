@@ -1,4 +1,4 @@
-use Rattle.tlf.proofs.Read.{ok-at}
+use Rattle.refusals.proofs.Read.{ok-at}
 use Rattle.numbers.proofs.Numbers.{unsigned-ok}
 use Rattle.numbers.proofs.Short.{unsigned-one}
 use borrow.Author.Needs.{needs}

@@ -1,4 +1,4 @@
-use Rattle.tlf.specs.Read.{then}
+use Rattle.refusals.specs.Read.{then}
 use Rattle.numbers.specs.Numbers.{unsignedAt}
 use borrow.Author.Needs.{needs}
 use Rattle.numbers.proofs.parse_unsigned.Statement.{statement}

@@ -1,6 +1,6 @@
 use native.Mathlib.Omega.{arith}
-use Rattle.tlf.specs.Read.{then}
-use Rattle.tlf.proofs.Read.{ok-at, span-ok}
+use Rattle.refusals.specs.Read.{then}
+use Rattle.refusals.proofs.Read.{ok-at, span-ok}
 use Rattle.numbers.specs.Numbers.{rawFrom, bytesAt}
 use Rattle.numbers.proofs.Numbers.{raw-got}
 use borrow.Author.Needs.{needs}

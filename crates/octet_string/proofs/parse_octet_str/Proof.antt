@@ -1,4 +1,4 @@
-use Rattle.tlf.specs.Read.{then, guard}
+use Rattle.refusals.specs.Read.{then, guard}
 use Rattle.octet_string.specs.Strings.{octetsAt}
 use Rattle.octet_string.proofs.Short.{octets-one}
 use borrow.Author.Needs.{needs}

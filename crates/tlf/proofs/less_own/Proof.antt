@@ -1,5 +1,5 @@
 use borrow.Author.Tests.{le-leb, lt-leb}
-use Rattle.tlf.specs.Read.{guard}
+use Rattle.refusals.specs.Read.{guard}
 use Rattle.tlf.specs.Lengths.{lessOwn}
 use borrow.Author.Needs.{needs}
 use Rattle.tlf.proofs.less_own.Statement.{statement}

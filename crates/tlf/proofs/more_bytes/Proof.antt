@@ -3,7 +3,7 @@ use Prim.Native.Nat.{_-_}
 use borrow.Author.Needs.{needs}
 use borrow.Author.Tests.{eq-eqb, ne-eqb}
 use lib.ListN.{length, drop}
-use Rattle.tlf.specs.Read.{guard}
+use Rattle.refusals.specs.Read.{guard}
 use Rattle.tlf.specs.Lengths.{lengthFrom}
 use Rattle.tlf.proofs.Lengths.{length-stop, length-cut, length-next}
 use Rattle.tlf.proofs.more_bytes.Statement.{statement}

@@ -1,5 +1,5 @@
 use denote.Ref.{now}
-use Rattle.tlf.specs.Read.{then, guard}
+use Rattle.refusals.specs.Read.{then, guard}
 use Rattle.tlf.specs.Lengths.{listOfAt}
 use Rattle.tlf.proofs.Short.{list-of-one}
 use borrow.Author.Needs.{needs}

@@ -1,9 +1,9 @@
 use native.Mathlib.Omega.{arith}
 use borrow.Author.Tests.{eq-eqb, ne-eqb}
-use Rattle.tlf.specs.Read.{then, guard}
-use Rattle.tlf.proofs.Read.{ok-at}
+use Rattle.refusals.specs.Read.{then, guard}
+use Rattle.refusals.proofs.Read.{ok-at}
 use Rattle.numbers.proofs.Ahead.{unsigned-found}
-use Rattle.common.proofs.Fields.{message-end-found}
+use Rattle.trailer.proofs.Trailer.{message-end-found}
 use Rattle.trailer.specs.Trailer.{trailerAt}
 use borrow.Author.Needs.{needs}
 use Rattle.trailer.proofs.parse_trailer.Statement.{statement}

@@ -1,5 +1,5 @@
 use borrow.Author.Tests.{eq-eqb, ne-eqb}
-use Rattle.tlf.specs.Read.{then, guard}
+use Rattle.refusals.specs.Read.{then, guard}
 use Rattle.value.specs.Values.{timeAt}
 use borrow.Author.Needs.{needs}
 use Rattle.value.proofs.parse_time.Statement.{statement}

@@ -1,7 +1,7 @@
 use native.Mathlib.Omega.{arith}
-use Rattle.tlf.specs.Read.{then, guard, need}
+use Rattle.refusals.specs.Read.{then, guard, need}
+use Rattle.refusals.proofs.Read.{ok-at, byte-ok}
 use Rattle.tlf.specs.Lengths.{tlfAt}
-use Rattle.tlf.proofs.Read.{ok-at, byte-ok}
 use Rattle.tlf.proofs.Lengths.{length-ok}
 use borrow.Author.Needs.{needs}
 use Rattle.tlf.proofs.TypeLengthField.parse.Statement.{statement}

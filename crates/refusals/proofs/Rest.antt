@@ -1,17 +1,17 @@
--- What is left of the input behind a reading: laws of `then`, `guard` and `need`, and of bytes taken.
+-- What is left of the input behind a reading: laws of `then`, `guard`, `need` and `many`, and of bytes taken.
 use mathlib.Core.Path.{_≡_, refl, sym, ap, _∙_}
-use mathlib.Core.List.{List, [], _∷_, _++_}
+use mathlib.Core.List.{List, [], _∷_, _++_, append-assoc}
 use mathlib.Core.Bool.{Bool, true, false}
 use mathlib.Core.Option.{Option, some, none}
-use Prim.Native.Nat.{ℕ, _+_, _-_, _≤_, _<_}
+use Prim.Native.Nat.{ℕ, zero, suc, _+_, _-_, _≤_, _<_}
 use borrow.Author.Tests.{lt-ltb, le-leb}
 use native.Mathlib.Numerals.{unary-clauses}
 use native.Mathlib.Omega.{arith}
 use lib.ListN.{length, getD, take, drop, length-append, length-drop}
 use lib.Seq.{drop-drop, drop-append-seam, take-append-seam, getD-drop}
-use Rattle.tlf.specs.Read.{Read, got, refused, Refusal, then, guard, need, byteAt, spanAt}
-use Rattle.tlf.specs.declared.Span.{Span}
-use Rattle.tlf.proofs.Read.{Ok, ok-at, Ahead}
+use Rattle.refusals.specs.Read.{Read, got, refused, Refusal, then, guard, need, many, byteAt, spanAt}
+use Rattle.refusals.specs.declared.Span.{Span}
+use Rattle.refusals.proofs.Read.{Ok, ok-at, Ahead}
 
 -- the input's bytes from p on are l
 pub record Rest (s : List ℕ) (p : ℕ) (l : List ℕ) : Type 0 where
@@ -114,6 +114,33 @@ gets-made f r g = gets-then _ _ g (λ a n h k. gets-got (record { of = a; is = r
 pub gets-need : {A B : Type 0} {P : B → Type 0} {s l : List ℕ} (a : A) (m : Option A) (f : Refusal) (k : A → Read B) → m ≡ some a → Gets P s l (k a) → Gets P s l (need m f k)
 unfolding need
 gets-need a m f k e g = rw e g
+
+-- a first value that has P, and others that have Q
+pub record OneMore {A : Type 0} (P : List ℕ → A → Type 0) (Q : List ℕ → List A → Type 0) (s : List ℕ) (x : List A) : Type 0 where
+  pub first : A
+  pub others : List A
+  pub is : x ≡ first ∷ others
+  pub first-has : P s first
+  pub others-have : Q s others
+
+-- one reading no times finds nothing in no bytes
+pub none-reads : {A : Type 0} (read : List ℕ → ℕ → Read A) → Reads (λ s. many zero (read s)) (Is []) []
+unfolding many
+none-reads read = record { reads = λ l h. gets-got refl h }
+
+-- and once more than n times one value more
+pub more-reads : {A : Type 0} {read : List ℕ → ℕ → Read A} {P : List ℕ → A → Type 0} {Q : List ℕ → List A → Type 0} (n : ℕ) {b₁ b₂ : List ℕ}
+    → Reads read P b₁
+    → Reads (λ s. many n (read s)) Q b₂
+    → Reads (λ s. many (suc n) (read s)) (OneMore P Q) (b₁ ++ b₂)
+unfolding many
+more-reads n r₁ r₂ =
+    record {
+      reads = λ l h.
+          gets-then _ _ (r₁ .reads _ (simp append-assoc at h)) (λ a₁ n₁ h₁ k₁.
+          gets-then _ _ (r₂ .reads l k₁) (λ a₂ n₂ h₂ k₂.
+          gets-got (record { first = a₁; others = a₂; is = refl; first-has = h₁; others-have = h₂ }) k₂));
+    }
 
 pub byte-gets : {s : List ℕ} {p b : ℕ} {l : List ℕ} → Rest s p (b ∷ l) → Gets (λ (x : ℕ). x ≡ b) s l (byteAt s p)
 unfolding byteAt

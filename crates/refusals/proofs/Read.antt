@@ -7,8 +7,8 @@ use Prim.Native.Nat.{ℕ, _+_, _-_, _≤_, _<_}
 use native.Mathlib.Omega.{arith}
 use lib.ListN.{length, getD}
 use borrow.Author.Tests.{ltb-true, leb-true, le-leb}
-use Rattle.tlf.specs.Read.{Read, got, refused, Refusal, then, guard, need, byteAt, spanAt}
-use Rattle.tlf.specs.declared.Span.{Span}
+use Rattle.refusals.specs.Read.{Read, got, refused, Refusal, then, guard, need, byteAt, spanAt}
+use Rattle.refusals.specs.declared.Span.{Span}
 
 -- P of the value and the place, where there are any
 abbrev pub Finds : {A : Type 0} → (A → ℕ → Type 0) → Read A → Type 0

@@ -1,9 +1,9 @@
 use borrow.Author.Tests.{eq-eqb, ne-eqb}
-use Rattle.tlf.specs.Read.{then, guard}
-use Rattle.common.specs.Fields.{messageEndAt}
+use Rattle.refusals.specs.Read.{then, guard}
+use Rattle.trailer.specs.Trailer.{messageEndAt}
 use borrow.Author.Needs.{needs}
-use Rattle.common.proofs.parse_message_end.Statement.{statement}
-use Rattle.common.proofs.parse_message_end.Tie as tie
+use Rattle.trailer.proofs.parse_message_end.Statement.{statement}
+use Rattle.trailer.proofs.parse_message_end.Tie as tie
 
 take-byte-requires : tie.Need-take-byte-requires
 take-byte-requires c κs = search needs

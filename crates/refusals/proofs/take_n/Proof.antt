@@ -1,8 +1,8 @@
 use borrow.Author.Tests.{le-leb, lt-leb}
-use Rattle.tlf.specs.Read.{spanAt, guard}
+use Rattle.refusals.specs.Read.{spanAt, guard}
 use borrow.Author.Needs.{needs}
-use Rattle.tlf.proofs.take_n.Statement.{statement}
-use Rattle.tlf.proofs.take_n.Tie as tie
+use Rattle.refusals.proofs.take_n.Statement.{statement}
+use Rattle.refusals.proofs.take_n.Tie as tie
 
 sub-if2 : tie.Need-sub-if2
 sub-if2 c = search needs

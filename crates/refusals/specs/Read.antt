@@ -1,11 +1,12 @@
--- What a reader must believe: what a reading answers, a value and the place behind it or a refusal, and how readings follow each other.
-use Prim.Native.Nat.{ℕ, _+_, _-_}
+-- rule: what a reading answers, a value and the place behind it or a refusal, and how readings follow each other.
+use Prim.Native.Nat.{ℕ, zero, suc, _+_, _-_}
 use mathlib.Core.Bool.{Bool, true, false}
-use mathlib.Core.List.{List}
+use mathlib.Core.List.{List, [], _∷_}
 use mathlib.Core.Option.{Option, some, none}
 use lib.ListN.{length, getD}
 use lib.Dec.{ltb, leb}
-use Rattle.tlf.specs.declared.Span.{Span}
+use Rattle.refusals.specs.Numbers.{unexpectedEofNo, invalidTlfNo, tlfMismatchNo, unexpectedVariantNo, crcMismatchNo, msgEndMismatchNo}
+use Rattle.refusals.specs.declared.Span.{Span}
 
 -- document 01's number, of an 11 the kind (1 to 5, in the order of tlf.rs; else 0), and the place, counted from the input's start
 pub record Refusal : Type 0 where
@@ -32,29 +33,37 @@ unfoldable pub need : {A B : Type 0} → Option A → Refusal → (A → Read B)
 need (some a) f k = k a
 need none f k = refused f
 
+-- one reading n times, each from the place behind the one before
+unfoldable pub many : {A : Type 0} → ℕ → (ℕ → Read A) → ℕ → Read (List A)
+many zero read at = got [] at
+many (suc n) read at =
+    then (read at) λ a next.
+    then (many n read next) λ more end.
+    got (a ∷ more) end
+
 -- 10, end of input: the place is the input's length
 abbrev pub eof : ℕ → Refusal
-eof end = record { number = 10; kind = 0; place = end }
+eof end = record { number = unexpectedEofNo; kind = 0; place = end }
 
 -- 11, InvalidTlf, at the element's first length byte
 abbrev pub invalidTlf : ℕ → ℕ → Refusal
-invalidTlf kind at = record { number = 11; kind = kind; place = at }
+invalidTlf kind at = record { number = invalidTlfNo; kind = kind; place = at }
 
 -- 12, TlfMismatch, at the element's first length byte
 abbrev pub mismatch : ℕ → Refusal
-mismatch at = record { number = 12; kind = 0; place = at }
+mismatch at = record { number = tlfMismatchNo; kind = 0; place = at }
 
 -- 13, UnexpectedVariant, at the tag's first length byte
 abbrev pub unexpected : ℕ → Refusal
-unexpected at = record { number = 13; kind = 0; place = at }
+unexpected at = record { number = unexpectedVariantNo; kind = 0; place = at }
 
 -- 14, CrcMismatch, at the CRC's first length byte
 abbrev pub crcMismatch : ℕ → Refusal
-crcMismatch at = record { number = 14; kind = 0; place = at }
+crcMismatch at = record { number = crcMismatchNo; kind = 0; place = at }
 
 -- 15, wrong message end, at the end byte
 abbrev pub wrongEnd : ℕ → Refusal
-wrongEnd at = record { number = 15; kind = 0; place = at }
+wrongEnd at = record { number = msgEndMismatchNo; kind = 0; place = at }
 
 -- the byte at a place
 unfoldable pub byteAt : List ℕ → ℕ → Read ℕ

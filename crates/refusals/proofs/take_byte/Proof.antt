@@ -1,8 +1,8 @@
 use borrow.Author.Tests.{lt-ltb, le-ltb}
-use Rattle.tlf.specs.Read.{byteAt, guard}
+use Rattle.refusals.specs.Read.{byteAt, guard}
 use borrow.Author.Needs.{needs}
-use Rattle.tlf.proofs.take_byte.Statement.{statement}
-use Rattle.tlf.proofs.take_byte.Tie as tie
+use Rattle.refusals.proofs.take_byte.Statement.{statement}
+use Rattle.refusals.proofs.take_byte.Tie as tie
 
 shared-slice-read-t7 : tie.Need-shared-slice-read-t7
 shared-slice-read-t7 c = search needs
