@@ -1,4 +1,4 @@
--- What a reader must believe: what each answer says, field for field.
+-- view: what each answer says, field for field.
 use Rattle.tlf.specs.Read.{Read, got, refused}
 use Rattle.tlf.specs.Refusals.{faultOf}
 use Rattle.tlf.specs.declared.Span.{Span}

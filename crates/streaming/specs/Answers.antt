@@ -1,4 +1,4 @@
--- What a reader must believe: document 01's number and values for each answer of the reader.
+-- view: document 01's number and values for each answer of the reader.
 use Rattle.tlf.specs.Refusals.{faultOf}
 use Rattle.tlf.specs.declared.Span.{Span}
 use Rattle.common.specs.Answers.{listEntry}

@@ -4,5 +4,6 @@ pub mod Lengths
 pub mod Short
 pub mod Found
 pub mod Gets
-pub mod Bench
 pub mod Ends
+pub mod Undone
+pub mod Decided

@@ -1,4 +1,4 @@
--- What a reader must believe: what a reading answers, a value and the place behind it or a refusal, and how readings follow each other.
+-- rule: what a reading answers, a value and the place behind it or a refusal, and how readings follow each other.
 use Prim.Native.Nat.{ℕ, _+_, _-_}
 use mathlib.Core.Bool.{Bool, true, false}
 use mathlib.Core.List.{List}

@@ -1,4 +1,4 @@
--- What a reader must believe: document 01's number and values for each case of each answer.
+-- view: document 01's number and values for each case of each answer.
 use Prim.Native.Nat.{ℕ}
 use mathlib.Core.Option.{Option, some, none}
 use Rattle.tlf.specs.Read.{Read, got, refused, Refusal, eof, invalidTlf, mismatch, unexpected, crcMismatch, wrongEnd}
