@@ -1,3 +1,4 @@
 pub mod Events
 pub mod Pushes
 pub mod Streams
+pub mod Decided

@@ -1,4 +1,4 @@
--- What a reader must believe: what the functions for counting answer, by the definitions that the contracts of push, encode, Encoder, reader and CRC cite.
+-- check: what the functions for counting answer, by the definitions that the contracts of push, encode, Encoder, reader and CRC cite.
 use mathlib.Core.Bool.{Bool, true, false, cond}
 use mathlib.Core.List.{List, [], _∷_}
 use Prim.Native.Nat.{ℕ, zero, suc, _+_}

@@ -1,4 +1,4 @@
--- How the code is cut: an answer of the Encoder as a byte.
+-- cut: an answer of the Encoder as a byte.
 use Prim.Native.Nat.{ℕ}
 use mathlib.Core.Bool.{Bool, true, false}
 use Rattle.encoder.specs.Encoder.{NextAnswer, byte, finished, noByte}

@@ -1,3 +1,4 @@
 pub mod Fields
 pub mod Gets
 pub mod Ends
+pub mod Decided

@@ -1,4 +1,4 @@
--- What a reader must believe: what each answer says, field for field.
+-- view: what each answer says, field for field.
 use Rattle.refusals.specs.Read.{Read, got, refused}
 use Rattle.refusals.specs.Answers.{faultOf}
 use Rattle.refusals.specs.declared.Span.{Span}

@@ -1,4 +1,4 @@
--- How the code is cut: the last fields of a record, where the first are read already.
+-- cut: the last fields of a record, where the first are read already.
 use Prim.Native.Nat.{ℕ}
 use mathlib.Core.List.{List}
 use mathlib.Core.Option.{Option}

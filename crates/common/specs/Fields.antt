@@ -1,4 +1,4 @@
--- What a reader must believe: the fields of open, close and list entry, by the rules marked (S) of document 01.
+-- rule: the fields of open, close and list entry, by the rules marked (S) of document 01.
 use Prim.Native.Nat.{ℕ}
 use mathlib.Core.List.{List}
 use mathlib.Core.Option.{Option}

@@ -1,3 +1,4 @@
 pub mod Fields
 pub mod Cut
 pub mod Answers
+pub mod Decided

@@ -1,4 +1,4 @@
--- What a reader must believe: CRC X25, public name CRC-16/IBM-SDLC, bit by bit from its public parameters.
+-- rule: CRC X25, public name CRC-16/IBM-SDLC, bit by bit from its public parameters.
 use Prim.Native.Nat.{ℕ, zero, suc, _+_, _*_, _/_, _%_, _^_}
 use mathlib.Core.List.{List, [], _∷_}
 use mathlib.Core.Bool.{cond}

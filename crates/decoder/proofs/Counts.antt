@@ -7,7 +7,8 @@ use lib.ListN.{length}
 use Rattle.frame.proofs.Cases.{by-eq}
 use Rattle.decoder.specs.Push.{Setup, Mem, State, search, body, escape, done, PushEvent, silent, discarded, paysOut, memory, badEscape, badMessage, Out, begun, noticed, fresh, stopped, step}
 use Rattle.decoder.specs.Record.{After, after, nothing, stateOf, newRecord}
-use Rattle.decoder.specs.Run.{Op, push, finalize, reset, behind, actState, stateBehind}
+use Rattle.decoder.specs.Run.{Op, push, finalize, reset, behind}
+use Rattle.decoder.proofs.States.{actState, stateBehind}
 use Rattle.decoder.specs.Saw.{Judged, is-data, restarts, good, bad, shifts, unknown, Saw, matched, began, missed, again, waits, opens, stores, full, reads, judges, full′}
 use Rattle.decoder.proofs.Saw.{saw}
 use Rattle.decoder.proofs.Runs.{leads, new-fit}

@@ -2,11 +2,12 @@ pub mod Split
 pub mod Saw
 pub mod Valid
 pub mod Faithful
+pub mod States
 pub mod Runs
 pub mod Counts
 pub mod Payload
 pub mod Plain
-pub mod Bench
+pub mod Examples
 pub mod Answers
 pub mod Tied
 pub mod Same
@@ -14,3 +15,4 @@ pub mod Stores
 pub mod Tests
 pub mod Checks
 pub mod Reached
+pub mod Decided

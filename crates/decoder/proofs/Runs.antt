@@ -8,7 +8,8 @@ use lib.ListN.{length}
 use borrow.Author.Tests.{eq-eqb, le-ltb}
 use Rattle.decoder.specs.Push.{Setup, fresh, finalized, resetCount}
 use Rattle.decoder.specs.Record.{Answer, nothing, count, After, after, numbered, setup, stateAs, stateOf, recordOf, badDecoder, wrongBuffer, finalizeRecord, resetRecord, newRecord}
-use Rattle.decoder.specs.Run.{Op, push, finalize, reset, act, run, behind, actState, answerState, runState, stateBehind}
+use Rattle.decoder.specs.Run.{Op, push, finalize, reset, act, run, behind}
+use Rattle.decoder.proofs.States.{actState, answerState, runState, stateBehind}
 use Rattle.decoder.specs.declared.DecodeState.{DecodeState}
 use Rattle.decoder.specs.declared.DecodeState.the-variants.{LookingForMessageStart, ParsingNormal, ParsingEscChars, ParsingEscPayload, Done}
 use Rattle.decoder.specs.declared.Decoder.{Decoder}

@@ -1,4 +1,4 @@
--- How the code is cut: what each private function answers over the record's fields and the memory. proofs/Tied.antt ties it to the push rules, for every record that is not refused.
+-- cut: what each private function answers over the record's fields and the memory. proofs/Tied.antt ties it to the push rules, for every record that is not refused.
 use Prim.Native.Nat.{ℕ, suc, _+_, _-_, _*_, _%_}
 use mathlib.Core.List.{List, [], _∷_, _++_}
 use mathlib.Core.Bool.{Bool, true, false, cond, not}

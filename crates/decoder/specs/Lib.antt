@@ -3,3 +3,4 @@ pub mod Record
 pub mod Run
 pub mod Saw
 pub mod Cut
+pub mod Decided

@@ -1,4 +1,4 @@
--- What a reader must believe: the push rules of document 01, over a state that holds only the counts that it uses and the stored bytes as a list.
+-- rule: the push rules of document 01, over a state that holds only the counts that it uses and the stored bytes as a list.
 use mathlib.Core.Bool.{Bool, true, false, cond, not}
 use mathlib.Core.List.{List, [], _∷_, _++_}
 use Prim.Native.Nat.{ℕ, suc, _+_, _-_, _*_, _%_, min}

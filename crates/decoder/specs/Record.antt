@@ -1,4 +1,4 @@
--- What a reader must believe: the record that the code keeps of a decoder, with the lent buffer, as the packed form of the push rules' state; what is refused; document 01's number and values of every answer.
+-- rule: the record that the code keeps of a decoder, with the lent buffer, as the packed form of the push rules' state; what is refused; document 01's number and values of every answer.
 use mathlib.Core.Bool.{Bool, true, false, cond}
 use mathlib.Core.List.{List, [], _∷_, _++_}
 use Prim.Native.Nat.{ℕ, zero, suc, _+_}

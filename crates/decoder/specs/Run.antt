@@ -1,16 +1,13 @@
--- What a reader must believe: a decoder in use. Pushes, finalize and reset one after another, by the definitions that the functions' contracts cite, and what they answer.
+-- claim: a decoder in use. Pushes, finalize and reset one after another, by the definitions that the functions' contracts cite, and what they answer.
 use mathlib.Core.List.{List, [], _∷_}
 use Prim.Native.Nat.{ℕ}
-use Rattle.decoder.specs.Push.{Setup, State, fresh, step, finalized, resetCount}
-use Rattle.decoder.specs.Record.{Answer, count, numbered, After, after, pushRecord, finalizeRecord, resetRecord}
+use Rattle.decoder.specs.Record.{Answer, After, after, pushRecord, finalizeRecord, resetRecord}
 use Rattle.decoder.specs.declared.Decoder.{Decoder}
 
 pub data Op : Type 0 where
   push : ℕ → Op
   finalize : Op
   reset : Op
-
--- ---- over the record and the lent memory
 
 unfoldable pub act : Decoder → List ℕ → Op → After
 act d m (push b) = pushRecord d m b
@@ -28,23 +25,3 @@ run d m (o ∷ os) =
 unfoldable pub behind : After → List Op → After
 behind a [] = a
 behind a (o ∷ os) = behind (act (a .decoder) (a .memory) o) os
-
--- ---- the same over the state of the push rules
-
-unfoldable pub actState : Setup → State → Op → State
-actState C s (push b) = (step C s b) .state
-actState C s finalize = fresh
-actState C s reset = fresh
-
-unfoldable pub answerState : Setup → State → Op → Answer
-answerState C s (push b) = numbered ((step C s b) .event)
-answerState C s finalize = numbered (finalized s)
-answerState C s reset = count (resetCount s)
-
-unfoldable pub runState : Setup → State → List Op → List Answer
-runState C s [] = []
-runState C s (o ∷ os) = answerState C s o ∷ runState C (actState C s o) os
-
-unfoldable pub stateBehind : Setup → State → List Op → State
-stateBehind C s [] = s
-stateBehind C s (o ∷ os) = stateBehind C (actState C s o) os

@@ -1,4 +1,4 @@
--- What a reader must believe: the cases of a push, one for each sentence of the push rules, with what is known in each. proofs/Saw.antt proves that every push is one of them.
+-- claim: the cases of a push, one for each sentence of the push rules, with what is known in each. proofs/Saw.antt proves that every push is one of them.
 use mathlib.Core.Path.{_≡_}
 use mathlib.Core.Bool.{true, false}
 use mathlib.Core.List.{List, [], _∷_, _++_}

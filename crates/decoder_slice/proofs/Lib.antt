@@ -1,4 +1,5 @@
 pub mod Runs
 pub mod Skips
 pub mod Taken
-pub mod Bench
+pub mod Examples
+pub mod Decided

@@ -1,4 +1,4 @@
--- What a reader must believe: a slice of bytes pushed one after another, by the definition that push_byte's contract cites, up to and with the byte that brings the first event.
+-- rule: a slice of bytes pushed one after another, by the definition that push_byte's contract cites, up to and with the byte that brings the first event.
 use mathlib.Core.Bool.{Bool, true, false, cond}
 use mathlib.Core.List.{List, [], _∷_}
 use Prim.Native.Nat.{ℕ, suc}

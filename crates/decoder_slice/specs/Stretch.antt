@@ -1,4 +1,4 @@
--- How the code is cut: the bytes of a slice that change only counts and the buffer are taken at once.
+-- cut: the bytes of a slice that change only counts and the buffer are taken at once.
 use Prim.Native.Nat.{ℕ, _+_, _<_, _≤_}
 use mathlib.Core.List.{List}
 use mathlib.Core.Path.{_≡_}

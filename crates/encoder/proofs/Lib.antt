@@ -3,4 +3,5 @@ pub mod Encodes
 pub mod Ends
 pub mod Steps
 pub mod Calls
-pub mod Bench
+pub mod Examples
+pub mod Decided

@@ -1,4 +1,4 @@
--- What a reader must believe: one call after the other gives the frame's bytes, and then finished for ever.
+-- claim: one call after the other gives the frame's bytes, and then finished for ever.
 use mathlib.Core.Path.{_≡_}
 use mathlib.Core.List.{List, [], _∷_, _++_, map}
 use Prim.Native.Nat.{ℕ, zero, suc, _+_, _≤_}

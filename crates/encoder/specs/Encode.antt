@@ -1,4 +1,4 @@
--- What a reader must believe: what encode answers, with document 01's numbers, and what it leaves in the output.
+-- rule: what encode answers, with document 01's numbers, and what it leaves in the output.
 use mathlib.Core.Bool.{cond}
 use mathlib.Core.List.{List, _++_}
 use Prim.Native.Nat.{ℕ}

@@ -1,4 +1,4 @@
--- What a reader must believe: the Encoder's next byte, with document 01's numbers. An Encoder holds where it is in the frame, its place
+-- rule: the Encoder's next byte, with document 01's numbers. An Encoder holds where it is in the frame, its place
 -- in the payload, and the CRC register.
 use mathlib.Core.Bool.{Bool, true, false, cond}
 use mathlib.Core.List.{List, [], _∷_, _++_}

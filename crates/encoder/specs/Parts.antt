@@ -1,4 +1,4 @@
--- How the code is cut: bytes put into the output one after the other.
+-- cut: bytes put into the output one after the other.
 use mathlib.Core.Bool.{cond}
 use mathlib.Core.List.{List}
 use mathlib.Core.Path.{_≡_}

@@ -1,4 +1,4 @@
--- What a reader must believe: calling for the next event again and again.
+-- claim: calling for the next event again and again.
 use Prim.Native.Nat.{ℕ, zero, suc}
 use mathlib.Core.List.{List}
 use Rattle.streaming.specs.Next.{Said, ReaderAfter, nextAt}

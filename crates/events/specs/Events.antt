@@ -1,4 +1,4 @@
--- What a reader must believe: all that the calls answer on a whole input, message by message, entry by entry.
+-- rule: all that the calls answer on a whole input, message by message, entry by entry.
 use Prim.Native.Nat.{ℕ, zero, suc}
 use mathlib.Core.List.{List, [], _∷_}
 use mathlib.Core.Bool.{cond}

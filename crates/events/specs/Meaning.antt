@@ -1,4 +1,4 @@
--- What a reader must believe: what an event means, whatever the width of its numbers and wherever its strings stand.
+-- claim: what an event means, whatever the width of its numbers and wherever its strings stand.
 use Prim.Native.Nat.{ℕ}
 use mathlib.Core.List.{List}
 use mathlib.Core.Option.{Option, some, none}

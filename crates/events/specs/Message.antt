@@ -1,4 +1,4 @@
--- What a reader must believe: a whole message, from its first byte to its end byte.
+-- claim: a whole message, from its first byte to its end byte.
 use Prim.Native.Nat.{ℕ}
 use mathlib.Core.List.{List, []}
 use mathlib.Core.Option.{Option, some, none}

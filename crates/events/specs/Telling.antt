@@ -1,4 +1,4 @@
--- What a reader must believe: how the answers of the calls tell what a whole message says.
+-- claim: how the answers of the calls tell what a whole message says.
 use Prim.Native.Nat.{ℕ}
 use mathlib.Core.Path.{_≡_}
 use mathlib.Core.List.{List, [], _∷_}

@@ -1,4 +1,4 @@
--- What a reader must believe: the frame rules of SML transport version 1, in document 01's words.
+-- rule: the frame rules of SML transport version 1, in document 01's words.
 use mathlib.Core.Path.{_≡_}
 use mathlib.Core.Bool.{cond}
 use mathlib.Core.List.{List, [], _∷_, _++_}

@@ -12,7 +12,8 @@ use Rattle.frame.proofs.Cases.{by-le}
 use Rattle.decoder.specs.Push.{Setup, Mem, State, search, body, escape, done, silent, discarded, memory, Out, says, put, store, step, begun, noticed, fresh}
 use Rattle.decoder.specs.Record.{Answer, nothing, refusal, numbered, setup, stateAs, stateOf, newRecord}
 use Rattle.decoder.specs.Run as R
-use Rattle.decoder.specs.Run.{Op, runState, actState, answerState}
+use Rattle.decoder.specs.Run.{Op}
+use Rattle.decoder.proofs.States.{runState, actState, answerState}
 use Rattle.decoder.specs.declared.DecodeState.{DecodeState}
 use Rattle.decoder.specs.declared.Decoder.{Decoder}
 use Rattle.decoder.proofs.Faithful.{Fit}

@@ -7,8 +7,6 @@ pub mod Completeness
 pub mod Bench
 pub mod Encoders
 pub mod Events
-pub mod Undone
-pub mod MessageViews
 pub mod Decided
 pub mod Fakes
 pub mod Marks

@@ -11,7 +11,8 @@ use lib.Dec.{ltb}
 use Rattle.frame.specs.Frame.{restartSeq, frameOf, closed}
 use Rattle.decoder.specs.Push.{Setup, Mem, State, search, body, escape, done, silent, memory, Out, searching, says, put, starts, step, noticed, fresh, stopped}
 use Rattle.decoder.specs.Record.{Answer, nothing, payload, count, refusal, numbered, newRecord}
-use Rattle.decoder.specs.Run.{Op, push, finalize, reset, act, run, runState, stateBehind, actState, answerState}
+use Rattle.decoder.specs.Run.{Op, push, finalize, reset, act, run}
+use Rattle.decoder.proofs.States.{runState, stateBehind, actState, answerState}
 use Rattle.decoder.specs.Saw as W
 use Rattle.decoder.specs.Saw.{Judged, is-data, restarts, good, bad, shifts, Saw, matched, began, missed, again, waits, opens, stores, full, reads, judges, full′}
 use Rattle.decoder.proofs.Saw.{saw}

@@ -13,7 +13,8 @@ use Rattle.frame.specs.Frame.{Sound, missing, escSeq, startSeq, escaped, closed
 use Rattle.decoder.specs.Push.{Setup, Mem, State, search, body, escape, done, silent, paysOut, Out, begun, searching, says, put, tick, opened, store, same, judge, finish, computed, step, noticed, fresh, memory}
 use Rattle.decoder.specs.Record.{Answer, nothing, payload, numbered}
 use Rattle.decoder.specs.Run as R
-use Rattle.decoder.specs.Run.{Op, runState, actState, answerState}
+use Rattle.decoder.specs.Run.{Op}
+use Rattle.decoder.proofs.States.{runState, actState, answerState}
 use Rattle.marks.specs.Decoders.{frameSays}
 use Rattle.frame.proofs.Cases.{either}
 use Rattle.frame.proofs.Escapes.{runBehind, swap-escSeq, run-le, escaped-append, escaped-zeros, escaped-other, run-other, escaped-wait, run-wait}

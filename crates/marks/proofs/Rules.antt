@@ -9,7 +9,8 @@ use borrow.Author.Tests.{ne-eqb, le-leb, lt-ltb}
 use Rattle.decoder.specs.Push.{Setup, Mem, State, body, escape, silent, Out, says, put, tick, opened, store, judge, step}
 use Rattle.decoder.specs.Record.{Answer, nothing, numbered}
 use Rattle.decoder.specs.Run as R
-use Rattle.decoder.specs.Run.{Op, runState, actState, answerState}
+use Rattle.decoder.specs.Run.{Op}
+use Rattle.decoder.proofs.States.{runState, actState, answerState}
 
 pub store-fits : (C : Setup) (m : Mem) (l : List ℕ) (k : Mem → Out) → length (m .stored) + length l ≤ C .capacity → store C m l k ≡ k (put m l)
 unfolding store

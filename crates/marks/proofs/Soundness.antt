@@ -13,7 +13,8 @@ use Rattle.frame.specs.Frame.{Sound, missing, escSeq, restartSeq, startSeq, esc
 use Rattle.decoder.specs.Push.{Setup, Mem, State, search, body, escape, done, PushEvent, silent, discarded, paysOut, memory, badEscape, badMessage, Out, begun, searching, says, put, tick, opened, store, same, starts, early, sound?, judge, finish, computed, step, noticed, fresh, finalized}
 use Rattle.decoder.specs.Record.{Answer, nothing, payload, count, refusal, numbered, After, after, stateAs, stateOf, newRecord, stands, hasPayload, payloadRecord}
 use Rattle.decoder.specs.Run as R
-use Rattle.decoder.specs.Run.{Op, push, finalize, reset, act, runState, stateBehind, actState, answerState}
+use Rattle.decoder.specs.Run.{Op, push, finalize, reset, act}
+use Rattle.decoder.proofs.States.{runState, stateBehind, actState, answerState}
 use Rattle.decoder.specs.Saw.{Passed}
 use Rattle.decoder.specs.declared.DecodeState.{DecodeState}
 use Rattle.decoder.specs.declared.DecodeState.the-variants.{LookingForMessageStart, ParsingNormal, ParsingEscChars, ParsingEscPayload, Done}

@@ -1,4 +1,4 @@
--- What a reader must believe: the bench sheet of document 01, B1 to B14, as one table of inputs and outcomes.
+-- check: the bench sheet of document 01, B1 to B14, as one table of inputs and outcomes.
 use mathlib.Core.Path.{_≡_}
 use mathlib.Core.List.{List, [], _∷_, _++_, map}
 use mathlib.Core.Option.{Option, some}

@@ -1,4 +1,4 @@
--- What a reader must believe: a decoder in use, whichever decoder it is. Operations one after another with one buffer lent each time, what they answer, and which bytes were pushed since the last answer of note.
+-- claim: a decoder in use, whichever decoder it is. Operations one after another with one buffer lent each time, what they answer, and which bytes were pushed since the last answer of note.
 use mathlib.Core.List.{List, [], _∷_, _++_}
 use Prim.Native.Nat.{ℕ, suc, _-_}
 use lib.ListN.{length, replicate}

@@ -1,4 +1,4 @@
--- What a reader must believe: encode writes the frame, and an Encoder's calls give encode's bytes, one a call, then finished for ever.
+-- claim: encode writes the frame, and an Encoder's calls give encode's bytes, one a call, then finished for ever.
 use mathlib.Core.Path.{_≡_}
 use mathlib.Core.List.{List, [], _∷_, _++_, map}
 use Prim.Native.Nat.{ℕ, zero, suc, _+_, _≤_}

@@ -1,4 +1,4 @@
--- What a reader must believe: message events. Repeated calls of a reader, whichever reader it is, give the events that the tables define; a list start with n is followed by n entries and the end, or by a refusal.
+-- claim: message events. Repeated calls of a reader, whichever reader it is, give the events that the tables define; a list start with n is followed by n entries and the end, or by a refusal.
 use mathlib.Core.Path.{_≡_}
 use mathlib.Core.List.{List}
 use Prim.Native.Nat.{ℕ, zero, suc}

@@ -1,4 +1,4 @@
--- What a reader must believe: the fakes of document 01, each a small decoder, encoder or reader of messages, and which claim or row of the bench sheet is false of it.
+-- check: the fakes of document 01, each a small decoder, encoder or reader of messages, and which claim or row of the bench sheet is false of it.
 use mathlib.Core.Bool.{Bool, true, false, cond}
 use mathlib.Core.List.{List, [], _∷_}
 use Prim.Native.Nat.{ℕ, suc}

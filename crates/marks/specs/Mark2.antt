@@ -1,4 +1,4 @@
--- What a reader must believe: mark 2. A decoder hands out a payload only at the last byte of a sound frame for it, and every sound frame that fits is handed out.
+-- claim: mark 2. A decoder hands out a payload only at the last byte of a sound frame for it, and every sound frame that fits is handed out.
 use mathlib.Core.Path.{_≡_}
 use mathlib.Core.Bool.{false, cond}
 use mathlib.Core.List.{List, [], _∷_, _++_, map}

@@ -1,4 +1,4 @@
--- What a reader must believe: mark 3. Whatever was done with a new decoder before, behind capacity + 5 zero bytes every encoded payload that fits is handed out.
+-- claim: mark 3. Whatever was done with a new decoder before, behind capacity + 5 zero bytes every encoded payload that fits is handed out.
 use mathlib.Core.Path.{_≡_}
 use mathlib.Core.List.{List, [], _∷_, _++_, map}
 use Prim.Native.Nat.{ℕ, _+_, _≤_}

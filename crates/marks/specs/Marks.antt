@@ -1,4 +1,4 @@
--- What a reader must believe: the marks, all that this crate claims of ours, in one place. proofs/Marks.antt proves it.
+-- claim: the marks, all that this crate claims of ours, in one place. proofs/Marks.antt proves it.
 use mathlib.Core.Path.{_≡_}
 use mathlib.Core.List.{List}
 use Prim.Native.Nat.{ℕ, _≤_}

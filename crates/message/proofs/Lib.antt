@@ -1,3 +1,4 @@
 pub mod Messages
 pub mod Gets
 pub mod Ends
+pub mod Decided

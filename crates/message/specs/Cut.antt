@@ -1,4 +1,4 @@
--- How the code is cut: a list's head with its number of entries, where the fields before it are read already.
+-- cut: a list's head with its number of entries, where the fields before it are read already.
 use Prim.Native.Nat.{ℕ}
 use mathlib.Core.List.{List}
 use mathlib.Core.Option.{Option}

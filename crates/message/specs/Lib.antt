@@ -1,3 +1,4 @@
 pub mod Messages
 pub mod Cut
 pub mod Answers
+pub mod Decided

@@ -1,4 +1,4 @@
--- What a reader must believe: a message's head and body, up to the entries of a list, and a list's end.
+-- rule: a message's head and body, up to the entries of a list, and a list's end.
 use Prim.Native.Nat.{ℕ}
 use mathlib.Core.List.{List}
 use mathlib.Core.Bool.{cond}

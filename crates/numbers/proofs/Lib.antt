@@ -2,5 +2,6 @@ pub mod Numbers
 pub mod Short
 pub mod Ahead
 pub mod Gets
-pub mod Bench
+pub mod Examples
 pub mod Ends
+pub mod Decided

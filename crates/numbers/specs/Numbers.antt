@@ -1,4 +1,4 @@
--- What a reader must believe: the number rules of document 01, once over the width in bytes.
+-- rule: the number rules of document 01, once over the width in bytes.
 use Prim.Native.Nat.{ℕ, _+_, _*_, _^_, _-_}
 use mathlib.Core.List.{List, [], _∷_}
 use mathlib.Core.Bool.{Bool, true, false, cond, not, _&&_}

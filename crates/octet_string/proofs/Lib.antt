@@ -3,5 +3,6 @@ pub mod Short
 pub mod Optional
 pub mod Within
 pub mod Gets
-pub mod Bench
+pub mod Examples
 pub mod Ends
+pub mod Decided

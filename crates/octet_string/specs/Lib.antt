@@ -1,3 +1,4 @@
 pub mod Strings
 pub mod Optional
 pub mod Answers
+pub mod Decided

@@ -1,4 +1,4 @@
--- What a reader must believe: an optional field that is absent is one byte 01; else it is the field's own reading.
+-- rule: an optional field that is absent is one byte 01; else it is the field's own reading.
 use Prim.Native.Nat.{ℕ, _+_}
 use mathlib.Core.List.{List}
 use mathlib.Core.Bool.{Bool, cond, _&&_}

@@ -1,4 +1,4 @@
--- What a reader must believe: octet strings, and the part of the input that a span is.
+-- rule: octet strings, and the part of the input that a span is.
 use Prim.Native.Nat.{ℕ, _-_}
 use mathlib.Core.List.{List, []}
 use mathlib.Core.Bool.{Bool, true, false, cond, _&&_}

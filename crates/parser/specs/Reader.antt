@@ -1,4 +1,4 @@
--- What a reader must believe: a reader that holds its input, and what a call of next says and leaves.
+-- rule: a reader that holds its input, and what a call of next says and leaves.
 use Prim.Native.Nat.{ℕ}
 use mathlib.Core.List.{List}
 use denote.Ref.{RefT, now}

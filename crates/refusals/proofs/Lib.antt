@@ -1,3 +1,5 @@
 pub mod Read
 pub mod Rest
 pub mod Found
+pub mod Undone
+pub mod Decided

@@ -1,3 +1,4 @@
 pub mod Numbers
 pub mod Read
 pub mod Answers
+pub mod Decided

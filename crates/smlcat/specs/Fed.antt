@@ -1,4 +1,4 @@
--- What a reader must believe: a decoder and its memory behind a list of bytes, pushed one after another by the definition that push_byte's contract cites.
+-- claim: a decoder and its memory behind a list of bytes, pushed one after another by the definition that push_byte's contract cites.
 use mathlib.Core.List.{List, [], _∷_}
 use Prim.Native.Nat.{ℕ}
 use Rattle.decoder.specs.Record.{pushRecord}

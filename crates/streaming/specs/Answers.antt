@@ -1,4 +1,4 @@
--- What a reader must believe: document 01's number and values for each answer of the reader.
+-- view: document 01's number and values for each answer of the reader.
 use Rattle.refusals.specs.Numbers.{badStateNo, inputTooLongNo}
 use Rattle.refusals.specs.Answers.{faultOf}
 use Rattle.refusals.specs.declared.Span.{Span}

@@ -1,2 +1,3 @@
 pub mod Next
 pub mod Answers
+pub mod Decided

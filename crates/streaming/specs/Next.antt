@@ -1,4 +1,4 @@
--- What a reader must believe: the next event of a message input, and the three numbers that a reader keeps.
+-- rule: the next event of a message input, and the three numbers that a reader keeps.
 use Prim.Native.Nat.{ℕ, zero, suc, _+_}
 use mathlib.Core.List.{List}
 use mathlib.Core.Bool.{Bool, cond, _&&_}

@@ -1,5 +1,5 @@
 pub mod Lengths
 pub mod Short
 pub mod Gets
-pub mod Bench
 pub mod Ends
+pub mod Decided

@@ -1,4 +1,4 @@
--- What a reader must believe: the length rules of document 01.
+-- rule: the length rules of document 01.
 use Prim.Native.Nat.{ℕ, _+_, _*_, _/_, _%_, _^_, _-_}
 use mathlib.Core.List.{List, [], _∷_}
 use mathlib.Core.Bool.{Bool, true, false, cond, not, _&&_}

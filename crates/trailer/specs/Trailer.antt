@@ -1,4 +1,4 @@
--- What a reader must believe: a message's trailer, its CRC and its end byte.
+-- rule: a message's trailer, its CRC and its end byte.
 use Prim.Native.Nat.{ℕ, _+_, _-_, _*_, _/_, _%_}
 use mathlib.Core.List.{List}
 use lib.ListN.{take, drop}

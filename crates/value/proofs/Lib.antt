@@ -1,3 +1,4 @@
 pub mod Values
 pub mod Ranges
 pub mod Gets
+pub mod Decided

@@ -1,4 +1,4 @@
--- What a reader must believe: time, status and value, by the rules marked (S) of document 01, widened where common.rs accepts more.
+-- rule: time, status and value, by the rules marked (S) of document 01, widened where common.rs accepts more.
 use Prim.Native.Nat.{ℕ}
 use mathlib.Core.List.{List}
 use mathlib.Core.Bool.{Bool, false, cond, _&&_}

@@ -12,12 +12,12 @@ use Rattle.trailer.specs.Trailer.{messageEndAt, crcFrom, trailerAt}
 abbrev pub closing : ℕ → ℕ → ℕ → List ℕ
 closing high low end = 0x76 ∷ 0x03 ∷ 0xdd ∷ 0x43 ∷ 0x62 ∷ 0x00 ∷ 0x62 ∷ 0x00 ∷ 0x72 ∷ 0x63 ∷ 0x02 ∷ 0x01 ∷ 0x71 ∷ 0x01 ∷ 0x63 ∷ high ∷ low ∷ end ∷ []
 
-pub record Bench : Type 0 where
+pub record TrailerExamples : Type 0 where
   pub right : trailerAt (closing 0x0f 0x5b 0x00) 0 14 ≡ got tt 18
   pub both-wrong : trailerAt (closing 0x5b 0x0f 0x01) 0 14 ≡ refused (wrongEnd 17)
   pub end-wrong : trailerAt (closing 0x0f 0x5b 0x01) 0 14 ≡ refused (wrongEnd 17)
   pub crc-wrong : trailerAt (closing 0x5b 0x0f 0x00) 0 14 ≡ refused (crcMismatch 14)
 
-pub bench : Bench
+pub trailer-examples : TrailerExamples
 unfolding then guard need byteAt spanAt tlfAt lengthFrom lessOwn number bytesAt rawFrom rawAt unsignedAt messageEndAt reflect polynomial bitStep bitSteps byteStep register finalXor crcOf crcFrom trailerAt
-bench = record { right = refl; both-wrong = refl; end-wrong = refl; crc-wrong = refl }
+trailer-examples = record { right = refl; both-wrong = refl; end-wrong = refl; crc-wrong = refl }

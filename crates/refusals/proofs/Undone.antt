@@ -1,37 +1,26 @@
--- A view that can be undone loses nothing, and a description by such a view allows one outcome; what every reading's view is undone by.
-use mathlib.Core.Path.{_≡_, refl, sym, ap, _∙_}
+-- What the view of every reading is undone by: refusals, readings, optional fields.
+use mathlib.Core.Path.{_≡_, refl, ap}
 use mathlib.Core.Bool.{cond}
 use mathlib.Core.Option.{Option, some, none}
 use Prim.Native.Nat.{ℕ}
 use lib.Dec.{eqb}
 use Rattle.refusals.specs.Numbers.{unexpectedEofNo, invalidTlfNo, tlfMismatchNo, unexpectedVariantNo, crcMismatchNo}
 use Rattle.refusals.specs.Read.{Read, got, refused, Refusal}
 use Rattle.refusals.specs.Answers.{refusalOf, faultOf}
 use Rattle.refusals.specs.declared.TlfParseError.{TlfParseError}
 use Rattle.refusals.specs.declared.TlfParseError.the-variants.{TlfLengthOverflow, TlfReserved, TlfLengthUnderflow, TlfNextByteTypeMismatch, TlfInvalidTy}
 use Rattle.refusals.specs.declared.ParseError.{ParseError}
 use Rattle.refusals.specs.declared.ParseError.the-variants.{UnexpectedEOF, InvalidTlf, TlfMismatch, CrcMismatch, MsgEndMismatch, UnexpectedVariant}
 use Rattle.refusals.specs.declared.Fault.{Fault}
-use Rattle.marks.specs.Decided.{One, Injective}
-
--- ---- the argument, once
-
--- a description that names the outcome itself
-pub oneOutcome : {R : Type 0} (s : R) → One (λ (r : R). r ≡ s)
-oneOutcome s r r′ e e′ = e ∙ sym e′
-
--- a view that loses nothing
-pub injective : {R A : Type 0} (view : R → A) → Injective view → (s : A) → One (λ (r : R). view r ≡ s)
-injective view h s r r′ e e′ = h r r′ (e ∙ sym e′)
-
--- a view that can be undone loses nothing
-pub undone : {R A : Type 0} (view : R → A) (back : A → R) → ((r : R) → back (view r) ≡ r) → Injective view
-undone view back h r r′ e = sym (h r) ∙ ap back e ∙ h r′
+use Rattle.decided.specs.One.{Injective}
+use Rattle.decided.proofs.Laws.{undone}
 
 -- ---- refusals
 
 kindFrom : ℕ → TlfParseError
-kindFrom k = cond (eqb k 1) TlfLengthOverflow (cond (eqb k 2) TlfReserved (cond (eqb k 3) TlfLengthUnderflow (cond (eqb k 4) TlfNextByteTypeMismatch TlfInvalidTy)))
+kindFrom k =
+    cond (eqb k 1) TlfLengthOverflow
+    (cond (eqb k 2) TlfReserved (cond (eqb k 3) TlfLengthUnderflow (cond (eqb k 4) TlfNextByteTypeMismatch TlfInvalidTy)))
 
 errorFrom : ℕ → ℕ → ParseError
 errorFrom n k =

@@ -1,4 +1,4 @@
--- B12 and B13 of document 01, and the edges of each rule, of the definitions. B12 and B13 join the one table of the bench sheet.
+-- The edges of each number rule, of the definitions.
 use mathlib.Core.Path.{_≡_, refl}
 use mathlib.Core.Bool.{true, false}
 use mathlib.Core.List.{List, [], _∷_}
@@ -7,9 +7,7 @@ use Rattle.refusals.specs.Read.{got, refused, then, guard, need, eof, mismatch,
 use Rattle.tlf.specs.Lengths.{tlfAt, lengthFrom, lessOwn}
 use Rattle.numbers.specs.Numbers.{number, bytesAt, rawFrom, rawAt, unsignedAt, signedOf, signedAt, boolFrom, boolAt}
 
-pub record Bench : Type 0 where
-  pub b12 : signedAt 4 (0x52 ∷ 0xff ∷ []) 0 ≡ got (negsuc 0) 2
-  pub b13 : unsignedAt 1 (0x63 ∷ 0x00 ∷ 0x05 ∷ []) 0 ≡ refused (mismatch 0)
+pub record NumberExamples : Type 0 where
   pub high-first : unsignedAt 2 (0x63 ∷ 0x01 ∷ 0x02 ∷ []) 0 ≡ got 258 3
   pub least : signedAt 1 (0x52 ∷ 0x80 ∷ []) 0 ≡ got (negsuc 127) 2
   pub greatest : signedAt 1 (0x52 ∷ 0x7f ∷ []) 0 ≡ got (pos 127) 2
@@ -20,12 +18,10 @@ pub record Bench : Type 0 where
   pub no : boolAt (0x42 ∷ 0x00 ∷ []) 0 ≡ got false 2
   pub two : boolAt (0x43 ∷ 0x00 ∷ 0x01 ∷ []) 0 ≡ refused (mismatch 0)
 
-pub bench : Bench
+pub number-examples : NumberExamples
 unfolding then guard need byteAt spanAt tlfAt lengthFrom lessOwn number bytesAt rawFrom rawAt unsignedAt signedOf signedAt boolFrom boolAt
-bench =
+number-examples =
     record {
-      b12 = refl;
-      b13 = refl;
       high-first = refl;
       least = refl;
       greatest = refl;

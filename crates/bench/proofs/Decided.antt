@@ -1,0 +1,27 @@
+-- Each view can be undone, so a contract allows one outcome for each input.
+use mathlib.Core.Path.{_≡_}
+use Prim.Native.Nat.{ℕ}
+use Rattle.bench.specs.Bench.{counted}
+use Rattle.decided.specs.One.{With}
+use Rattle.decided.proofs.Laws.{oneOutcome, injective}
+use Rattle.bench.specs.Decided.{Views, Decided}
+
+count-both : (r r′ : With ℕ) → counted (r .answer) (r .memory) ≡ counted (r′ .answer) (r′ .memory) → r ≡ r′
+count-both r r′ h = λ i. record { answer = h i .number; memory = h i .memory }
+
+pub views : Views
+views =
+    record {
+      number = count-both;
+    }
+
+pub decided : Decided
+decided =
+    record {
+      bench-push = λ src buf. injective (λ (r : With ℕ). counted (r .answer) (r .memory)) (views .number) _;
+      bench-push-slice = λ src buf. injective (λ (r : With ℕ). counted (r .answer) (r .memory)) (views .number) _;
+      bench-encode = λ payload out. injective (λ (r : With ℕ). counted (r .answer) (r .memory)) (views .number) _;
+      bench-stream = λ payload. oneOutcome _;
+      bench-events = λ input. oneOutcome _;
+      bench-crc = λ src. oneOutcome _;
+    }

@@ -1,0 +1,20 @@
+-- check: mark 1 of crate bench. Its contracts allow one outcome for each input, and its views lose nothing. Each crate has such a file.
+use mathlib.Core.Path.{_≡_}
+use mathlib.Core.List.{List}
+use Prim.Native.Nat.{ℕ}
+use Rattle.crc_x25.specs.Crc.{crcOf}
+use Rattle.bench.specs.Bench.{counted, payloads, encoded, streamed, events}
+use Rattle.decided.specs.One.{One, With, Injective}
+
+-- every view that a contract cites, of the answer together with the lent memory
+pub record Views : Type 0 where
+  pub number : Injective (λ (r : With ℕ). counted (r .answer) (r .memory))
+
+-- every public function: over its parameters, what its `ensures` allows
+pub record Decided : Type 0 where
+  pub bench-push : (src buf : List ℕ) → One (λ (r : With ℕ). counted (r .answer) (r .memory) ≡ payloads src buf)
+  pub bench-push-slice : (src buf : List ℕ) → One (λ (r : With ℕ). counted (r .answer) (r .memory) ≡ payloads src buf)
+  pub bench-encode : (payload out : List ℕ) → One (λ (r : With ℕ). counted (r .answer) (r .memory) ≡ encoded payload out)
+  pub bench-stream : (payload : List ℕ) → One (λ (r : ℕ). r ≡ streamed payload)
+  pub bench-events : (input : List ℕ) → One (λ (r : ℕ). r ≡ events input)
+  pub bench-crc : (src : List ℕ) → One (λ (r : ℕ). r ≡ crcOf src)
