@@ -25,7 +25,7 @@ for path in sorted(glob.glob("crates/*/src/**/*.rt", recursive=True)):
                 bad.append(f"{path}:{i + 1}: {m.group(3)} is public and has no ensures")
 for path in sorted(glob.glob("crates/*/specs/*.antt")):
     first = open(path, encoding="utf-8").readline()
-    if os.path.basename(path) != "Lib.antt" and not re.match(r"-- (What a reader must believe|How the code is cut): ", first):
+    if os.path.basename(path) != "Lib.antt" and not re.match(r"-- (What a reader must believe|How the code is cut|rule|view|claim|check|cut): ", first):
         bad.append(f"{path}: its first line does not say what kind of file it is")
 files = subprocess.run(["git", "ls-files", "-co", "--exclude-standard"], capture_output=True, text=True).stdout.split("\n")
 for path in files:

@@ -5,7 +5,7 @@ use Prim.Native.Nat.{ℕ, suc}
 use lib.ListN.{replicate}
 use Rattle.crc_x25.specs.Crc.{reflect, polynomial, bitStep, bitSteps, byteStep, register, finalXor}
 use Rattle.frame.specs.Frame.{startSeq, escSeq}
-use Rattle.decoder.specs.Push.{searching, store, same, finish, judge, step, finalized, resetCount}
+use Rattle.decoder.specs.Push.{sized, searching, store, same, finish, judge, step, finalized, resetCount}
 use Rattle.decoder.specs.Record.{Answer, nothing, payload, count, refusal, wrote, badDecoder, wrongBuffer, pushed, pushRecord, finalizeRecord, resetRecord, newRecord}
 use Rattle.decoder.specs.Run.{Op, push, finalize, reset, act, run}
 
@@ -70,6 +70,6 @@ decoderRows =
     ∷ decoderRow 8 (map push (0x00 ∷ startSeq) ++ reset ∷ pushes b1) (saidAt 9 (refusal 6 (1 ∷ [])) ∷ saidAt 10 (count 8) ∷ saidAt 30 paid ∷ [])
     ∷ []
 
-pub bench : map (λ (r : DecoderRow). heard 1 (run (newRecord (r .capacity)) (replicate (r .capacity) 0) (r .operations))) decoderRows ≡ map (λ (r : DecoderRow). r .answers) decoderRows
+pub bench : map (λ (r : DecoderRow). heard 1 (run (newRecord (sized (r .capacity))) (replicate (r .capacity) 0) (r .operations))) decoderRows ≡ map (λ (r : DecoderRow). r .answers) decoderRows
 unfolding run act pushRecord pushed finalizeRecord resetRecord badDecoder wrongBuffer wrote step searching store same judge finish finalized resetCount reflect polynomial bitStep bitSteps byteStep register finalXor
 bench = refl

@@ -5,7 +5,7 @@ use Prim.Native.Nat.{ℕ}
 use lib.ListN.{replicate}
 use Rattle.crc_x25.specs.Crc.{reflect, polynomial, bitStep, bitSteps, byteStep, register, finalXor}
 use Rattle.frame.specs.Frame.{startSeq, escSeq}
-use Rattle.decoder.specs.Push.{searching, store, same, finish, judge, step}
+use Rattle.decoder.specs.Push.{sized, searching, store, same, finish, judge, step}
 use Rattle.decoder.specs.Record.{Answer, nothing, payload, refusal, wrote, badDecoder, wrongBuffer, pushed, pushRecord, newRecord}
 use Rattle.decoder_slice.specs.Slice.{Took, pushesFrom, sliceRecord}
 
@@ -38,6 +38,6 @@ sliceRows =
 abbrev said : Took → SliceRow → SliceRow
 said t r = row (r .recorded) (r .lent) (r .bytes) (t .answer) (t .taken)
 
-pub bench : map (λ (r : SliceRow). said (sliceRecord (newRecord (r .recorded)) (replicate (r .lent) 0) (r .bytes)) r) sliceRows ≡ sliceRows
+pub bench : map (λ (r : SliceRow). said (sliceRecord (newRecord (sized (r .recorded))) (replicate (r .lent) 0) (r .bytes)) r) sliceRows ≡ sliceRows
 unfolding sliceRecord pushesFrom pushRecord pushed badDecoder wrongBuffer wrote step searching store same judge finish reflect polynomial bitStep bitSteps byteStep register finalXor
 bench = refl

@@ -230,6 +230,7 @@ decided =
       encoder-next = λ self payload. injective stepOf (views .next) _;
       encode = λ payload out. injective (λ (r : With Encoded). E.afterEncode (E.encodeAnswer (r .answer)) (r .memory)) (views .encoded) _;
       decoder-new = λ capacity. oneOutcome _;
+      decoder-recounted = λ d fill raw s. oneOutcome _;
       matching = λ n b. oneOutcome _;
       bad-decoder = λ d. oneOutcome _;
       wrong-buffer = λ recorded lent. oneOutcome _;

@@ -39,10 +39,11 @@ use Rattle.encoder.specs.declared.Item.{Item}
 use Rattle.encoder.specs.declared.Encoded.{Encoded}
 use Rattle.encoder.specs.declared.Encoder.{Encoder}
 use Rattle.encoder.specs.declared.Given.{Given}
-use Rattle.decoder.specs.Push.{starts}
-use Rattle.decoder.specs.Record.{afterPush, afterFinalize, afterReset, answerAsked, newRecord, pushRecord, finalizeRecord, resetRecord, askRecord, payloadRecord, badDecoder, wrongBuffer}
+use Rattle.decoder.specs.Push.{sized, starts}
+use Rattle.decoder.specs.Record.{afterPush, afterFinalize, afterReset, answerAsked, newRecord, recounted, pushRecord, finalizeRecord, resetRecord, askRecord, payloadRecord, badDecoder, wrongBuffer}
 use Rattle.decoder.specs.declared.Event.{Event}
 use Rattle.decoder.specs.declared.Decoder.{Decoder}
+use Rattle.decoder.specs.declared.DecodeState.{DecodeState}
 use Rattle.decoder.specs.declared.Pushed.{Pushed}
 use Rattle.decoder.specs.declared.Finalized.{Finalized}
 use Rattle.decoder.specs.declared.AfterReset.{AfterReset}
@@ -184,7 +185,8 @@ pub record Decided : Type 0 where
   pub encoder-next : (self : Encoder) (payload : List ℕ) → One (λ (r : Given). stepOf r ≡ nextStep self payload)
   pub encode : (payload out : List ℕ) → One (λ (r : With Encoded). E.afterEncode (E.encodeAnswer (r .answer)) (r .memory) ≡ encodeTo payload out)
   -- decoder
-  pub decoder-new : (capacity : ℕ) → One (λ (r : Decoder). r ≡ newRecord capacity)
+  pub decoder-new : (capacity : ℕ) → One (λ (r : Decoder). r ≡ newRecord (sized capacity))
+  pub decoder-recounted : (d : Decoder) (fill raw : ℕ) (s : DecodeState) → One (λ (r : Decoder). r ≡ recounted d fill raw s)
   pub matching : (n b : ℕ) → One (λ (r : Bool). r ≡ starts n b)
   pub bad-decoder : (d : Decoder) → One (λ (r : Bool). r ≡ badDecoder d)
   pub wrong-buffer : (recorded lent : ℕ) → One (λ (r : Bool). r ≡ wrongBuffer recorded lent)
