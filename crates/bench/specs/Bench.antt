@@ -6,6 +6,7 @@ use lib.ListN.{length}
 use lib.Dec.{leb}
 use Rattle.frame.specs.Frame.{frameOf}
 use Rattle.decoder.specs.Record as D
+use Rattle.decoder.specs.Push.{sized}
 use Rattle.decoder.specs.Record.{nothing, payload, count, After, pushRecord, newRecord}
 use Rattle.decoder.specs.declared.Decoder.{Decoder}
 use Rattle.encoder.specs.Encode as E
@@ -38,7 +39,7 @@ payloadsFrom n d m (b ∷ bs) =
 
 -- from a new decoder of the lent buffer's length
 abbrev pub payloads : List ℕ → List ℕ → CountedIn
-payloads bytes m = payloadsFrom 0 (newRecord (length m)) m bytes
+payloads bytes m = payloadsFrom 0 (newRecord (sized (length m))) m bytes
 
 -- ---- encode and Encoder
 

@@ -8,7 +8,7 @@ use lib.ListN.{length, take}
 use lib.Dec.{ltb, eqb}
 use borrow.Author.Tests.{ltb-true, ltb-false, lt-ltb, le-ltb}
 use Rattle.decoder.specs.Push.{silent, discarded, finalized, resetCount}
-use Rattle.decoder.specs.Record.{nothing, refusal, count, stateAs, newRecord, badDecoder, wrongBuffer, afterFinalize, afterReset, finalizeRecord, resetRecord, stands, hasPayload, payloadRecord, askRecord}
+use Rattle.decoder.specs.Record.{nothing, refusal, count, setup, stateAs, newRecord, badDecoder, wrongBuffer, afterFinalize, afterReset, finalizeRecord, resetRecord, stands, hasPayload, payloadRecord, askRecord}
 use Rattle.decoder.specs.Cut.{isFresh, isDone, payloadIn}
 use Rattle.decoder.specs.declared.DecodeState.{DecodeState}
 use Rattle.decoder.specs.declared.DecodeState.the-variants.{LookingForMessageStart, ParsingNormal, ParsingEscChars, ParsingEscPayload, Done}
@@ -55,16 +55,16 @@ module _ (d : Decoder) where
   unfolding finalizeRecord
   final-bad e = rw e
 
-  pub final-fresh : badDecoder d ≡ false → isFresh (d .state) ≡ true → afterFinalize (record { decoder = newRecord (d .capacity); event = Nothing }) ≡ finalizeRecord d
+  pub final-fresh : badDecoder d ≡ false → isFresh (d .state) ≡ true → afterFinalize (record { decoder = newRecord (setup d); event = Nothing }) ≡ finalizeRecord d
   unfolding finalizeRecord
   final-fresh e f = rw (e, final-is d (d .state), f)
 
-  pub final-done : badDecoder d ≡ false → isFresh (d .state) ≡ false → isDone (d .state) ≡ true → afterFinalize (record { decoder = newRecord (d .capacity); event = Nothing }) ≡ finalizeRecord d
+  pub final-done : badDecoder d ≡ false → isFresh (d .state) ≡ false → isDone (d .state) ≡ true → afterFinalize (record { decoder = newRecord (setup d); event = Nothing }) ≡ finalizeRecord d
   unfolding finalizeRecord
   final-done e f g = rw (e, final-is d (d .state), f, g)
 
   pub final-lost : badDecoder d ≡ false → isFresh (d .state) ≡ false → isDone (d .state) ≡ false
-      → afterFinalize (record { decoder = newRecord (d .capacity); event = DiscardedBytes (d .«raw_msg_len») }) ≡ finalizeRecord d
+      → afterFinalize (record { decoder = newRecord (setup d); event = DiscardedBytes (d .«raw_msg_len») }) ≡ finalizeRecord d
   unfolding finalizeRecord
   final-lost e f g = rw (e, final-is d (d .state), f, g)
 
@@ -77,11 +77,11 @@ reset-is d (ParsingEscPayload k) = refl
 reset-is d Done = refl
 
 module _ (d : Decoder) where
-  pub reset-done : isDone (d .state) ≡ true → afterReset (record { decoder = newRecord (d .capacity); count = 0 }) ≡ resetRecord d
+  pub reset-done : isDone (d .state) ≡ true → afterReset (record { decoder = newRecord (setup d); count = 0 }) ≡ resetRecord d
   unfolding resetRecord
   reset-done e = rw (reset-is d (d .state), e)
 
-  pub reset-lost : isDone (d .state) ≡ false → afterReset (record { decoder = newRecord (d .capacity); count = d .«raw_msg_len» }) ≡ resetRecord d
+  pub reset-lost : isDone (d .state) ≡ false → afterReset (record { decoder = newRecord (setup d); count = d .«raw_msg_len» }) ≡ resetRecord d
   unfolding resetRecord
   reset-lost e = rw (reset-is d (d .state), e)
 

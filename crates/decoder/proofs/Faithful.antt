@@ -10,7 +10,7 @@ use borrow.Author.Tests.{eq-eqb, ne-eqb, le-leb, lt-leb}
 use Rattle.frame.proofs.Cases.{either}
 use Rattle.decoder.specs.Push.{Setup, Mem, State, search, body, escape, done, Out, padOf, step}
 use Rattle.decoder.specs.Record.{After, after, numbered, setup, stateAs, stateOf, recordOf, wrote, written, badDecoder, wrongBuffer, pushed, pushRecord}
-use Rattle.decoder.specs.Saw.{Judged, is-data, restarts, good, bad, shifts, unknown, Saw, matched, began, missed, again, waits, opens, stores, full, reads, judges, full′}
+use Rattle.decoder.specs.Saw.{Judged, is-data, restarts, good, bad, shifts, unknown, Saw, sought, began, again, waits, opens, stores, full, reads, judges, full′}
 use Rattle.decoder.specs.declared.DecodeState.{DecodeState}
 use Rattle.decoder.specs.declared.DecodeState.the-variants.{LookingForMessageStart, ParsingNormal, ParsingEscChars, ParsingEscPayload, Done}
 use Rattle.decoder.specs.declared.Decoder.{Decoder}
@@ -59,12 +59,10 @@ part-judged m four o (unknown a b c d) = refl
 
 part : (C : Setup) (s : State) (b : ℕ) (o : Out) → Saw C s b o → Part (contents s ++ wrote C s b) o
 unfolding Part wrote
-part C s b o (matched t ne) = refl
-part C s b o (began t e) = refl
-part C s b o (missed t) = refl
-part C s b o (again (matched t ne)) = refl
-part C s b o (again (began t e)) = refl
-part C s b o (again (missed t)) = refl
+part C s b o (sought k e ne) = refl
+part C s b o (began e) = refl
+part C s b o (again (sought k e ne)) = refl
+part C s b o (again (began e)) = refl
 part C s b o (waits {m = m} e ne) = rw (eq-eqb _ _ e, append-nil (m .stored)) (take-length (m .stored))
 part C s b o (opens {m = m} e f) = rw (eq-eqb _ _ e, append-nil (m .stored)) (take-length (m .stored))
 part C s b o (stores ne fit) = rw (ne-eqb _ _ ne, le-leb _ _ fit) (take-length _)

@@ -1,10 +1,10 @@
 pub mod Split
 pub mod Saw
+pub mod Search
 pub mod Valid
 pub mod Faithful
 pub mod States
 pub mod Runs
-pub mod Counts
 pub mod Payload
 pub mod Plain
 pub mod Examples

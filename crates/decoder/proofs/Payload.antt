@@ -7,7 +7,7 @@ use lib.ListN.{length}
 use Rattle.frame.proofs.Cases.{by-eq, by-test}
 use Rattle.decoder.specs.Push.{Setup, Mem, State, done, PushEvent, paysOut, Out, noticed, fresh, step}
 use Rattle.decoder.specs.Record.{Answer, nothing, payload, count, refusal, After, numbered, setup, stateOf, recordOf, badDecoder, wrongBuffer, pushed, pushRecord}
-use Rattle.decoder.specs.Saw.{Judged, is-data, restarts, good, bad, shifts, unknown, Saw, matched, began, missed, again, waits, opens, stores, full, reads, judges, full′}
+use Rattle.decoder.specs.Saw.{Judged, is-data, restarts, good, bad, shifts, unknown, Saw, sought, began, again, waits, opens, stores, full, reads, judges, full′}
 use Rattle.decoder.specs.declared.DecodeState.the-variants.{Done}
 use Rattle.decoder.specs.declared.Decoder.{Decoder}
 use Rattle.decoder.proofs.Saw.{saw}
@@ -38,9 +38,8 @@ noticed-not noise bytes =
 
 paid : (C : Setup) (s : State) (b : ℕ) (o : Out) → Saw C s b o → Paid o
 unfolding Paid
-paid C s b o (matched t ne) bytes h = cc
-paid C s b o (began {noise = noise} t e) bytes h = absurd (noticed-not noise bytes h)
-paid C s b o (missed t) bytes h = cc
+paid C s b o (sought k e ne) bytes h = cc
+paid C s b o (began {noise = noise} e) bytes h = absurd (noticed-not noise bytes h)
 paid C s b o (again w) bytes h = paid C fresh b o w bytes h
 paid C s b o (waits e ne) bytes h = cc
 paid C s b o (opens e f) bytes h = cc

@@ -1,5 +1,5 @@
--- A record that is not refused with 4 stays so and keeps its capacity, whatever buffer is lent at each push; so no record reached from a new one is ever refused with 4.
-use mathlib.Core.Path.{_≡_, refl, ap, _∙_}
+-- A record that is not refused with 4 stays so and keeps its setup, whatever buffer is lent at each push; so no record reached from a new one is ever refused with 4.
+use mathlib.Core.Path.{_≡_, refl, _∙_}
 use mathlib.Core.Bool.{false}
 use mathlib.Core.List.{List}
 use Prim.Native.Nat.{ℕ}
@@ -7,13 +7,13 @@ use native.Mathlib.Omega.{arith}
 use lib.ListN.{length}
 use Rattle.frame.proofs.Cases.{by-test}
 use Rattle.decoder.specs.Push.{Setup, fresh}
-use Rattle.decoder.specs.Record.{Left, setup, recordOf, badDecoder, wrongBuffer, pushRecord, finalizeRecord, resetRecord, newRecord}
+use Rattle.decoder.specs.Record.{Left, setup, badDecoder, wrongBuffer, pushRecord, finalizeRecord, resetRecord, newRecord}
 use Rattle.decoder.specs.declared.Decoder.{Decoder}
 use Rattle.decoder.proofs.Split.{cases}
 use Rattle.decoder.proofs.Valid.{not-bad}
 use Rattle.decoder.proofs.Faithful.{Fit, push-is-step}
 
-fresh-good : (C : Setup) → badDecoder (recordOf C fresh) ≡ false
+fresh-good : (C : Setup) → badDecoder (newRecord C) ≡ false
 fresh-good C = not-bad C fresh (omega arith)
 
 -- what holds of a push's record if it holds of the record as it was and of the step's
@@ -26,41 +26,40 @@ push-case P d m b old new =
 pub push-good-stays : (d : Decoder) (m : List ℕ) (b : ℕ) → badDecoder d ≡ false → badDecoder (pushRecord d m b .decoder) ≡ false
 push-good-stays d m b e = push-case (λ (x : Decoder). badDecoder x ≡ false) d m b e (λ f. push-is-step d m b f .fit .state)
 
-pub push-capacity : (d : Decoder) (m : List ℕ) (b : ℕ) → pushRecord d m b .decoder .capacity ≡ d .capacity
-push-capacity d m b =
-    push-case (λ (x : Decoder). x .capacity ≡ d .capacity) d m b refl (λ f. ap (λ (C : Setup). C .capacity) (push-is-step d m b f .setup′))
+pub push-setup : (d : Decoder) (m : List ℕ) (b : ℕ) → setup (pushRecord d m b .decoder) ≡ setup d
+push-setup d m b = push-case (λ (x : Decoder). setup x ≡ setup d) d m b refl (λ f. push-is-step d m b f .setup′)
 
 pub finalize-good-stays : (d : Decoder) → badDecoder d ≡ false → badDecoder (finalizeRecord d .decoder) ≡ false
 unfolding finalizeRecord
 finalize-good-stays d e = rw e (fresh-good (setup d))
 
-pub finalize-capacity : (d : Decoder) → finalizeRecord d .decoder .capacity ≡ d .capacity
+pub finalize-setup : (d : Decoder) → setup (finalizeRecord d .decoder) ≡ setup d
 unfolding finalizeRecord
-finalize-capacity d = by-test (λ (x : Left). x .decoder .capacity ≡ d .capacity) (badDecoder d) _ _ (λ e. refl) (λ e. refl)
+finalize-setup d = by-test (λ (x : Left). setup (x .decoder) ≡ setup d) (badDecoder d) _ _ (λ e. refl) (λ e. refl)
 
 -- reset makes any record good
 pub reset-good : (d : Decoder) → badDecoder (resetRecord d .decoder) ≡ false
 unfolding resetRecord
 reset-good d = fresh-good (setup d)
 
-pub reset-capacity : (d : Decoder) → resetRecord d .decoder .capacity ≡ d .capacity
+pub reset-setup : (d : Decoder) → setup (resetRecord d .decoder) ≡ setup d
 unfolding resetRecord
-reset-capacity d = refl
+reset-setup d = refl
 
--- the records that a new one of capacity C comes to, with any buffers lent
-pub data Reached (C : ℕ) : Decoder → Type 0 where
+-- the records that a new one of setup C comes to, with any buffers lent
+pub data Reached (C : Setup) : Decoder → Type 0 where
   new : Reached C (newRecord C)
   push : {d : Decoder} (m : List ℕ) (b : ℕ) → Reached C d → Reached C (pushRecord d m b .decoder)
   finalize : {d : Decoder} → Reached C d → Reached C (finalizeRecord d .decoder)
   reset : {d : Decoder} → Reached C d → Reached C (resetRecord d .decoder)
 
-pub reached-good : (C : ℕ) (d : Decoder) → Reached C d → (badDecoder d ≡ false) × (d .capacity ≡ C)
+pub reached-good : (C : Setup) (d : Decoder) → Reached C d → (badDecoder d ≡ false) × (setup d ≡ C)
 unfolding resetRecord
-reached-good C d new = (fresh-good (record { capacity = C }), refl)
+reached-good C d new = (fresh-good C, refl)
 reached-good C d (push {d = e} m b r) =
     let h = reached-good C e r in
-    (push-good-stays e m b (h .0), push-capacity e m b ∙ h .1)
+    (push-good-stays e m b (h .0), push-setup e m b ∙ h .1)
 reached-good C d (finalize {d = e} r) =
     let h = reached-good C e r in
-    (finalize-good-stays e (h .0), finalize-capacity e ∙ h .1)
+    (finalize-good-stays e (h .0), finalize-setup e ∙ h .1)
 reached-good C d (reset {d = e} r) = (reset-good e, reached-good C e r .1)

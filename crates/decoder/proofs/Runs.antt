@@ -7,7 +7,7 @@ use native.Mathlib.Omega.{arith}
 use lib.ListN.{length}
 use borrow.Author.Tests.{eq-eqb, le-ltb}
 use Rattle.decoder.specs.Push.{Setup, fresh, finalized, resetCount}
-use Rattle.decoder.specs.Record.{Answer, nothing, count, After, after, numbered, setup, stateAs, stateOf, recordOf, badDecoder, wrongBuffer, finalizeRecord, resetRecord, newRecord}
+use Rattle.decoder.specs.Record.{Answer, nothing, count, After, after, numbered, setup, stateAs, stateOf, badDecoder, wrongBuffer, finalizeRecord, resetRecord, newRecord}
 use Rattle.decoder.specs.Run.{Op, push, finalize, reset, act, run, behind}
 use Rattle.decoder.proofs.States.{actState, answerState, runState, stateBehind}
 use Rattle.decoder.specs.declared.DecodeState.{DecodeState}
@@ -40,7 +40,7 @@ reset-as d m n (ParsingEscChars k) = refl
 reset-as d m n (ParsingEscPayload k) = refl
 reset-as d m n Done = refl
 
-fresh-fit : (d : Decoder) (m : List ℕ) → Fit d m → Fit (recordOf (setup d) fresh) m
+fresh-fit : (d : Decoder) (m : List ℕ) → Fit d m → Fit (newRecord (setup d)) m
 fresh-fit d m f = record { state = not-bad (setup d) fresh (omega arith); buffer = f .buffer }
 
 pub acts : (d : Decoder) (m : List ℕ) (o : Op) → Fit d m → Acts d m o (act d m o)
@@ -77,20 +77,20 @@ leads (o ∷ os) a f =
     record { fit = r .fit; setup′ = r .setup′ ∙ h .setup′; view′ = r .view′ ∙ rw (h .setup′, h .view′) }
 
 -- a new decoder, with a buffer of its capacity
-pub new-fit : (C : ℕ) (m : List ℕ) → length m ≡ C → C ≤ 1048576 → Fit (newRecord C) m
+pub new-fit : (C : Setup) (m : List ℕ) → length m ≡ C .capacity → C .capacity ≤ 1048576 → Fit (newRecord C) m
 unfolding wrongBuffer
 new-fit C m l le =
     record {
-      state = not-bad (record { capacity = C }) fresh (omega arith);
-      buffer = rw (l, eq-eqb C C refl, le-ltb 1048576 C le);
+      state = not-bad C fresh (omega arith);
+      buffer = rw (l, eq-eqb (C .capacity) (C .capacity) refl, le-ltb 1048576 (C .capacity) le);
     }
 
-pub run-new : (C : ℕ) (m : List ℕ) (os : List Op) → length m ≡ C → C ≤ 1048576 → run (newRecord C) m os ≡ runState (record { capacity = C }) fresh os
+pub run-new : (C : Setup) (m : List ℕ) (os : List Op) → length m ≡ C .capacity → C .capacity ≤ 1048576 → run (newRecord C) m os ≡ runState C fresh os
 run-new C m os l le = run-is os (newRecord C) m (new-fit C m l le)
 
 -- what is reached from a new decoder is never refused with 4 or 5
-pub never-bad : (C : ℕ) (m : List ℕ) (os : List Op) → length m ≡ C → C ≤ 1048576
-    → let a : After = behind (after nothing (newRecord C) m) os in (badDecoder (a .decoder) ≡ false) × (a .decoder .capacity ≡ C)
+pub never-bad : (C : Setup) (m : List ℕ) (os : List Op) → length m ≡ C .capacity → C .capacity ≤ 1048576
+    → let a : After = behind (after nothing (newRecord C) m) os in (badDecoder (a .decoder) ≡ false) × (setup (a .decoder) ≡ C)
 never-bad C m os l le =
     let r = leads os (after nothing (newRecord C) m) (new-fit C m l le) in
-    (r .fit .state, ap (λ (x : Setup). x .capacity) (r .setup′))
+    (r .fit .state, r .setup′)

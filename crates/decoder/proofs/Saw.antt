@@ -8,8 +8,8 @@ use lib.ListN.{length, replicate, take, getD}
 use borrow.Author.Tests.{leb-true, eq-eqb, le-leb}
 use Rattle.frame.specs.Frame.{missing, escSeq, restartSeq}
 use Rattle.frame.proofs.Cases.{by-test, by-eq, by-le, by-lt}
-use Rattle.decoder.specs.Push.{Setup, Mem, State, search, body, escape, done, searching, store, same, starts, early, sound?, computed, padOf, crcRead, judge, finish, step}
-use Rattle.decoder.specs.Saw.{Passed, Judged, is-data, restarts, good, bad, shifts, unknown, Saw, matched, began, missed, again, waits, opens, stores, full, reads, judges, full′}
+use Rattle.decoder.specs.Push.{Setup, Mem, State, search, body, escape, done, searching, store, same, matchedBehind, early, sound?, computed, padOf, crcRead, judge, finish, step}
+use Rattle.decoder.specs.Saw.{Passed, Judged, is-data, restarts, good, bad, shifts, unknown, Saw, sought, began, again, waits, opens, stores, full, reads, judges, full′}
 
 -- two lists that `same` finds equal are equal, and the other way round
 pub same-true : (a b : List ℕ) → same a b ≡ true → a ≡ b
@@ -64,7 +64,7 @@ judged m four =
 searched : (C : Setup) (n noise raw b : ℕ) → Saw C (search n noise raw) b (searching n noise raw b)
 unfolding searching
 searched C n noise raw b =
-    by-test (Saw C (search n noise raw) b) (starts n b) _ _ (λ t. by-eq (Saw C (search n noise raw) b) n 7 _ _ (began t) (matched t)) missed
+    by-eq (Saw C (search n noise raw) b) (matchedBehind n b) 8 _ _ began (sought (matchedBehind n b) refl)
 
 pub saw : (C : Setup) (s : State) (b : ℕ) → Saw C s b (step C s b)
 unfolding step store

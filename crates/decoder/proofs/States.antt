@@ -1,8 +1,9 @@
 -- A decoder in use, over the state of the push rules: what the runs of specs/Run.antt are proved to say.
 use mathlib.Core.List.{List, [], _∷_}
-use Rattle.decoder.specs.Push.{Setup, State, fresh, step, finalized, resetCount}
+use Rattle.decoder.specs.Push.{State, fresh, step, finalized, resetCount}
 use Rattle.decoder.specs.Record.{Answer, count, numbered}
 use Rattle.decoder.specs.Run.{Op, push, finalize, reset}
+use Rattle.decoder.specs.declared.Setup.{Setup}
 
 unfoldable pub actState : Setup → State → Op → State
 actState C s (push b) = (step C s b) .state

@@ -111,7 +111,7 @@ module _ (C : Setup) (m : List ℕ) (q : Mem) (holds : take (length (q .stored))
       ap (λ (l : List ℕ). finalXor (register (q .reg) l))
       (sym (drop-take (q .idx) (g - 2) m) ∙ ap (drop (q .idx)) (sym (take-take (g - 2) g m (omega arith)) ∙ ap (take (g - 2)) holds))
 
-  tied-verdict : (p read : ℕ) → verdict (C .capacity) g read (computed q) p ≡ code C (finish q p read)
+  tied-verdict : (p read : ℕ) → verdict C g read (computed q) p ≡ code C (finish q p read)
   unfolding verdict sound finish
   tied-verdict p read =
       let n : length (take (g - 4 - p) (q .stored)) ≡ g - (p + 4) = length-take (g - 4 - p) (q .stored) ∙ omega arith in
@@ -253,6 +253,6 @@ push-step d m b s r e w q h = ap toldCut (h ∙ ap (λ (x : DecodeState). stepCu
 -- ---- and the last of the four bytes, in the code's words
 
 pub other-refused : (d : Decoder) (m : List ℕ) → early (missing (d .fill)) (four (d .fill) m) ≡ false
-    → freshWith (d .capacity) (InvalidEsc (getD m (d .fill - 4) 0) (getD m (d .fill - 4 + 1) 0) (getD m (d .fill - 4 + 2) 0) (getD m (d .fill - 4 + 3) 0)) ≡ otherStep d m
+    → freshWith (setup d) (InvalidEsc (getD m (d .fill - 4) 0) (getD m (d .fill - 4 + 1) 0) (getD m (d .fill - 4 + 2) 0) (getD m (d .fill - 4 + 3) 0)) ≡ otherStep d m
 unfolding otherStep
 other-refused d m e = rw (e, add-zero (d .fill - 4))

@@ -10,11 +10,12 @@ use lib.Dec.{eqb, ltb}
 use borrow.Author.Tests.{ltb-false, eqb-true, eqb-false, le-ltb, ne-eqb}
 use Rattle.decoder.specs.Push.{Setup, Mem, State, search, body, escape, done, Out, fresh, step, put}
 use Rattle.decoder.specs.Record.{setup, stateAs, stateOf, recordOf, badIn, badDecoder, wrongBuffer}
-use Rattle.decoder.specs.Saw.{Judged, is-data, restarts, good, bad, shifts, unknown, Saw, matched, began, missed, again, waits, opens, stores, full, reads, judges, full′}
+use Rattle.decoder.specs.Saw.{Judged, is-data, restarts, good, bad, shifts, unknown, Saw, sought, began, again, waits, opens, stores, full, reads, judges, full′}
 use Rattle.decoder.specs.declared.DecodeState.{DecodeState}
 use Rattle.decoder.specs.declared.DecodeState.the-variants.{LookingForMessageStart, ParsingNormal, ParsingEscChars, ParsingEscPayload, Done}
 use Rattle.decoder.specs.declared.Decoder.{Decoder}
 use Rattle.decoder.proofs.Saw.{saw}
+use Rattle.decoder.proofs.Search.{matched-most}
 
 abbrev pub Valid : Setup → State → Type 0
 Valid C (search n noise raw) = n ≤ 7
@@ -32,9 +33,8 @@ valid-judged C m four o f i r (shifts a e lo hi t) = omega arith
 valid-judged C m four o f i r (unknown a b c d) = omega arith
 
 valid-saw : (C : Setup) (s : State) (b : ℕ) (o : Out) → Valid C s → Saw C s b o → Valid C (o .state)
-valid-saw C s b o v (matched t ne) = omega arith
-valid-saw C s b o v (began t e) = omega arith
-valid-saw C s b o v (missed t) = omega arith
+valid-saw C s b o v (sought {n} k e ne) = omega (arith, e, matched-most n b)
+valid-saw C s b o v (began e) = omega arith
 valid-saw C s b o v (again w) = valid-saw C fresh b o (omega arith) w
 valid-saw C s b o v (waits e ne) = omega arith
 valid-saw C s b o v (opens e f) = omega arith

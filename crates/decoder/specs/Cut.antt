@@ -8,8 +8,8 @@ use lib.Dec.{ltb, leb, eqb}
 use Rattle.crc_x25.specs.Crc.{register, finalXor}
 use Rattle.frame.specs.Frame.{escSeq, restartSeq, missing}
 use Rattle.decoder.specs.Push as P
-use Rattle.decoder.specs.Push.{Setup, Out, fresh, begun, stopped, searching, same, early}
-use Rattle.decoder.specs.Record.{After, afterPush, setup, recordWith, recordOf, badDecoder, wrongBuffer}
+use Rattle.decoder.specs.Push.{Setup, Out, begun, stopped, searching, same, early}
+use Rattle.decoder.specs.Record.{After, afterPush, setup, recordWith, recounted, recordOf, newRecord, badDecoder, wrongBuffer}
 use Rattle.decoder.specs.declared.DecodeState.{DecodeState}
 use Rattle.decoder.specs.declared.DecodeState.the-variants.{LookingForMessageStart, ParsingNormal, ParsingEscChars, ParsingEscPayload, Done}
 use Rattle.decoder.specs.declared.Decoder.{Decoder}
@@ -45,20 +45,24 @@ toldCut c = afterPush (c .answer) (c .memory)
 
 -- one byte more pushed and k stored, in state s
 abbrev pub storedOn : Decoder → ℕ → DecodeState → Decoder
-storedOn d k s = recordWith (setup d) (d .fill + k) (stopped (suc (d .«raw_msg_len»))) (d .crc) (d .«crc_idx») s
+storedOn d k s = recounted d (d .fill + k) (stopped (suc (d .«raw_msg_len»))) s
 
 -- one byte more pushed and none stored
 abbrev pub pushedOn : Decoder → DecodeState → Decoder
-pushedOn d s = recordWith (setup d) (d .fill) (stopped (suc (d .«raw_msg_len»))) (d .crc) (d .«crc_idx») s
+pushedOn d s = recounted d (d .fill) (stopped (suc (d .«raw_msg_len»))) s
+
+-- behind k bytes of which j were stored, as a push of a slice counts them
+abbrev pub movedBy : Decoder → ℕ → ℕ → DecodeState → Decoder
+movedBy d j k s = recounted d (d .fill + j) (stopped (d .«raw_msg_len» + k)) s
 
 abbrev pub inState : Decoder → DecodeState → Decoder
-inState d s = recordWith (setup d) (d .fill) (d .«raw_msg_len») (d .crc) (d .«crc_idx») s
+inState d s = recounted d (d .fill) (d .«raw_msg_len») s
 
 abbrev pub quiet : Decoder → Pushed
 quiet d = record { decoder = d; event = Nothing }
 
-abbrev pub freshWith : ℕ → Event → Pushed
-freshWith capacity e = record { decoder = recordOf (record { capacity = capacity }) fresh; event = e }
+abbrev pub freshWith : Setup → Event → Pushed
+freshWith C e = record { decoder = newRecord C; event = e }
 
 -- ---- storing
 
@@ -66,7 +70,7 @@ abbrev pub storeStep : Decoder → List ℕ → List ℕ → Cut
 storeStep d m vs =
     cond (leb (d .fill + length vs) (length m))
     (cut (quiet (storedOn d (length vs) ParsingNormal)) (sets m (d .fill) vs))
-    (cut (freshWith (d .capacity) OutOfMemory) m)
+    (cut (freshWith (setup d) OutOfMemory) m)
 
 unfoldable pub normalStep : Decoder → List ℕ → ℕ → Cut
 normalStep d m b = cond (eqb b 0x1b) (cut (quiet (pushedOn d (ParsingEscChars 1))) m) (storeStep d m (b ∷ []))
@@ -94,24 +98,24 @@ judgedAt f m k = getD m (f - 4 + k) 0
 unfoldable pub sound : ℕ → ℕ → ℕ → ℕ → Bool
 sound f read computed p = cond (eqb read computed) (cond (eqb (f % 4) 0) (cond (leb p 3) (leb (p + 4) f) false) false) false
 
-unfoldable pub verdict : ℕ → ℕ → ℕ → ℕ → ℕ → Pushed
-verdict capacity f read computed p =
+unfoldable pub verdict : Setup → ℕ → ℕ → ℕ → ℕ → Pushed
+verdict C f read computed p =
     cond (sound f read computed p)
-    (record { decoder = recordWith (record { capacity = capacity }) (f - (p + 4)) 0 0xffff 0 Done; event = Payload })
-    (freshWith capacity (InvalidMessage read computed (not (eqb (f % 4) 0)) p))
+    (record { decoder = recordWith C (f - (p + 4)) 0 0xffff 0 Done; event = Payload })
+    (freshWith C (InvalidMessage read computed (not (eqb (f % 4) 0)) p))
 
 abbrev pub computedCrc : Decoder → List ℕ → ℕ
 computedCrc d m = finalXor (register (d .crc) (take (d .fill - 2 - d .«crc_idx») (drop (d .«crc_idx») m)))
 
 unfoldable pub endStep : Decoder → List ℕ → Pushed
 endStep d m =
-    verdict (d .capacity) (d .fill) (judgedAt (d .fill) m 2 + judgedAt (d .fill) m 3 * 256) (computedCrc d m) (judgedAt (d .fill) m 1)
+    verdict (setup d) (d .fill) (judgedAt (d .fill) m 2 + judgedAt (d .fill) m 3 * 256) (computedCrc d m) (judgedAt (d .fill) m 1)
 
 unfoldable pub otherStep : Decoder → List ℕ → Pushed
 otherStep d m =
     cond (early (missing (d .fill)) (four (d .fill) m))
     (quiet (inState d (ParsingEscPayload (4 - missing (d .fill)))))
-    (freshWith (d .capacity) (InvalidEsc (judgedAt (d .fill) m 0) (judgedAt (d .fill) m 1) (judgedAt (d .fill) m 2) (judgedAt (d .fill) m 3)))
+    (freshWith (setup d) (InvalidEsc (judgedAt (d .fill) m 0) (judgedAt (d .fill) m 1) (judgedAt (d .fill) m 2) (judgedAt (d .fill) m 3)))
 
 unfoldable pub judgeStep : Decoder → List ℕ → Pushed
 judgeStep d m =
@@ -127,7 +131,7 @@ escapeStep d m k b =
     (cond (ltb k 3)
     (cut (quiet (storedOn d 1 (ParsingEscPayload (k + 1)))) (sets m (d .fill) (b ∷ [])))
     (cut (judgeStep (storedOn d 1 (ParsingEscPayload 3)) (sets m (d .fill) (b ∷ []))) (sets m (d .fill) (b ∷ []))))
-    (cut (freshWith (d .capacity) OutOfMemory) m)
+    (cut (freshWith (setup d) OutOfMemory) m)
 
 -- ---- a push that is not refused
 

@@ -3,9 +3,10 @@ use mathlib.Core.Path.{_≡_}
 use mathlib.Core.Bool.{Bool}
 use mathlib.Core.List.{List}
 use Prim.Native.Nat.{ℕ}
-use Rattle.decoder.specs.Push.{starts}
+use Rattle.decoder.specs.Push.{sized, starts}
 use Rattle.decoder.specs.Record.{afterPush, afterFinalize, afterReset, answerAsked}
-use Rattle.decoder.specs.Record.{newRecord, pushRecord, finalizeRecord, resetRecord, askRecord, payloadRecord, badDecoder, wrongBuffer}
+use Rattle.decoder.specs.Record.{newRecord, recounted, pushRecord, finalizeRecord, resetRecord, askRecord, payloadRecord, badDecoder, wrongBuffer}
+use Rattle.decoder.specs.declared.DecodeState.{DecodeState}
 use Rattle.decoder.specs.declared.Decoder.{Decoder}
 use Rattle.decoder.specs.declared.Pushed.{Pushed}
 use Rattle.decoder.specs.declared.Finalized.{Finalized}
@@ -22,7 +23,8 @@ pub record Views : Type 0 where
 
 -- every public function: over its parameters, what its `ensures` allows. A slice that is lent stands for what it holds at the call
 pub record Decided : Type 0 where
-  pub new : (capacity : ℕ) → One (λ (r : Decoder). r ≡ newRecord capacity)
+  pub new : (capacity : ℕ) → One (λ (r : Decoder). r ≡ newRecord (sized capacity))
+  pub recounted : (d : Decoder) (fill raw : ℕ) (s : DecodeState) → One (λ (r : Decoder). r ≡ recounted d fill raw s)
   pub matching : (n b : ℕ) → One (λ (r : Bool). r ≡ starts n b)
   pub bad-decoder : (d : Decoder) → One (λ (r : Bool). r ≡ badDecoder d)
   pub wrong-buffer : (recorded lent : ℕ) → One (λ (r : Bool). r ≡ wrongBuffer recorded lent)

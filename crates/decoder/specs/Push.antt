@@ -6,10 +6,12 @@ use lib.ListN.{length, take, drop, getD, replicate}
 use lib.Dec.{eqb, ltb, leb}
 use Rattle.crc_x25.specs.Crc.{start, register, finalXor}
 use Rattle.frame.specs.Frame.{escSeq, restartSeq, startSeq, missing}
+-- what never changes of a decoder: the code's struct, now the capacity alone
+pub use Rattle.decoder.specs.declared.Setup.{Setup}
 
--- what never changes of a decoder
-pub record Setup : Type 0 where
-  pub capacity : ℕ
+-- the setup of this capacity
+abbrev pub sized : ℕ → Setup
+sized n = record { capacity = n }
 
 -- what a running frame has: the bytes stored, the CRC register and how many stored bytes it has gone over, the raw length
 pub record Mem : Type 0 where
@@ -60,11 +62,18 @@ noticed noise = cond (eqb noise 0) silent (discarded noise)
 abbrev pub starts : ℕ → ℕ → Bool
 starts n b = cond (ltb n 4) (eqb b 0x1b) (eqb b 0x01)
 
+-- how many start bytes are matched behind n of them and the byte b: one more, or none
+abbrev pub matchedBehind : ℕ → ℕ → ℕ
+matchedBehind n b = cond (starts n b) (suc n) 0
+
+-- the noise where k start bytes are matched behind n of them and a byte: those that aren't matched any more come to it
+abbrev pub moreNoise : ℕ → ℕ → ℕ → ℕ
+moreNoise noise n k = cond (eqb k (suc n)) noise (stopped (noise + (suc n - k)))
+
 unfoldable pub searching : ℕ → ℕ → ℕ → ℕ → Out
 searching n noise raw b =
-    cond (starts n b)
-    (cond (eqb n 7) (says begun (noticed noise)) (says (search (suc n) noise (stopped (suc raw))) silent))
-    (says (search 0 (stopped (noise + suc n)) (stopped (suc raw))) silent)
+    let k : ℕ = matchedBehind n b in
+    cond (eqb k 8) (says begun (noticed noise)) (says (search k (moreNoise noise n k) (stopped (suc raw))) silent)
 
 -- ---- inside a frame
 

@@ -114,6 +114,14 @@ recordOf C (body n m) = recordWith C (length (m .stored)) (m .raw) (m .reg) (m .
 recordOf C (escape k m) = recordWith C (length (m .stored)) (m .raw) (m .reg) (m .idx) (ParsingEscPayload k)
 recordOf C (done bytes) = recordWith C (length bytes) 0 start 0 Done
 
+-- the fresh record of a setup
+abbrev pub newRecord : Setup → Decoder
+newRecord C = recordOf C fresh
+
+-- the record with other counts, in another state
+abbrev pub recounted : Decoder → ℕ → ℕ → DecodeState → Decoder
+recounted d fill raw s = recordWith (setup d) fill raw (d .crc) (d .«crc_idx») s
+
 -- ---- what a push writes
 
 -- the bytes that a push stores: those that it has to, or none if they don't fit
@@ -162,13 +170,10 @@ pushRecord d m b =
 
 -- finalize and reset look at no stored byte, so the view is over no memory
 unfoldable pub finalizeRecord : Decoder → Left
-finalizeRecord d = cond (badDecoder d) (left (refusal 4 []) d) (left (numbered (finalized (stateOf d []))) (recordOf (setup d) fresh))
+finalizeRecord d = cond (badDecoder d) (left (refusal 4 []) d) (left (numbered (finalized (stateOf d []))) (newRecord (setup d)))
 
 unfoldable pub resetRecord : Decoder → Left
-resetRecord d = left (count (resetCount (stateOf d []))) (recordOf (setup d) fresh)
-
-abbrev pub newRecord : ℕ → Decoder
-newRecord capacity = recordOf (record { capacity = capacity }) fresh
+resetRecord d = left (count (resetCount (stateOf d []))) (newRecord (setup d))
 
 -- does a payload stand in the lent memory?
 abbrev pub stands : State → Bool

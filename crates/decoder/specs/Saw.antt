@@ -1,11 +1,11 @@
 -- claim: the cases of a push, one for each sentence of the push rules, with what is known in each. proofs/Saw.antt proves that every push is one of them.
 use mathlib.Core.Path.{_≡_}
-use mathlib.Core.Bool.{true, false}
+use mathlib.Core.Bool.{false}
 use mathlib.Core.List.{List, [], _∷_, _++_}
 use Prim.Native.Nat.{ℕ, suc, _+_, _-_, _%_, _≤_, _<_}
 use lib.ListN.{length, replicate, drop, take, getD}
 use Rattle.frame.specs.Frame.{missing, escSeq, restartSeq}
-use Rattle.decoder.specs.Push.{Setup, Mem, State, search, body, escape, done, silent, discarded, paysOut, memory, badEscape, badMessage, Out, begun, says, put, tick, opened, starts, early, computed, misaligned, padOf, crcRead, noticed, fresh, stopped}
+use Rattle.decoder.specs.Push.{Setup, Mem, State, search, body, escape, done, silent, discarded, paysOut, memory, badEscape, badMessage, Out, begun, says, put, tick, opened, matchedBehind, moreNoise, early, computed, misaligned, padOf, crcRead, noticed, fresh, stopped}
 
 -- what a good end sequence has: the right CRC, a fill that is a multiple of 4, p at most 3 and at most the fill less 4
 abbrev pub Passed : Mem → ℕ → ℕ → Type 0
@@ -25,9 +25,8 @@ pub data Judged (m : Mem) (four : List ℕ) : Out → Type 0 where
       → Judged m four (says fresh (badEscape (getD four 0 0) (getD four 1 0) (getD four 2 0) (getD four 3 0)))
 
 pub data Saw (C : Setup) : State → ℕ → Out → Type 0 where
-  matched : {n noise raw b : ℕ} → starts n b ≡ true → (n ≡ 7 → ⊥) → Saw C (search n noise raw) b (says (search (suc n) noise (stopped (suc raw))) silent)
-  began : {n noise raw b : ℕ} → starts n b ≡ true → n ≡ 7 → Saw C (search n noise raw) b (says begun (noticed noise))
-  missed : {n noise raw b : ℕ} → starts n b ≡ false → Saw C (search n noise raw) b (says (search 0 (stopped (noise + suc n)) (stopped (suc raw))) silent)
+  sought : {n noise raw b : ℕ} (k : ℕ) → k ≡ matchedBehind n b → (k ≡ 8 → ⊥) → Saw C (search n noise raw) b (says (search k (moreNoise noise n k) (stopped (suc raw))) silent)
+  began : {n noise raw b : ℕ} → matchedBehind n b ≡ 8 → Saw C (search n noise raw) b (says begun (noticed noise))
   again : {bytes : List ℕ} {b : ℕ} {o : Out} → Saw C fresh b o → Saw C (done bytes) b o
   waits : {n b : ℕ} {m : Mem} → b ≡ 0x1b → (n ≡ 3 → ⊥) → Saw C (body n m) b (says (body (suc n) (tick m)) silent)
   opens : {n b : ℕ} {m : Mem} → b ≡ 0x1b → n ≡ 3 → Saw C (body n m) b (says (escape 0 (opened m)) silent)

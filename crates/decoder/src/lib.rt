@@ -4,8 +4,8 @@ ghost use mathlib.Core.List.{[], _∷_, _++_};
 ghost use Prim.Native.Nat.{suc, _+_, _*_, _-_, _^_, _<_, _≤_};
 ghost use lib.ListN.{length, replicate};
 ghost use lib.Seq.{sets};
-ghost use Rattle.decoder.specs.Push.{stopped, starts, searching, begun, search, same, early};
-ghost use Rattle.decoder.specs.Record.{setup, recordOf, afterPush, afterFinalize, afterReset, answerAsked, badDecoder, wrongBuffer, newRecord, pushRecord, finalizeRecord, resetRecord, payloadRecord, askRecord};
+ghost use Rattle.decoder.specs.Push.{sized, stopped, starts, matchedBehind, moreNoise, searching, begun, search, same, early};
+ghost use Rattle.decoder.specs.Record.{setup, recordWith, recounted, recordOf, afterPush, afterFinalize, afterReset, answerAsked, badDecoder, wrongBuffer, newRecord, pushRecord, finalizeRecord, resetRecord, payloadRecord, askRecord};
 ghost use Rattle.decoder.specs.Cut.{code, cut, storedOn, pushedOn, inState, quiet, freshWith, normalStep, escapeAt, waitStep, sound, verdict, endStep, otherStep, judgeStep, escapeStep, isFresh, isDone, isNormal, plainByte, payloadIn};
 
 pub enum DecodeState {
@@ -17,6 +17,11 @@ pub enum DecodeState {
     ParsingEscChars(u8),
     ParsingEscPayload(u8),
     Done,
+}
+
+// What never changes of a decoder.
+pub struct Setup {
+    pub capacity: usize,
 }
 
 pub struct Decoder {
@@ -77,20 +82,64 @@ impl Decoder {
     pub const ESC_PAYLOAD_LEN: usize = 4;
 
     pub fn new(capacity: usize) -> Decoder
-        ensures { λ r. ⌜ r ≡ newRecord capacity ⌝ }
+        ensures { λ r. ⌜ r ≡ newRecord (sized capacity) ⌝ }
     {
-        Decoder {
-            capacity: capacity,
-            fill: 0,
-            raw_msg_len: 0,
-            crc: 0xffff,
-            crc_idx: 0,
-            state: DecodeState::LookingForMessageStart {
-                num_discarded_bytes: 0,
-                num_init_seq_bytes: 0,
-            },
-        }
+        fresh(Setup { capacity: capacity })
     }
+}
+
+// What never changes of a decoder, from its record.
+fn setup_of(d: Decoder) -> Setup
+    ensures { λ r. ⌜ r ≡ setup d ⌝ }
+{
+    Setup {
+        capacity: d.capacity,
+    }
+}
+
+// The one place where a record is made: of the setup, and what a push may change.
+fn made(
+    c: Setup,
+    fill: usize,
+    raw_msg_len: u32,
+    crc: u16,
+    crc_idx: usize,
+    state: DecodeState,
+) -> Decoder
+    ensures { λ r. ⌜ r ≡ recordWith c fill «raw_msg_len» crc «crc_idx» state ⌝ }
+{
+    Decoder {
+        capacity: c.capacity,
+        fill: fill,
+        raw_msg_len: raw_msg_len,
+        crc: crc,
+        crc_idx: crc_idx,
+        state: state,
+    }
+}
+
+// A search that has seen nothing.
+fn fresh(c: Setup) -> Decoder
+    ensures { λ r. ⌜ r ≡ newRecord c ⌝ }
+{
+    made(
+        c,
+        0,
+        0,
+        0xffff,
+        0,
+        DecodeState::LookingForMessageStart {
+            num_discarded_bytes: 0,
+            num_init_seq_bytes: 0,
+        },
+    )
+}
+
+// The record with other counts, in another state. A push of a slice makes its records by this.
+pub fn recounted(d: Decoder, fill: usize, raw: u32, s: DecodeState) -> Decoder
+    ensures { λ r. ⌜ r ≡ recounted d fill raw s ⌝ }
+{
+    made(setup_of(d), fill, raw, d.crc, d.crc_idx, s)
 }
 
 // One more, or as many as 32 bits hold.
@@ -100,11 +149,12 @@ fn one_more(x: u32) -> u32
     if x == 4294967295 { x } else { x + 1 }
 }
 
-// The noise with the n matched bytes and the one that doesn't match, or as many as 32 bits hold.
-fn more_noise(noise: u32, n: u8) -> u32
-    ensures { λ r. ⌜ r ≡ stopped (noise + suc n) ⌝ }
+// The noise behind n matched bytes and one more, of which k are matched then, or as many as 32 bits hold.
+fn more_noise(noise: u32, n: u8, k: u8) -> u32
+    requires { ⌜ k ≤ suc n ⌝ }
+    ensures { λ r. ⌜ r ≡ moreNoise noise n k ⌝ }
 {
-    let add = (n as u32) + 1;
+    let add = (n as u32) + 1 - (k as u32);
     if noise <= 4294967295 - add {
         noise + add
     } else {
@@ -123,11 +173,11 @@ fn quietly(d: Decoder) -> Pushed
 }
 
 // Fresh again, with an event.
-fn fresh_with(capacity: usize, e: Event) -> Pushed
-    ensures { λ r. ⌜ r ≡ freshWith capacity e ⌝ }
+fn fresh_with(c: Setup, e: Event) -> Pushed
+    ensures { λ r. ⌜ r ≡ freshWith c e ⌝ }
 {
     Pushed {
-        decoder: Decoder::new(capacity),
+        decoder: fresh(c),
         event: e,
     }
 }
@@ -136,28 +186,14 @@ fn fresh_with(capacity: usize, e: Event) -> Pushed
 fn in_state(d: Decoder, s: DecodeState) -> Decoder
     ensures { λ r. ⌜ r ≡ inState d s ⌝ }
 {
-    Decoder {
-        capacity: d.capacity,
-        fill: d.fill,
-        raw_msg_len: d.raw_msg_len,
-        crc: d.crc,
-        crc_idx: d.crc_idx,
-        state: s,
-    }
+    recounted(d, d.fill, d.raw_msg_len, s)
 }
 
 // One byte more pushed, and none stored.
 fn pushed_on(d: Decoder, s: DecodeState) -> Decoder
     ensures { λ r. ⌜ r ≡ pushedOn d s ⌝ }
 {
-    Decoder {
-        capacity: d.capacity,
-        fill: d.fill,
-        raw_msg_len: one_more(d.raw_msg_len),
-        crc: d.crc,
-        crc_idx: d.crc_idx,
-        state: s,
-    }
+    recounted(d, d.fill, one_more(d.raw_msg_len), s)
 }
 
 // One byte more pushed, and k stored.
@@ -165,45 +201,32 @@ fn stored_on(d: Decoder, k: usize, s: DecodeState) -> Decoder
     requires { ⌜ d .fill + k < 2 ^ 64 ⌝ }
     ensures { λ r. ⌜ r ≡ storedOn d k s ⌝ }
 {
-    Decoder {
-        capacity: d.capacity,
-        fill: d.fill + k,
-        raw_msg_len: one_more(d.raw_msg_len),
-        crc: d.crc,
-        crc_idx: d.crc_idx,
-        state: s,
-    }
+    recounted(d, d.fill + k, one_more(d.raw_msg_len), s)
 }
 
 // A frame begins: the CRC has gone over the start sequence.
-fn begun_frame(capacity: usize) -> Decoder
-    ensures { λ r. ⌜ r ≡ recordOf (record { capacity = capacity }) begun ⌝ }
+fn begun_frame(c: Setup) -> Decoder
+    ensures { λ r. ⌜ r ≡ recordOf c begun ⌝ }
 {
-    Decoder {
-        capacity: capacity,
-        fill: 0,
-        raw_msg_len: Decoder::START_LEN,
-        crc: crc_x25::update(0xffff, &frame::START),
-        crc_idx: 0,
-        state: DecodeState::ParsingNormal,
-    }
+    let crc = crc_x25::update(0xffff, &frame::START);
+    made(c, 0, Decoder::START_LEN, crc, 0, DecodeState::ParsingNormal)
 }
 
 // A search goes on, or begins: nothing is stored, and no CRC runs.
 fn looking(d: Decoder, noise: u32, n: u8) -> Decoder
     ensures { λ r. ⌜ r ≡ recordOf (setup d) (search n noise (stopped (suc (d .«raw_msg_len»)))) ⌝ }
 {
-    Decoder {
-        capacity: d.capacity,
-        fill: 0,
-        raw_msg_len: one_more(d.raw_msg_len),
-        crc: 0xffff,
-        crc_idx: 0,
-        state: DecodeState::LookingForMessageStart {
+    made(
+        setup_of(d),
+        0,
+        one_more(d.raw_msg_len),
+        0xffff,
+        0,
+        DecodeState::LookingForMessageStart {
             num_discarded_bytes: noise,
             num_init_seq_bytes: n,
         },
-    }
+    )
 }
 
 // Behind n start bytes, b is the next one.
@@ -213,24 +236,30 @@ pub fn matching(n: u8, b: u8) -> bool
     if n < 4 { b == Decoder::ESC } else { b == 0x01 }
 }
 
+// How many start bytes are matched behind n of them and the byte b: the step of the search.
+fn next_match(n: u8, b: u8) -> u8
+    requires { ⌜ n < 8 ⌝ }
+    ensures { λ r. ⌜ r ≡ matchedBehind n b ⌝ }
+{
+    if matching(n, b) { n + 1 } else { 0 }
+}
+
 fn looking_for_message_start(d: Decoder, noise: u32, n: u8, b: u8) -> Pushed
     requires { ⌜ n < 8 ⌝ }
     ensures { λ r. ⌜ r ≡ code (setup d) (searching n noise (d .«raw_msg_len») b) ⌝ }
 {
-    if matching(n, b) {
-        if n == 7 {
-            let begun = begun_frame(d.capacity);
-            if noise == 0 {
-                return quietly(begun);
-            }
-            return Pushed {
-                decoder: begun,
-                event: Event::DiscardedBytes(noise),
-            };
+    let k = next_match(n, b);
+    if k == 8 {
+        let begun = begun_frame(setup_of(d));
+        if noise == 0 {
+            return quietly(begun);
         }
-        return quietly(looking(d, noise, n + 1));
+        return Pushed {
+            decoder: begun,
+            event: Event::DiscardedBytes(noise),
+        };
     }
-    quietly(looking(d, more_noise(noise, n), 0))
+    quietly(looking(d, more_noise(noise, n, k), k))
 }
 
 fn parsing_normal(d: Decoder, buf: &mut [u8], b: u8) -> Pushed
@@ -244,7 +273,7 @@ fn parsing_normal(d: Decoder, buf: &mut [u8], b: u8) -> Pushed
         buf[at] = b;
         return quietly(stored_on(d, 1, DecodeState::ParsingNormal));
     }
-    fresh_with(d.capacity, Event::OutOfMemory)
+    fresh_with(setup_of(d), Event::OutOfMemory)
 }
 
 // n bytes 1b from `at` on.
@@ -276,14 +305,15 @@ fn opened(d: Decoder, buf: &[u8]) -> Decoder
     let from = d.crc_idx;
     let to = d.fill;
     let seen = crc_x25::update(d.crc, &buf[from..to]);
-    Decoder {
-        capacity: d.capacity,
-        fill: to,
-        raw_msg_len: one_more(d.raw_msg_len),
-        crc: crc_x25::update(seen, &frame::ESCAPE),
-        crc_idx: to,
-        state: DecodeState::ParsingEscPayload(0),
-    }
+    let crc = crc_x25::update(seen, &frame::ESCAPE);
+    made(
+        setup_of(d),
+        to,
+        one_more(d.raw_msg_len),
+        crc,
+        to,
+        DecodeState::ParsingEscPayload(0),
+    )
 }
 
 fn parsing_esc_chars(d: Decoder, buf: &mut [u8], n: u8, b: u8) -> Pushed
@@ -302,7 +332,7 @@ fn parsing_esc_chars(d: Decoder, buf: &mut [u8], n: u8, b: u8) -> Pushed
         put_run_and(buf, at, k, b);
         return quietly(stored_on(d, k + 1, DecodeState::ParsingNormal));
     }
-    fresh_with(d.capacity, Event::OutOfMemory)
+    fresh_with(setup_of(d), Event::OutOfMemory)
 }
 
 // The two slices hold the same bytes.
@@ -345,25 +375,19 @@ fn is_sound_end(fill: usize, read_crc: u16, calculated_crc: u16, p: u8) -> bool
 }
 
 // An end sequence with the pad count p: a payload, or no valid message.
-fn judged_end(capacity: usize, fill: usize, read_crc: u16, calculated_crc: u16, p: u8) -> Pushed
+fn judged_end(c: Setup, fill: usize, read_crc: u16, calculated_crc: u16, p: u8) -> Pushed
     requires { ⌜ 4 ≤ fill ⌝ }
-    ensures { λ r. ⌜ r ≡ verdict capacity fill «read_crc» «calculated_crc» p ⌝ }
+    ensures { λ r. ⌜ r ≡ verdict c fill «read_crc» «calculated_crc» p ⌝ }
 {
     if is_sound_end(fill, read_crc, calculated_crc, p) {
+        let length = fill - (p as usize + Decoder::ESC_PAYLOAD_LEN);
         return Pushed {
-            decoder: Decoder {
-                capacity: capacity,
-                fill: fill - (p as usize + Decoder::ESC_PAYLOAD_LEN),
-                raw_msg_len: 0,
-                crc: 0xffff,
-                crc_idx: 0,
-                state: DecodeState::Done,
-            },
+            decoder: made(c, length, 0, 0xffff, 0, DecodeState::Done),
             event: Event::Payload,
         };
     }
     fresh_with(
-        capacity,
+        c,
         Event::InvalidMessage {
             read_crc: read_crc,
             calculated_crc: calculated_crc,
@@ -385,7 +409,7 @@ fn end_sequence(d: Decoder, buf: &[u8]) -> Pushed
     let read = le16(buf[at + 2], buf[at + 3]);
     let seen = crc_x25::update(d.crc, &buf[from..to]);
     let calculated = crc_x25::finalize(seen);
-    judged_end(d.capacity, fill, read, calculated, buf[at + 1])
+    judged_end(setup_of(d), fill, read, calculated, buf[at + 1])
 }
 
 // The first a of the four bytes are 1b, and the next is 1a.
@@ -415,7 +439,7 @@ fn other_escape(d: Decoder, buf: &[u8]) -> Pushed
         return quietly(in_state(d, DecodeState::ParsingEscPayload(read)));
     }
     fresh_with(
-        d.capacity,
+        setup_of(d),
         Event::InvalidEsc(buf[at], buf[at + 1], buf[at + 2], buf[at + 3]),
     )
 }
@@ -432,7 +456,7 @@ fn judge(d: Decoder, buf: &[u8]) -> Pushed
     if same_bytes(&buf[at..at + 4], &frame::RESTART) {
         let ignored_bytes = d.raw_msg_len - Decoder::START_LEN;
         return Pushed {
-            decoder: begun_frame(d.capacity),
+            decoder: begun_frame(setup_of(d)),
             event: Event::DiscardedBytes(ignored_bytes),
         };
     }
@@ -454,7 +478,7 @@ fn parsing_esc_payload(d: Decoder, buf: &mut [u8], n: u8, b: u8) -> Pushed
         }
         return judge(stored_on(d, 1, DecodeState::ParsingEscPayload(3)), &buf[..]);
     }
-    fresh_with(d.capacity, Event::OutOfMemory)
+    fresh_with(setup_of(d), Event::OutOfMemory)
 }
 
 // A record that no pushes lead to.
@@ -576,7 +600,7 @@ pub fn push_any(d: Decoder, buf: &mut [u8], b: u8) -> Pushed
         DecodeState::ParsingNormal => parsing_normal(d, buf, b),
         DecodeState::ParsingEscChars(n) => parsing_esc_chars(d, buf, n, b),
         DecodeState::ParsingEscPayload(n) => parsing_esc_payload(d, buf, n, b),
-        DecodeState::Done => looking_for_message_start(Decoder::new(d.capacity), 0, 0, b),
+        DecodeState::Done => looking_for_message_start(fresh(setup_of(d)), 0, 0, b),
     }
 }
 
@@ -648,7 +672,7 @@ impl Decoder {
                 event: Event::BadState,
             };
         }
-        let f = Decoder::new(self.capacity);
+        let f = fresh(setup_of(self));
         let s = self.state;
         if is_fresh(s) {
             return Finalized {
@@ -672,7 +696,7 @@ impl Decoder {
     pub fn reset(self) -> AfterReset
         ensures { λ r. ⌜ afterReset r ≡ resetRecord self ⌝ }
     {
-        let f = Decoder::new(self.capacity);
+        let f = fresh(setup_of(self));
         let s = self.state;
         if is_done(s) {
             return AfterReset {

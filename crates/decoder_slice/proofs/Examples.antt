@@ -5,25 +5,25 @@ use Prim.Native.Nat.{ℕ}
 use lib.ListN.{replicate}
 use Rattle.crc_x25.specs.Crc.{reflect, polynomial, bitStep, bitSteps, byteStep, register, finalXor}
 use Rattle.frame.specs.Frame.{startSeq, escSeq}
-use Rattle.decoder.specs.Push.{searching, store, same, finish, judge, step}
+use Rattle.decoder.specs.Push.{sized, searching, store, same, finish, judge, step}
 use Rattle.decoder.specs.Record.{Answer, nothing, payload, refusal, wrote, badDecoder, wrongBuffer, pushed, pushRecord, newRecord}
 use Rattle.decoder_slice.specs.Slice.{Took, pushesFrom, sliceRecord}
 
-pub record Row : Type 0 where
+pub record SliceRow : Type 0 where
   pub recorded : ℕ
   pub lent : ℕ
   pub bytes : List ℕ
   pub answer : Answer
   pub taken : ℕ
 
-abbrev row : ℕ → ℕ → List ℕ → Answer → ℕ → Row
+abbrev row : ℕ → ℕ → List ℕ → Answer → ℕ → SliceRow
 row C L bs a n = record { recorded = C; lent = L; bytes = bs; answer = a; taken = n }
 
 abbrev b1 : List ℕ
 b1 = startSeq ++ 0x12 ∷ 0x34 ∷ 0x56 ∷ 0x78 ∷ escSeq ++ 0x1a ∷ 0x00 ∷ 0xb8 ∷ 0x7b ∷ []
 
-abbrev pub rows : List Row
-rows =
+abbrev pub sliceRows : List SliceRow
+sliceRows =
     -- a byte behind a frame isn't taken
     row 8 8 (b1 ++ 0x55 ∷ []) (payload (0x12 ∷ 0x34 ∷ 0x56 ∷ 0x78 ∷ [])) 20
     -- no byte, and a buffer that isn't the recorded one
@@ -32,9 +32,9 @@ rows =
     ∷ row 8 7 [] (refusal 5 []) 0
     ∷ []
 
-abbrev said : Took → Row → Row
+abbrev said : Took → SliceRow → SliceRow
 said t r = row (r .recorded) (r .lent) (r .bytes) (t .answer) (t .taken)
 
-pub slice-examples : map (λ (r : Row). said (sliceRecord (newRecord (r .recorded)) (replicate (r .lent) 0) (r .bytes)) r) rows ≡ rows
+pub slice-examples : map (λ (r : SliceRow). said (sliceRecord (newRecord (sized (r .recorded))) (replicate (r .lent) 0) (r .bytes)) r) sliceRows ≡ sliceRows
 unfolding sliceRecord pushesFrom pushRecord pushed badDecoder wrongBuffer wrote step searching store same judge finish reflect polynomial bitStep bitSteps byteStep register finalXor
 slice-examples = refl

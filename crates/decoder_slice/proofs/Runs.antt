@@ -2,12 +2,12 @@
 use Prim.Native.Nat.{ℕ, suc, _+_, _-_, _<_, _≤_}
 use mathlib.Core.List.{List, [], _∷_}
 use mathlib.Core.Path.{_≡_, refl, sym, ap, _∙_, subst}
-use mathlib.Core.Bool.{Bool, true, false, cond, not}
+use mathlib.Core.Bool.{Bool, true, false, not}
 use native.Mathlib.Omega.{arith}
 use native.Mathlib.Nat.{add-zero}
 use native.Mathlib.Numerals.{add-one}
-use borrow.Author.Tests.{le-ltb, lt-ltb, le-leb, eq-eqb, ne-eqb, eqb-false}
-use lib.Dec.{ltb, eqb, T}
+use borrow.Author.Tests.{le-ltb, lt-ltb, le-leb, eq-eqb, ne-eqb}
+use lib.Dec.{ltb, T}
 use lib.ListN.{length, set, drop, getD, drop-of-length-le}
 use lib.Seq.{drop-cons}
 use Rattle.decoder.specs.declared.DecodeState.{DecodeState}
@@ -16,15 +16,17 @@ use Rattle.decoder.specs.declared.Decoder.{Decoder}
 use Rattle.decoder.specs.declared.Event.{Event}
 use Rattle.decoder.specs.declared.Event.the-variants.{Nothing, Payload, DiscardedBytes, InvalidEsc, OutOfMemory, InvalidMessage, BadState, WrongBuffer}
 use Rattle.decoder.specs.declared.Pushed.{Pushed}
-use Rattle.decoder.specs.Push.{stopped, starts, searching}
-use Rattle.decoder.specs.Record.{nothing, answerOf, After, after, afterPush, pushRecord, badIn, badDecoder, wrongBuffer, newRecord}
-use Rattle.decoder.specs.Cut.{toldCut, storedOn, stepCut, normalStep, waitStep, escapeStep}
+use Rattle.decoder.specs.declared.AfterReset.{AfterReset}
+use Rattle.decoder.specs.Push.{stopped, matchedBehind, moreNoise, searching}
+use Rattle.decoder.specs.Record.{nothing, answerOf, After, after, afterPush, Left, afterReset, pushRecord, resetRecord, badIn, badDecoder, wrongBuffer, setup, newRecord}
+use Rattle.decoder.specs.Cut.{toldCut, storedOn, pushedOn, movedBy, inState, stepCut, normalStep, waitStep, escapeStep}
 use Rattle.decoder.proofs.Faithful.{Fit}
 use Rattle.decoder.proofs.Tied.{tied, push-step}
 use Rattle.decoder.proofs.Runs.{new-fit}
+use Rattle.decoder.proofs.Search.{matched-most, noise-grows}
 use Rattle.decoder.proofs.Valid.{right-buffer}
 use Rattle.decoder_slice.specs.Slice.{Took, took, saysNothing, pushesFrom}
-use Rattle.decoder_slice.specs.Stretch.{stretched, stretchedIn, Goes}
+use Rattle.decoder_slice.specs.Stretch.{Goes}
 
 quietly : (u : ℕ) (d : Decoder) (m : List ℕ) (b : ℕ) (bs : List ℕ) (d′ : Decoder) (m′ : List ℕ) → pushRecord d m b ≡ after nothing d′ m′
     → pushesFrom (u + 1) d′ m′ bs ≡ pushesFrom u d m (b ∷ bs)
@@ -85,20 +87,20 @@ fit d m i f l small b =
     }
 
 -- nothing yet
-pub at-first : (d : Decoder) (s : DecodeState) → d .«raw_msg_len» ≤ 4294967295 → stretched d 0 0 s ≡ stretchedIn d s
+pub at-first : (d : Decoder) (s : DecodeState) → d .«raw_msg_len» ≤ 4294967295 → movedBy d 0 0 s ≡ inState d s
 at-first d s h =
     let e : stopped (d .«raw_msg_len» + 0) ≡ d .«raw_msg_len» = omega arith in
     rw (add-zero, e)
 
 -- one byte more of a stretch, in states t and t′
 more : (d : Decoder) (j j′ k : ℕ) (t t′ : DecodeState) (m m′ s : List ℕ) (i : ℕ) → i + k < length s
-    → pushRecord (stretched d j k t) m (getD s (i + k) 0)
-    ≡ after nothing (record { capacity = d .capacity; fill = d .fill + j′; «raw_msg_len» = stopped (suc (stopped (d .«raw_msg_len» + k))); crc = d .crc; «crc_idx» = d .«crc_idx»; state = t′ }) m′
-    → pushesFrom (i + (k + 1)) (stretched d j′ (k + 1) t′) m′ (drop (i + (k + 1)) s) ≡ pushesFrom (i + k) (stretched d j k t) m (drop (i + k) s)
+    → pushRecord (movedBy d j k t) m (getD s (i + k) 0)
+    ≡ after nothing (pushedOn (movedBy d j′ k t) t′) m′
+    → pushesFrom (i + (k + 1)) (movedBy d j′ (k + 1) t′) m′ (drop (i + (k + 1)) s) ≡ pushesFrom (i + k) (movedBy d j k t) m (drop (i + k) s)
 more d j j′ k t t′ m m′ s i hs p =
     let e : i + k + 1 ≡ i + (k + 1) = omega arith in
     let r : stopped (suc (stopped (d .«raw_msg_len» + k))) ≡ stopped (d .«raw_msg_len» + (k + 1)) = omega arith in
-    rw (← e, ← r) (quiet-next (i + k) (stretched d j k t) m s (i + k) _ _ hs p)
+    rw (← e, ← r) (quiet-next (i + k) (movedBy d j k t) m s (i + k) _ _ hs p)
 
 -- an ordinary byte
 plain-byte : (d : Decoder) (f : ℕ) (m : List ℕ) (b : ℕ) → d .fill ≡ f → f + 1 ≤ length m → (b ≡ 0x1b → ⊥)
@@ -108,77 +110,51 @@ plain-byte d f m b e h n = simp (ne-eqb b 0x1b n, e, le-leb (f + 1) (length m) h
 
 pub plain-next : (d : Decoder) (m s : List ℕ) (i k : ℕ) → d .«crc_idx» ≤ d .fill → 8 ≤ d .«raw_msg_len» → length m ≡ d .capacity → d .capacity ≤ 1048576
     → d .fill + k < length m → i + k < length s → (getD s (i + k) 0 ≡ 0x1b → ⊥)
-    → pushesFrom (i + (k + 1)) (stretched d (k + 1) (k + 1) ParsingNormal) (set m (d .fill + k) (getD s (i + k) 0)) (drop (i + (k + 1)) s)
-    ≡ pushesFrom (i + k) (stretched d k k ParsingNormal) m (drop (i + k) s)
+    → pushesFrom (i + (k + 1)) (movedBy d (k + 1) (k + 1) ParsingNormal) (set m (d .fill + k) (getD s (i + k) 0)) (drop (i + (k + 1)) s)
+    ≡ pushesFrom (i + k) (movedBy d k k ParsingNormal) m (drop (i + k) s)
 plain-next d m s i k ix raw l small h hs n =
-    let g : Decoder = stretched d k k ParsingNormal in
+    let g : Decoder = movedBy d k k ParsingNormal in
     let f : d .fill + k + 1 ≡ d .fill + (k + 1) = omega arith in
     let b : ltb (stopped (d .«raw_msg_len» + k)) 8 ≡ false = le-ltb (stopped (d .«raw_msg_len» + k)) 8 (omega arith) in
     let p = sym (tied g m (getD s (i + k) 0) (fit g m (omega arith) (omega arith) l small b))
     ∙ plain-byte g (d .fill + k) m (getD s (i + k) 0) refl (omega arith) n in
     more d k (k + 1) k ParsingNormal ParsingNormal m _ s i hs (rw (← f) p)
 
-pub first-goes : (d : Decoder) (t : DecodeState) (m s : List ℕ) (i : ℕ) → d .«raw_msg_len» ≤ 4294967295 → Goes (stretched d 0 0 t) (i + 0) m i (stretchedIn d t) m s
+pub first-goes : (d : Decoder) (t : DecodeState) (m s : List ℕ) (i : ℕ) → d .«raw_msg_len» ≤ 4294967295 → Goes (movedBy d 0 0 t) (i + 0) m i (inState d t) m s
 first-goes d t m s i h = rw (add-zero i) (ap (λ (x : Decoder). pushesFrom i x m (drop i s)) (at-first d t h))
 
-and-true : (a : Bool) → cond a true false ≡ false → a ≡ false
-and-true true e = cc
-and-true false e = refl
-
 -- a byte of a search that does not end it
-search-byte : (d : Decoder) (noise q : ℕ) (m : List ℕ) (b : ℕ) (t : Bool) → d .fill ≡ 0 → d .«crc_idx» ≡ 0 → d .crc ≡ 0xffff → starts q b ≡ t → cond (eqb q 7) t false ≡ false
-    → toldCut (stepCut (LookingForMessageStart q noise) d m b)
-    ≡ after nothing (record { capacity = d .capacity; fill = d .fill; «raw_msg_len» = stopped (suc (d .«raw_msg_len»)); crc = d .crc; «crc_idx» = d .«crc_idx»; state = LookingForMessageStart (cond t (q + 1) 0) (cond t noise (stopped (noise + (q + 1)))) }) m
+search-byte : (d : Decoder) (noise q : ℕ) (m : List ℕ) (b : ℕ) → d .fill ≡ 0 → d .«crc_idx» ≡ 0 → d .crc ≡ 0xffff → (matchedBehind q b ≡ 8 → ⊥)
+    → toldCut (stepCut (LookingForMessageStart q noise) d m b) ≡ after nothing (pushedOn d (LookingForMessageStart (matchedBehind q b) (moreNoise noise q (matchedBehind q b)))) m
 unfolding stepCut searching
-search-byte d noise q m b true f x c e n = simp (add-one q, f, x, c, e, and-true (eqb q 7) n)
-search-byte d noise q m b false f x c e n = simp (add-one q, f, x, c, e)
+search-byte d noise q m b f x c n = simp (f, x, c, ne-eqb (matchedBehind q b) 8 n)
 
-counted : (noise n k q : ℕ) (t : Bool) → q ≤ n + k → cond t (stopped (noise + (n + k - q))) (stopped (stopped (noise + (n + k - q)) + (q + 1))) ≡ stopped (noise + (n + (k + 1) - cond t (q + 1) 0))
-counted noise n k q true h = omega arith
-counted noise n k q false h = omega arith
-
-matched-lt : (q : ℕ) (t : Bool) → q < 8 → cond (eqb q 7) t false ≡ false → cond t (q + 1) 0 < 8
-matched-lt q true h e = omega (arith, eqb-false q 7 (and-true (eqb q 7) e))
-matched-lt q false h e = omega arith
-
-matched-le : (q : ℕ) (t : Bool) → cond t (q + 1) 0 ≤ q + 1
-matched-le q true = omega arith
-matched-le q false = omega arith
-
--- t: the byte matched
-pub search-next : (d : Decoder) (noise n q q′ : ℕ) (s : List ℕ) (i k : ℕ) (t : Bool) → d .fill ≡ 0 → d .«crc_idx» ≡ 0 → d .crc ≡ 0xffff → d .capacity ≤ 1048576
-    → i + k < length s → q < 8 → q ≤ n + k → starts q (getD s (i + k) 0) ≡ t → cond (eqb q 7) t false ≡ false → q′ ≡ cond t (q + 1) 0
+-- behind k bytes of a search, of which and of n before q are matched, the noise is all the others; q′ are matched with one byte more
+pub search-next : (d : Decoder) (noise n q q′ : ℕ) (s : List ℕ) (i k : ℕ) → d .fill ≡ 0 → d .«crc_idx» ≡ 0 → d .crc ≡ 0xffff → d .capacity ≤ 1048576
+    → i + k < length s → q < 8 → q ≤ n + k → q′ ≡ matchedBehind q (getD s (i + k) 0) → (q′ ≡ 8 → ⊥)
     → (q′ ≤ n + (k + 1)) × (q′ < 8) × ((m : List ℕ) → length m ≡ d .capacity
-    → pushesFrom (i + (k + 1)) (stretched d 0 (k + 1) (LookingForMessageStart q′ (stopped (noise + (n + (k + 1) - q′))))) m (drop (i + (k + 1)) s)
-    ≡ pushesFrom (i + k) (stretched d 0 k (LookingForMessageStart q (stopped (noise + (n + k - q))))) m (drop (i + k) s))
-search-next d noise n q q′ s i k t f x ff small hs h g e c r =
+    → pushesFrom (i + (k + 1)) (movedBy d 0 (k + 1) (LookingForMessageStart q′ (stopped (noise + (n + (k + 1) - q′))))) m (drop (i + (k + 1)) s)
+    ≡ pushesFrom (i + k) (movedBy d 0 k (LookingForMessageStart q (stopped (noise + (n + k - q))))) m (drop (i + k) s))
+search-next d noise n q q′ s i k f x ff small hs h g e ne =
     let b : ℕ = getD s (i + k) 0 in
-    let now : Decoder = stretched d 0 k (LookingForMessageStart q (stopped (noise + (n + k - q)))) in
+    let y : ℕ = stopped (noise + (n + k - q)) in
+    let now : Decoder = movedBy d 0 k (LookingForMessageStart q y) in
     let z : d .fill + 0 ≡ 0 = omega arith in
-    let le : cond t (q + 1) 0 ≤ q + 1 = matched-le q t in
-    let bad : badIn (d .fill + 0) (d .«crc_idx») (stopped (d .«raw_msg_len» + k)) (LookingForMessageStart q (stopped (noise + (n + k - q)))) ≡ false = simp (z, le-ltb 7 q (omega arith)) in (
-      omega (arith, r, le, g),
-      rw r (matched-lt q t h c),
+    let most : q′ ≤ suc q = omega (arith, e, matched-most q b) in
+    let grows : moreNoise y q q′ ≡ stopped (noise + (n + k - q) + (suc q - q′)) = noise-grows y (noise + (n + k - q)) q q′ refl most in
+    let all : noise + (n + k - q) + (suc q - q′) ≡ noise + (n + (k + 1) - q′) = omega arith in
+    let bad : badIn (d .fill + 0) (d .«crc_idx») (stopped (d .«raw_msg_len» + k)) (LookingForMessageStart q y) ≡ false = simp (z, le-ltb 7 q (omega arith)) in (
+      omega arith,
+      omega arith,
       λ m l.
-          ap (λ (z : ℕ). pushesFrom (i + (k + 1)) (stretched d 0 (k + 1) (LookingForMessageStart z (stopped (noise + (n + (k + 1) - z))))) m (drop (i + (k + 1)) s)) r
-          ∙ ap (λ (z : ℕ). pushesFrom (i + (k + 1)) (stretched d 0 (k + 1) (LookingForMessageStart (cond t (q + 1) 0) z)) m (drop (i + (k + 1)) s)) (sym (counted noise n k q t g))
-          ∙ more d 0 0 k (LookingForMessageStart q (stopped (noise + (n + k - q)))) _ m m s i hs
-          (sym (tied now m b (fit now m (omega arith) (omega arith) l small bad))
-          ∙ search-byte now (stopped (noise + (n + k - q))) q m b t z x ff e c),
+          ap (λ (v : ℕ). pushesFrom (i + (k + 1)) (movedBy d 0 (k + 1) (LookingForMessageStart q′ v)) m (drop (i + (k + 1)) s)) (ap stopped (sym all) ∙ sym grows)
+          ∙ ap (λ (v : ℕ). pushesFrom (i + (k + 1)) (movedBy d 0 (k + 1) (LookingForMessageStart v (moreNoise y q v))) m (drop (i + (k + 1)) s)) e
+          ∙ more d 0 0 k (LookingForMessageStart q y) _ m m s i hs
+          (sym (tied now m b (fit now m (omega arith) (omega arith) l small bad)) ∙ search-byte now y q m b z x ff (λ w. ne (e ∙ w))),
     )
 
-pub not-seven : (q : ℕ) → (q ≡ 7 → ⊥) → cond (eqb q 7) true false ≡ false
-not-seven q n = simp (ne-eqb q 7 n)
-
-same-sides : (a : Bool) → cond a false false ≡ false
-same-sides true = refl
-same-sides false = refl
-
-pub no-match : (q : ℕ) → cond (eqb q 7) false false ≡ false
-no-match q = same-sides (eqb q 7)
-
 pub first-search : (d : Decoder) (noise n : ℕ) (m s : List ℕ) (i : ℕ) → d .«raw_msg_len» ≤ 4294967295 → noise ≤ 4294967295
-    → Goes (stretched d 0 0 (LookingForMessageStart n (stopped (noise + (n + 0 - n))))) (i + 0) m i (stretchedIn d (LookingForMessageStart n noise)) m s
+    → Goes (movedBy d 0 0 (LookingForMessageStart n (stopped (noise + (n + 0 - n))))) (i + 0) m i (inState d (LookingForMessageStart n noise)) m s
 first-search d noise n m s i h g =
     let e : stopped (noise + (n + 0 - n)) ≡ noise = omega arith in
     rw e (first-goes d (LookingForMessageStart n noise) m s i h)
@@ -194,16 +170,16 @@ not-true true e = cc
 -- a further 1b
 wait-byte : (d : Decoder) (q : ℕ) (m : List ℕ) (b : ℕ) → b ≡ 0x1b → (q ≡ 3 → ⊥)
     → toldCut (stepCut (ParsingEscChars q) d m b)
-    ≡ after nothing (record { capacity = d .capacity; fill = d .fill; «raw_msg_len» = stopped (suc (d .«raw_msg_len»)); crc = d .crc; «crc_idx» = d .«crc_idx»; state = ParsingEscChars (q + 1) }) m
+    ≡ after nothing (pushedOn d (ParsingEscChars (q + 1))) m
 unfolding stepCut waitStep
 wait-byte d q m b e n = simp (eq-eqb b 0x1b e, ne-eqb q 3 n)
 
 pub wait-next : (d : Decoder) (q : ℕ) (m s : List ℕ) (i k : ℕ) → d .«crc_idx» ≤ d .fill → d .fill ≤ d .capacity → 8 ≤ d .«raw_msg_len» → length m ≡ d .capacity → d .capacity ≤ 1048576
     → i + k < length s → 1 ≤ q → q ≤ 3 → getD s (i + k) 0 ≡ 0x1b → (q ≡ 3 → ⊥)
-    → pushesFrom (i + (k + 1)) (stretched d 0 (k + 1) (ParsingEscChars (q + 1))) m (drop (i + (k + 1)) s)
-    ≡ pushesFrom (i + k) (stretched d 0 k (ParsingEscChars q)) m (drop (i + k) s)
+    → pushesFrom (i + (k + 1)) (movedBy d 0 (k + 1) (ParsingEscChars (q + 1))) m (drop (i + (k + 1)) s)
+    ≡ pushesFrom (i + k) (movedBy d 0 k (ParsingEscChars q)) m (drop (i + k) s)
 wait-next d q m s i k ix f raw l small hs h1 h3 e n =
-    let g : Decoder = stretched d 0 k (ParsingEscChars q) in
+    let g : Decoder = movedBy d 0 k (ParsingEscChars q) in
     let z : q ≡ 0 → ⊥ = λ w. omega arith in
     let b : badIn (d .fill + 0) (d .«crc_idx») (stopped (d .«raw_msg_len» + k)) (ParsingEscChars q) ≡ false = simp (le-ltb (stopped (d .«raw_msg_len» + k)) 8 (omega arith), ne-eqb q 0 z, le-ltb 3 q h3) in
     more d 0 0 k (ParsingEscChars q) _ m m s i hs
@@ -217,10 +193,10 @@ judged-byte d q f m b e h n = simp (e, le-leb (f + 1) (length m) h, lt-ltb q 3 n
 
 pub judged-next : (d : Decoder) (n : ℕ) (m s : List ℕ) (i k : ℕ) → d .«crc_idx» + n ≤ d .fill → 8 ≤ d .«raw_msg_len» → length m ≡ d .capacity → d .capacity ≤ 1048576
     → d .fill + k < length m → i + k < length s → n + k < 3
-    → pushesFrom (i + (k + 1)) (stretched d (k + 1) (k + 1) (ParsingEscPayload (n + (k + 1)))) (set m (d .fill + k) (getD s (i + k) 0)) (drop (i + (k + 1)) s)
-    ≡ pushesFrom (i + k) (stretched d k k (ParsingEscPayload (n + k))) m (drop (i + k) s)
+    → pushesFrom (i + (k + 1)) (movedBy d (k + 1) (k + 1) (ParsingEscPayload (n + (k + 1)))) (set m (d .fill + k) (getD s (i + k) 0)) (drop (i + (k + 1)) s)
+    ≡ pushesFrom (i + k) (movedBy d k k (ParsingEscPayload (n + k))) m (drop (i + k) s)
 judged-next d n m s i k ix raw l small h hs h3 =
-    let g : Decoder = stretched d k k (ParsingEscPayload (n + k)) in
+    let g : Decoder = movedBy d k k (ParsingEscPayload (n + k)) in
     let f : d .fill + k + 1 ≡ d .fill + (k + 1) = omega arith in
     let q : n + k + 1 ≡ n + (k + 1) = omega arith in
     let b : badIn (d .fill + k) (d .«crc_idx») (stopped (d .«raw_msg_len» + k)) (ParsingEscPayload (n + k)) ≡ false =
@@ -229,30 +205,35 @@ judged-next d n m s i k ix raw l small h hs h3 =
     ∙ judged-byte g (n + k) (d .fill + k) m (getD s (i + k) 0) refl (omega arith) h3 in
     more d k (k + 1) k (ParsingEscPayload (n + k)) (ParsingEscPayload (n + (k + 1))) m _ s i hs (rw (← f, ← q) p)
 
-pub same-state : (d : Decoder) (s : DecodeState) → d .state ≡ s → stretchedIn d s ≡ d
-same-state d s e = ap (stretchedIn d) (sym e)
+pub same-state : (d : Decoder) (s : DecodeState) → d .state ≡ s → inState d s ≡ d
+same-state d s e = ap (inState d) (sym e)
 
 pub first-judged : (d : Decoder) (n : ℕ) (m s : List ℕ) (i : ℕ) → d .«raw_msg_len» ≤ 4294967295
-    → Goes (stretched d 0 0 (ParsingEscPayload (n + 0))) (i + 0) m i (stretchedIn d (ParsingEscPayload n)) m s
+    → Goes (movedBy d 0 0 (ParsingEscPayload (n + 0))) (i + 0) m i (inState d (ParsingEscPayload n)) m s
 first-judged d n m s i h =
     let e : n + 0 ≡ n = omega arith in
     rw e (first-goes d (ParsingEscPayload n) m s i h)
 
-pub at-state : (d : Decoder) (t : DecodeState) (m s : List ℕ) (i : ℕ) {x : Took} → d .state ≡ t → x ≡ pushesFrom i (stretchedIn d t) m (drop i s) → x ≡ pushesFrom i d m (drop i s)
+pub at-state : (d : Decoder) (t : DecodeState) (m s : List ℕ) (i : ℕ) {x : Took} → d .state ≡ t → x ≡ pushesFrom i (inState d t) m (drop i s) → x ≡ pushesFrom i d m (drop i s)
 at-state d t m s i e h = h ∙ ap (λ (g : Decoder). pushesFrom i g m (drop i s)) (same-state d t e)
 
 -- behind a payload the next byte begins a fresh search
 fresh-push : (d : Decoder) (m : List ℕ) (b : ℕ) → d .state ≡ Done → badDecoder d ≡ false → wrongBuffer (d .capacity) (length m) ≡ false
-    → pushRecord (newRecord (d .capacity)) m b ≡ pushRecord d m b
+    → pushRecord (newRecord (setup d)) m b ≡ pushRecord d m b
 unfolding stepCut
 fresh-push d m b s e w =
-    sym (tied (newRecord (d .capacity)) m b (new-fit (d .capacity) m (right-buffer _ _ w .0) (omega (arith, right-buffer (d .capacity) (length m) w))))
+    sym (tied (newRecord (setup d)) m b (new-fit (setup d) m (right-buffer _ _ w .0) (omega (arith, right-buffer (d .capacity) (length m) w))))
     ∙ push-step d m b Done _ e w s refl
 
 pub fresh-goes : (d : Decoder) (m s : List ℕ) (i : ℕ) → d .state ≡ Done → badDecoder d ≡ false → wrongBuffer (d .capacity) (length m) ≡ false → i < length s
-    → pushesFrom i (newRecord (d .capacity)) m (drop i s) ≡ pushesFrom i d m (drop i s)
+    → pushesFrom i (newRecord (setup d)) m (drop i s) ≡ pushesFrom i d m (drop i s)
 unfolding pushesFrom
 fresh-goes d m s i e g w h = rw (at s i h, fresh-push d m (getD s i 0) e g w)
+
+-- reset makes that search
+pub reset-fresh : (r : AfterReset) (d : Decoder) → afterReset r ≡ resetRecord d → r .decoder ≡ newRecord (setup d)
+unfolding resetRecord
+reset-fresh r d h = ap (λ (x : Left). x .decoder) h
 
 pub right-capacity : (C n : ℕ) → wrongBuffer C n ≡ false → C ≤ 1048576
 right-capacity C n e = omega (arith, right-buffer C n e)

@@ -2,18 +2,18 @@
 use Prim.Native.Nat.{ℕ, zero, suc, _+_, _-_, _*_, _/_, _%_, _<_, _≤_}
 use mathlib.Core.List.{List}
 use mathlib.Core.Path.{_≡_, refl, _∙_, subst}
-use mathlib.Core.Bool.{Bool, true, false, cond}
 use native.Mathlib.Omega.{arith}
 use native.Mathlib.Nat.{add-zero}
 use borrow.Author.Tests.{eq-eqb, ne-eqb}
-use lib.Dec.{eqb}
 use lib.ListN.{length, drop, getD}
 use Rattle.decoder.specs.declared.DecodeState.the-variants.{LookingForMessageStart}
 use Rattle.decoder.specs.declared.Decoder.{Decoder}
-use Rattle.decoder.specs.Push.{stopped, starts}
+use Rattle.decoder.specs.Push.{stopped, matchedBehind}
+use Rattle.decoder.proofs.Search.{matched-more, matched-none}
 use Rattle.decoder.proofs.Split.{split}
 use Rattle.decoder_slice.specs.Slice.{Took, pushesFrom}
-use Rattle.decoder_slice.specs.Stretch.{stretched, Plain, Escapes}
+use Rattle.decoder.specs.Cut.{movedBy}
+use Rattle.decoder_slice.specs.Stretch.{Plain, Escapes}
 use Rattle.decoder_slice.proofs.Runs as runs
 
 -- ---- places
@@ -40,17 +40,17 @@ among-five P a k all p0 p1 p2 p3 p4 = among-next P a (k + 4) (k + 5) (omega arit
 
 -- what is left of s behind k bytes of a search, with q matched
 abbrev pub leftOver : Decoder → ℕ → ℕ → List ℕ → ℕ → List ℕ → ℕ → ℕ → Took
-leftOver d noise n s i m k q = pushesFrom (i + k) (stretched d 0 k (LookingForMessageStart q (stopped (noise + (n + k - q))))) m (drop (i + k) s)
+leftOver d noise n s i m k q = pushesFrom (i + k) (movedBy d 0 k (LookingForMessageStart q (stopped (noise + (n + k - q))))) m (drop (i + k) s)
 
 module _ (d : Decoder) (noise n : ℕ) (s : List ℕ) (i : ℕ) (f : d .fill ≡ 0) (x : d .«crc_idx» ≡ 0) (c : d .crc ≡ 0xffff) (small : d .capacity ≤ 1048576) (m : List ℕ) (l : length m ≡ d .capacity) where
-  one : (k k′ q q′ : ℕ) (t : Bool) → k′ ≡ k + 1 → i + k < length s → q < 8 → q ≤ n + k → starts q (getD s (i + k) 0) ≡ t → cond (eqb q 7) t false ≡ false → q′ ≡ cond t (q + 1) 0
+  one : (k k′ q q′ : ℕ) → k′ ≡ k + 1 → i + k < length s → q < 8 → q ≤ n + k → q′ ≡ matchedBehind q (getD s (i + k) 0) → (q′ ≡ 8 → ⊥)
       → leftOver d noise n s i m k′ q′ ≡ leftOver d noise n s i m k q
-  one k k′ q q′ t e h q8 qn st sv z = rw e (runs.search-next d noise n q q′ s i k t f x c small h q8 qn st sv z .2 m l)
+  one k k′ q q′ e h q8 qn z ne = rw e (runs.search-next d noise n q q′ s i k f x c small h q8 qn z ne .2 m l)
 
   noise-run : (j k : ℕ) → i + (k + j) ≤ length s → Plain s (i + k) (i + (k + j)) → leftOver d noise n s i m (k + j) 0 ≡ leftOver d noise n s i m k 0
   noise-run zero k h p = rw (add-zero k)
   noise-run (suc j) k h p =
-      one (k + j) (k + suc j) 0 0 false (omega arith) (omega arith) (omega arith) (omega arith) (ne-eqb _ 0x1b (p (i + (k + j)) (omega arith) (omega arith))) refl refl
+      one (k + j) (k + suc j) 0 0 (omega arith) (omega arith) (omega arith) (omega arith) (matched-none 0 (getD s (i + (k + j)) 0) (ne-eqb _ 0x1b (p (i + (k + j)) (omega arith) (omega arith)))) (λ w. omega arith)
       ∙ noise-run j k (omega arith) (λ y a b. p y a (omega arith))
 
   pub noise-to : (k r : ℕ) → i + k ≤ r → r ≤ length s → Plain s (i + k) r → leftOver d noise n s i m (r - i) 0 ≡ leftOver d noise n s i m k 0
@@ -65,11 +65,11 @@ module _ (d : Decoder) (noise n : ℕ) (s : List ℕ) (i : ℕ) (f : d .fill ≡
       let b2 : getD s (i + (k + 2)) 0 ≡ 0x1b = p (i + (k + 2)) (omega arith) (omega arith) in
       let b3 : getD s (i + (k + 3)) 0 ≡ 0x1b = p (i + (k + 3)) (omega arith) (omega arith) in
       let b4 : getD s (i + (k + 4)) 0 ≡ 0x1b = p (i + (k + 4)) (omega arith) (omega arith) in
-      one (k + 4) (k + 5) 3 4 true (omega arith) (omega arith) (omega arith) (omega arith) (eq-eqb _ 0x1b b4) refl refl
-      ∙ one (k + 3) (k + 4) 2 3 true (omega arith) (omega arith) (omega arith) (omega arith) (eq-eqb _ 0x1b b3) refl refl
-      ∙ one (k + 2) (k + 3) 1 2 true (omega arith) (omega arith) (omega arith) (omega arith) (eq-eqb _ 0x1b b2) refl refl
-      ∙ one (k + 1) (k + 2) 0 1 true (omega arith) (omega arith) (omega arith) (omega arith) (eq-eqb _ 0x1b b1) refl refl
-      ∙ one k (k + 1) 4 0 false refl (omega arith) (omega arith) q (ne-eqb (getD s (i + k) 0) 0x01 (λ w. omega arith)) refl refl
+      one (k + 4) (k + 5) 3 4 (omega arith) (omega arith) (omega arith) (omega arith) (matched-more 3 (getD s (i + (k + 4)) 0) (eq-eqb _ 0x1b b4)) (λ w. omega arith)
+      ∙ one (k + 3) (k + 4) 2 3 (omega arith) (omega arith) (omega arith) (omega arith) (matched-more 2 (getD s (i + (k + 3)) 0) (eq-eqb _ 0x1b b3)) (λ w. omega arith)
+      ∙ one (k + 2) (k + 3) 1 2 (omega arith) (omega arith) (omega arith) (omega arith) (matched-more 1 (getD s (i + (k + 2)) 0) (eq-eqb _ 0x1b b2)) (λ w. omega arith)
+      ∙ one (k + 1) (k + 2) 0 1 (omega arith) (omega arith) (omega arith) (omega arith) (matched-more 0 (getD s (i + (k + 1)) 0) (eq-eqb _ 0x1b b1)) (λ w. omega arith)
+      ∙ one k (k + 1) 4 0 refl (omega arith) (omega arith) q (matched-none 4 (getD s (i + k) 0) (ne-eqb (getD s (i + k) 0) 0x01 (λ w. omega arith))) (λ w. omega arith)
 
   fives-run : (j k : ℕ) → 4 ≤ n + k → i + (k + 5 * j) ≤ length s → Escapes s (i + k) (i + (k + 5 * j)) → leftOver d noise n s i m (k + 5 * j) 4 ≡ leftOver d noise n s i m k 4
   fives-run zero k q h p = rw (add-zero k)

@@ -1,19 +1,10 @@
 -- cut: the bytes of a slice that change only counts and the buffer are taken at once.
-use Prim.Native.Nat.{ℕ, _+_, _<_, _≤_}
+use Prim.Native.Nat.{ℕ, _<_, _≤_}
 use mathlib.Core.List.{List}
 use mathlib.Core.Path.{_≡_}
 use lib.ListN.{drop, getD}
-use Rattle.decoder.specs.Push.{stopped}
-use Rattle.decoder.specs.declared.DecodeState.{DecodeState}
 use Rattle.decoder.specs.declared.Decoder.{Decoder}
 use Rattle.decoder_slice.specs.Slice.{pushesFrom}
-
--- d, with s for its state, behind k bytes of which j were stored
-abbrev pub stretched : Decoder → ℕ → ℕ → DecodeState → Decoder
-stretched d j k s = record { capacity = d .capacity; fill = d .fill + j; «raw_msg_len» = stopped (d .«raw_msg_len» + k); crc = d .crc; «crc_idx» = d .«crc_idx»; state = s }
-
-abbrev pub stretchedIn : Decoder → DecodeState → Decoder
-stretchedIn d s = record { capacity = d .capacity; fill = d .fill; «raw_msg_len» = d .«raw_msg_len»; crc = d .crc; «crc_idx» = d .«crc_idx»; state = s }
 
 -- what is left of the slice s, from `at` on, gives what it gave from `from` on
 abbrev pub Goes : Decoder → ℕ → List ℕ → ℕ → Decoder → List ℕ → List ℕ → Type 0

@@ -8,7 +8,8 @@ ghost use Rattle.decoder.specs.declared.DecodeState.the-variants.{LookingForMes
 ghost use Rattle.decoder.specs.Push.{stopped};
 ghost use Rattle.decoder.specs.Record.{answerOf};
 ghost use Rattle.decoder_slice.specs.Slice.{afterSlice, saysNothing, pushesFrom, sliceRecord};
-ghost use Rattle.decoder_slice.specs.Stretch.{stretched, stretchedIn, Goes, Plain, Escapes};
+ghost use Rattle.decoder.specs.Cut.{movedBy, inState};
+ghost use Rattle.decoder_slice.specs.Stretch.{Goes, Plain, Escapes};
 use decoder::DecodeState;
 use decoder::Decoder;
 use decoder::Event;
@@ -58,19 +59,11 @@ fn more(x: u32, k: usize) -> u32
 }
 
 // d behind k bytes of which j were stored.
-fn stretched_on(d: Decoder, j: usize, k: usize, s: DecodeState) -> Decoder
+fn moved_by(d: Decoder, j: usize, k: usize, s: DecodeState) -> Decoder
     requires { ⌜ d .fill + j < 2 ^ 64 ⌝ }
-    ensures { λ r. ⌜ r ≡ stretched d j k s ⌝ }
+    ensures { λ r. ⌜ r ≡ movedBy d j k s ⌝ }
 {
-    let raw = more(d.raw_msg_len, k);
-    Decoder {
-        capacity: d.capacity,
-        fill: d.fill + j,
-        raw_msg_len: raw,
-        crc: d.crc,
-        crc_idx: d.crc_idx,
-        state: s,
-    }
+    decoder::recounted(d, d.fill + j, more(d.raw_msg_len, k), s)
 }
 
 fn least(a: usize, b: usize) -> usize
@@ -133,7 +126,7 @@ fn plain_end(chunk: &[u8], from: usize, to: usize) -> usize
 // The bytes from `from` on that are no 1b, as many as there is room for, go to the buffer.
 fn store_plain(d: Decoder, buf: &mut [u8], chunk: &[u8], from: usize) -> Stretch
     requires { ⌜ (d .«crc_idx» ≤ d .fill) × (d .fill ≤ length (now buf)) × (8 ≤ d .«raw_msg_len») × (length (now buf) ≡ d .capacity) × (d .capacity ≤ 1048576) × (from ≤ length (now chunk)) ⌝ }
-    ensures { λ r. ⌜ (r .at ≤ length (now (chunk .entry))) × (from ≤ r .at) × Goes (r .decoder) (r .at) (now (buf .exit)) from (stretchedIn d ParsingNormal) (now (buf .entry)) (now (chunk .entry)) ⌝ }
+    ensures { λ r. ⌜ (r .at ≤ length (now (chunk .entry))) × (from ≤ r .at) × Goes (r .decoder) (r .at) (now (buf .exit)) from (inState d ParsingNormal) (now (buf .entry)) (now (chunk .entry)) ⌝ }
 {
     let at = d.fill;
     let room = buf.len() - at;
@@ -146,7 +139,7 @@ fn store_plain(d: Decoder, buf: &mut [u8], chunk: &[u8], from: usize) -> Stretch
         buf[at + k] = chunk[from + k];
         k += 1;
     }
-    let n = stretched_on(d, k, k, DecodeState::ParsingNormal);
+    let n = moved_by(d, k, k, DecodeState::ParsingNormal);
     Stretch {
         decoder: n,
         at: from + k,
@@ -201,7 +194,7 @@ fn fives_end(chunk: &[u8], from: usize) -> usize
 // The bytes of a search from `from` on, up to the last of a start sequence. Matched bytes and noise are all the bytes there are.
 fn search_more(d: Decoder, noise: u32, n: u8, chunk: &[u8], from: usize) -> Stretch
     requires { ⌜ (d .«crc_idx» ≡ 0) × (d .fill ≡ 0) × (d .capacity ≤ 1048576) × (n < 8) × (from ≤ length (now chunk)) × (d .crc ≡ 0xffff) ⌝ }
-    ensures { λ r. ⌜ (r .at ≤ length (now (chunk .entry))) × (from ≤ r .at) × ((m : List ℕ) → length m ≡ d .capacity → Goes (r .decoder) (r .at) m from (stretchedIn d (LookingForMessageStart n noise)) m (now (chunk .entry))) ⌝ }
+    ensures { λ r. ⌜ (r .at ≤ length (now (chunk .entry))) × (from ≤ r .at) × ((m : List ℕ) → length m ≡ d .capacity → Goes (r .decoder) (r .at) m from (inState d (LookingForMessageStart n noise)) m (now (chunk .entry))) ⌝ }
 {
     let left = chunk.len() - from;
     let mut k = 0;
@@ -223,7 +216,7 @@ fn search_more(d: Decoder, noise: u32, n: u8, chunk: &[u8], from: usize) -> Stre
         }
     }
     let all = more(noise, (n as usize) + k - (q as usize));
-    let g = stretched_on(
+    let g = moved_by(
         d,
         0,
         k,
@@ -241,7 +234,7 @@ fn search_more(d: Decoder, noise: u32, n: u8, chunk: &[u8], from: usize) -> Stre
 // More 1b, up to three.
 fn wait_more(d: Decoder, n: u8, chunk: &[u8], from: usize) -> Stretch
     requires { ⌜ (d .«crc_idx» ≤ d .fill) × (d .fill ≤ d .capacity) × (8 ≤ d .«raw_msg_len») × (d .capacity ≤ 1048576) × (1 ≤ n) × (n ≤ 3) × (from ≤ length (now chunk)) ⌝ }
-    ensures { λ r. ⌜ (r .at ≤ length (now (chunk .entry))) × (from ≤ r .at) × ((m : List ℕ) → length m ≡ d .capacity → Goes (r .decoder) (r .at) m from (stretchedIn d (ParsingEscChars n)) m (now (chunk .entry))) ⌝ }
+    ensures { λ r. ⌜ (r .at ≤ length (now (chunk .entry))) × (from ≤ r .at) × ((m : List ℕ) → length m ≡ d .capacity → Goes (r .decoder) (r .at) m from (inState d (ParsingEscChars n)) m (now (chunk .entry))) ⌝ }
 {
     let left = chunk.len() - from;
     let mut k = 0;
@@ -256,7 +249,7 @@ fn wait_more(d: Decoder, n: u8, chunk: &[u8], from: usize) -> Stretch
         q += 1;
         k += 1;
     }
-    let g = stretched_on(d, 0, k, DecodeState::ParsingEscChars(q));
+    let g = moved_by(d, 0, k, DecodeState::ParsingEscChars(q));
     Stretch {
         decoder: g,
         at: from + k,
@@ -266,7 +259,7 @@ fn wait_more(d: Decoder, n: u8, chunk: &[u8], from: usize) -> Stretch
 // The bytes behind an escape, up to three.
 fn put_judged(d: Decoder, n: u8, buf: &mut [u8], chunk: &[u8], from: usize) -> Stretch
     requires { ⌜ (d .«crc_idx» + n ≤ d .fill) × (d .fill ≤ length (now buf)) × (8 ≤ d .«raw_msg_len») × (length (now buf) ≡ d .capacity) × (d .capacity ≤ 1048576) × (n ≤ 3) × (from ≤ length (now chunk)) ⌝ }
-    ensures { λ r. ⌜ (r .at ≤ length (now (chunk .entry))) × (from ≤ r .at) × Goes (r .decoder) (r .at) (now (buf .exit)) from (stretchedIn d (ParsingEscPayload n)) (now (buf .entry)) (now (chunk .entry)) ⌝ }
+    ensures { λ r. ⌜ (r .at ≤ length (now (chunk .entry))) × (from ≤ r .at) × Goes (r .decoder) (r .at) (now (buf .exit)) from (inState d (ParsingEscPayload n)) (now (buf .entry)) (now (chunk .entry)) ⌝ }
 {
     let at = d.fill;
     let room = buf.len() - at;
@@ -278,7 +271,7 @@ fn put_judged(d: Decoder, n: u8, buf: &mut [u8], chunk: &[u8], from: usize) -> S
         buf[at + k] = chunk[from + k];
         k += 1;
     }
-    let g = stretched_on(d, k, k, DecodeState::ParsingEscPayload(n + k as u8));
+    let g = moved_by(d, k, k, DecodeState::ParsingEscPayload(n + k as u8));
     Stretch {
         decoder: g,
         at: from + k,
@@ -319,7 +312,11 @@ fn ahead(d: Decoder, buf: &mut [u8], chunk: &[u8], from: usize) -> Stretch
         DecodeState::ParsingNormal => store_plain(d, buf, chunk, from),
         DecodeState::ParsingEscChars(n) => wait_more(d, n, chunk, from),
         DecodeState::ParsingEscPayload(n) => put_judged(d, n, buf, chunk, from),
-        DecodeState::Done => search_more(Decoder::new(d.capacity), 0, 0, chunk, from),
+        DecodeState::Done => {
+            let r = d.reset();
+            let f = r.decoder;
+            search_more(f, 0, 0, chunk, from)
+        }
     }
 }
 

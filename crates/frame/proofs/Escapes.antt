@@ -1,4 +1,4 @@
--- Laws of escapes: over two lists one after the other, and case by case. `runBehind` is where a run of 1b stands behind a list.
+-- Laws of escapes and of the run of 1b behind a list: over two lists one after the other, and case by case.
 use mathlib.Core.Path.{_≡_, refl, ap, sym, _∙_}
 use mathlib.Core.Bool.{Bool, true, false, cond}
 use mathlib.Core.List.{List, [], _∷_, _++_, append-assoc, append-nil}
@@ -8,12 +8,8 @@ use native.Mathlib.Nat.{add-suc, suc-add, add-comm}
 use lib.ListN.{length, replicate, replicate-append-replicate}
 use lib.Dec.{eqb, ltb, leb}
 use borrow.Author.Tests.{eq-eqb, ne-eqb}
-use Rattle.frame.specs.Frame.{escSeq, missing, runWith, fourMore, escaped}
+use Rattle.frame.specs.Frame.{escSeq, missing, runWith, fourMore, escaped, runBehind}
 use Rattle.frame.proofs.Cases.{by-eq}
-
-unfoldable pub runBehind : ℕ → List ℕ → ℕ
-runBehind n [] = n
-runBehind n (b ∷ bs) = runBehind (runWith n b) bs
 
 pub escaped-append : (r : ℕ) (a b : List ℕ) → escaped r (a ++ b) ≡ escaped r a ++ escaped (runBehind r a) b
 unfolding escaped runBehind

@@ -5,9 +5,9 @@ use Prim.Native.Nat.{ℕ, suc, _+_, _*_, _-_, _≤_}
 use native.Mathlib.Omega.{arith}
 use lib.ListN.{length, replicate, length-append, length-replicate}
 use lib.Seq.{take-at}
-use Rattle.frame.specs.Frame.{escSeq, startSeq, runWith, fourMore, missing, escaped, closed, frameOf, framed, Sound}
+use Rattle.frame.specs.Frame.{escSeq, startSeq, runWith, fourMore, missing, escaped, closed, frameOf, framed, Sound, runBehind}
 use Rattle.frame.proofs.Cases.{either}
-use Rattle.frame.proofs.Escapes.{escaped-other, escaped-wait, escaped-fourth, escaped-append, escaped-zeros, escaped-nil, runBehind}
+use Rattle.frame.proofs.Escapes.{escaped-other, escaped-wait, escaped-fourth, escaped-append, escaped-zeros, escaped-nil}
 
 -- the clause of a byte
 pub escaped-cons : (r b : ℕ) (p : List ℕ) → escaped r (b ∷ p) ≡ b ∷ (fourMore r b ++ escaped (runWith r b) p)

@@ -29,6 +29,11 @@ unfoldable pub escaped : ℕ → List ℕ → List ℕ
 escaped n [] = []
 escaped n (b ∷ bs) = b ∷ (fourMore n b ++ escaped (runWith n b) bs)
 
+-- the 1b of a run that stand behind these bytes, since its last fourth one; n of the run stand before them
+unfoldable pub runBehind : ℕ → List ℕ → ℕ
+runBehind n [] = n
+runBehind n (b ∷ bs) = runBehind (runWith n b) bs
+
 -- bytes missing to a multiple of 4
 abbrev pub missing : ℕ → ℕ
 missing n = (4 - n % 4) % 4

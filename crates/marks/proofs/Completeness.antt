@@ -9,13 +9,14 @@ use lib.Dec.{eqb, leb}
 use borrow.Author.Tests.{le-leb}
 use Rattle.frame.specs.Frame.{Sound, startSeq, closed, framed}
 use Rattle.frame.proofs.Cases.{by-le}
-use Rattle.decoder.specs.Push.{Setup, Mem, State, search, body, escape, done, silent, discarded, memory, Out, says, put, store, step, begun, noticed, fresh}
+use Rattle.decoder.specs.Push.{sized, Mem, State, search, body, escape, done, silent, discarded, memory, Out, says, put, store, step, begun, noticed, fresh}
 use Rattle.decoder.specs.Record.{Answer, nothing, refusal, numbered, setup, stateAs, stateOf, newRecord}
 use Rattle.decoder.specs.Run as R
 use Rattle.decoder.specs.Run.{Op}
 use Rattle.decoder.proofs.States.{runState, actState, answerState}
 use Rattle.decoder.specs.declared.DecodeState.{DecodeState}
 use Rattle.decoder.specs.declared.Decoder.{Decoder}
+use Rattle.decoder.specs.declared.Setup.{Setup}
 use Rattle.decoder.proofs.Faithful.{Fit}
 use Rattle.decoder.proofs.Runs.{run-is, acts, new-fit}
 use Rattle.marks.specs.Decoders.{Gave, ours, answers, behindOf, frameSays}
@@ -107,7 +108,7 @@ module _ (C : Setup) (noise raw : ℕ) (frame P : List ℕ) (s : Sound frame P) 
 
   lacks : C .capacity < length (s .D) + 4 → NoRoom noise (runState C (search 0 noise raw) (map R.push frame))
   lacks small =
-      let B : Setup = record { capacity = length (s .D) + 4 } in
+      let B : Setup = sized (length (s .D) + 4) in
       let r = framed-runs B (s .D) (s .p) (s .aligned) (s .small) (s .within) (omega arith) in
       lacks-at (r .l) (r .z) (s .whole ∙ r .shape) (stops C B (r .z) (omega arith) (r .ends .quietly) (r .ends .full C small))
 
@@ -145,9 +146,9 @@ completeness C d m noise h frame P s =
     )
 
 -- a new decoder is such a search
-pub new-searches : (C : Setup) (m : List ℕ) → length m ≡ C .capacity → C .capacity ≤ 1048576 → OurSearch C (newRecord (C .capacity)) m 0
+pub new-searches : (C : Setup) (m : List ℕ) → length m ≡ C .capacity → C .capacity ≤ 1048576 → OurSearch C (newRecord C) m 0
 new-searches C m l le =
-    let f = new-fit (C .capacity) m l le in
+    let f = new-fit C m l le in
     record { searches = searching refl; good = f .state; lent = f .buffer; setup′ = refl }
 
 -- and so is what operations leave, wherever nothing is matched
@@ -169,4 +170,4 @@ behind-searches C (p ∷ os) d m o noise f e u =
 pub reached-searches : (C : Setup) (m : List ℕ) → length m ≡ C .capacity → C .capacity ≤ 1048576 → (os : List Op) (o : Op) (noise : ℕ)
     → let a : Gave Decoder = behindOf ours (ours .new C) m os o in
     Unmatched (a .decoder .state) noise → OurSearch C (a .decoder) (a .memory) noise
-reached-searches C m l le os o noise u = behind-searches C os (newRecord (C .capacity)) m o noise (new-fit (C .capacity) m l le) refl u
+reached-searches C m l le os o noise u = behind-searches C os (newRecord C) m o noise (new-fit C m l le) refl u

@@ -12,9 +12,10 @@ use Rattle.frame.specs.Frame.{Sound, escaped, closed, frameOf, framed}
 use Rattle.encoder.specs.Encode.{encodeTo}
 use Rattle.encoder.specs.Encoder.{NextAnswer, byte, finished}
 use Rattle.encoder.specs.Encoder as N
-use Rattle.decoder.specs.Push.{Setup, searching, store, same, finish, judge, step, finalized}
+use Rattle.decoder.specs.Push.{sized, searching, store, same, finish, judge, step, finalized}
 use Rattle.decoder.specs.Record.{Answer, nothing, payload, count, refusal, wrote, badDecoder, wrongBuffer, pushed, pushRecord, finalizeRecord, newRecord, hasPayload, payloadRecord}
 use Rattle.decoder.specs.Run.{push, act}
+use Rattle.decoder.specs.declared.Setup.{Setup}
 use Rattle.refusals.specs.Read.{then, guard, need, byteAt, spanAt}
 use Rattle.tlf.specs.Lengths.{tlfAt, lengthFrom, lessOwn, listOfAt}
 use Rattle.numbers.specs.Numbers.{number, bytesAt, rawFrom, rawAt, unsignedAt, signedOf, signedAt}
@@ -60,7 +61,7 @@ codeOf (unsigned r) = 0
 
 -- capacity 8, its thirteen zero bytes, and B1's payload: the eighth byte's answer is at place 20, the last one's at 32
 abbrev C : Setup
-C = record { capacity = 8 }
+C = sized 8
 
 abbrev zeros : List ℕ
 zeros = replicate 8 0
@@ -109,7 +110,7 @@ sound1 = record { D = payload1; p = 0; whole = refl; aligned = refl; small = ome
 idle-mark2 : Completeness idle OurSearch → ⊥
 unfolding codeAt code answers sound1
 idle-mark2 h =
-    let e = h C (newRecord 8) zeros 0 (new-searches C zeros refl (omega arith)) frame1 payload1 sound1 .0 (omega arith) in
+    let e = h C (newRecord C) zeros 0 (new-searches C zeros refl (omega arith)) frame1 payload1 sound1 .0 (omega arith) in
     let z : _≡_ {A = ℕ} 0 1018 = ap (codeAt 19) e in
     omega arith
 

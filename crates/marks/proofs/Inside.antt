@@ -1,14 +1,14 @@
 -- What a decoder in a frame has kept of the bytes since the frame began.
 use mathlib.Core.Path.{_≡_, refl, ap, sym, _∙_}
 use mathlib.Core.List.{List, [], _∷_, _++_, append-assoc, append-nil}
-use Prim.Native.Nat.{ℕ, suc, _+_, _-_, _≤_}
+use Prim.Native.Nat.{ℕ, suc, _≤_}
 use native.Mathlib.Omega.{arith}
-use lib.ListN.{length, replicate, drop, take, length-append}
-use lib.Seq.{take-append-le, take-at, drop-append-le}
-use Rattle.crc_x25.specs.Crc.{register, finalXor}
+use lib.ListN.{length, replicate, drop, length-append}
+use lib.Seq.{drop-append-le}
+use Rattle.crc_x25.specs.Crc.{register}
 use Rattle.crc_x25.proofs.Laws.{register-append, register-none}
 use Rattle.frame.specs.Frame.{startSeq}
-use Rattle.decoder.specs.Push.{Mem, put, tick, computed}
+use Rattle.decoder.specs.Push.{Mem, put, tick}
 use Rattle.frame.proofs.Escapes.{replicate-snoc}
 
 -- r 1b wait; D is the data read, with those; h is all that was pushed since the frame began, its start included
@@ -34,16 +34,3 @@ module _ (r : ℕ) (m : Mem) (D h : List ℕ) (c : InsideFrame r m D h) where
     index = c .index;
     sum = rw (replicate-snoc, register-append _ (replicate r 0x1b), c .sum, register-append 0xffff h);
   }
-
--- the CRC that an end sequence is compared with
-pub computed-is : (m : Mem) (S : List ℕ) (y z : ℕ) → m .stored ≡ S ++ y ∷ z ∷ [] → computed m ≡ finalXor (register (m .reg) (drop (m .idx) S))
-computed-is m S y z e = ap (λ (l : List ℕ). finalXor (register (m .reg) (drop (m .idx) l))) front
-  where
-    front : take (length (m .stored) - 2) (m .stored) ≡ S
-    front = rw e (take-at S (y ∷ z ∷ []) (length (S ++ y ∷ z ∷ []) - 2) (simp length-append (omega arith)))
-
--- the payload: the stored bytes without the end sequence and the pad bytes
-pub trimmed : (s D t : List ℕ) (p : ℕ) → s ≡ D ++ t → length t ≡ 4 → p ≤ length D → take (length s - 4 - p) s ≡ take (length D - p) D
-trimmed s D t p e f h =
-    let n : length (D ++ t) - 4 - p ≡ length D - p = simp length-append (omega arith) in
-    rw (e, n) (take-append-le (length D - p) D t (omega arith))

@@ -4,28 +4,33 @@ use mathlib.Core.Bool.{Bool, false}
 use mathlib.Core.List.{List, [], _∷_, _++_, map}
 use Prim.Native.Nat.{ℕ, zero, suc, _+_, _-_, _≤_, _<_}
 use native.Mathlib.Omega.{arith}
+use native.Mathlib.Nat.{sub-zero}
 use lib.ListN.{length, replicate, drop, length-append}
 use lib.Seq.{drop-append-le, take-at}
 use borrow.Author.Tests.{ne-eqb, le-leb}
 use lib.Dec.{ltb}
 use Rattle.frame.specs.Frame.{restartSeq, frameOf, closed}
-use Rattle.decoder.specs.Push.{Setup, Mem, State, search, body, escape, done, silent, memory, Out, searching, says, put, starts, step, noticed, fresh, stopped}
+use Rattle.decoder.specs.Push.{Mem, State, search, body, escape, done, silent, memory, Out, searching, says, put, starts, step, noticed, fresh, stopped}
 use Rattle.decoder.specs.Record.{Answer, nothing, payload, count, refusal, numbered, newRecord}
 use Rattle.decoder.specs.Run.{Op, push, finalize, reset, act, run}
 use Rattle.decoder.proofs.States.{runState, stateBehind, actState, answerState}
 use Rattle.decoder.specs.Saw as W
-use Rattle.decoder.specs.Saw.{Judged, is-data, restarts, good, bad, shifts, Saw, matched, began, missed, again, waits, opens, stores, full, reads, judges, full′}
+use Rattle.decoder.specs.Saw.{Judged, is-data, restarts, good, bad, shifts, Saw, sought, began, again, waits, opens, stores, full, reads, judges, full′}
 use Rattle.decoder.proofs.Saw.{saw}
 use Rattle.decoder.proofs.Faithful.{contents}
 use Rattle.decoder.proofs.Runs.{run-new}
 use Rattle.decoder.specs.declared.Decoder.{Decoder}
+use Rattle.decoder.specs.declared.Setup.{Setup}
+use Rattle.since.specs.Since.{grownSince, ReadSince}
+use Rattle.since.proofs.Kept.{kept, reads-fresh}
+use Rattle.since.proofs.Counts.{reads-counted}
 use Rattle.encoder.specs.Encode.{limit, encodeTo}
 use Rattle.marks.specs.Decoders.{ours, answers, countFrom, countSince, frameSays}
 use Rattle.marks.specs.Mark3.{Job, Suits, AllSuit, wroteFor, framesFor, restSays, Mark3}
 use Rattle.frame.proofs.Cases.{by-test}
 use Rattle.marks.proofs.RoundTrip.{round-trip}
 
--- ---- what holds of each state: n bytes were pushed since the last event
+-- ---- n bytes were pushed since the last event
 
 -- one more byte, with its answer
 abbrev tally : Answer → ℕ → ℕ
@@ -48,44 +53,68 @@ count-cons n (push b) (refusal k values) os more = refl
 count-cons n finalize a os more = refl
 count-cons n reset a os more = refl
 
+-- outside a frame they are the bytes since the search began
+abbrev Same : ℕ → List ℕ → State → Type 0
+Same n h (search k noise raw) = n ≡ length h
+Same n h (body r m) = Unit {0}
+Same n h (escape k m) = Unit {0}
+Same n h (done P) = n ≡ length h
+
+same-judged : (n : ℕ) (h : List ℕ) (b : ℕ) (m : Mem) (four : List ℕ) (o : Out) → Judged m four o → Same (tally (numbered (o .event)) n) (grownSince (numbered (o .event)) h b) (o .state)
+same-judged n h b m four o (is-data e) = tt
+same-judged n h b m four o (restarts e) = tt
+same-judged n h b m four o (good e p) = refl
+same-judged n h b m four o (bad e p) = refl
+same-judged n h b m four o (shifts a e lo hi t) = tt
+same-judged n h b m four o (W.unknown w x y z) = refl
+
+same-saw : (C : Setup) (n : ℕ) (h : List ℕ) (s : State) (b : ℕ) (o : Out) → Same n h s → Saw C s b o → Same (tally (numbered (o .event)) n) (grownSince (numbered (o .event)) h b) (o .state)
+same-saw C n h s b o e (sought k f ne) = simp length-append (omega arith)
+same-saw C n h s b o e (began f) = tt
+same-saw C n h s b o e (again w) = same-saw C n h fresh b o e w
+same-saw C n h s b o e (waits f ne) = tt
+same-saw C n h s b o e (opens f g) = tt
+same-saw C n h s b o e (stores ne fit) = tt
+same-saw C n h s b o e (full ne f) = refl
+same-saw C n h s b o e (reads fit lt) = tt
+same-saw C n h s b o e (judges {m = m} fit ge j) = same-judged n h b (put m (b ∷ [])) _ o j
+same-saw C n h s b o e (full′ f) = refl
+
+-- what is known behind any operations
+record Heard (C : Setup) (n : ℕ) (s : State) : Type 0 where
+  since : List ℕ
+  reads′ : ReadSince C since s
+  same′ : Same n since s
+
+heard-fresh : (C : Setup) → Heard C 0 fresh
+heard-fresh C = record { since = []; reads′ = reads-fresh C; same′ = refl }
+
+heard-act : (C : Setup) (n : ℕ) (s : State) (o : Op) → Heard C n s → Heard C (tallyOp o (answerState C s o) n) (actState C s o)
+unfolding actState answerState
+heard-act C n s (push b) k =
+    record {
+      since = grownSince (numbered ((step C s b) .event)) (k .since) b;
+      reads′ = kept C (k .since) s b (k .reads′) .reads;
+      same′ = same-saw C n (k .since) s b (step C s b) (k .same′) (saw C s b);
+    }
+heard-act C n s finalize k = heard-fresh C
+heard-act C n s reset k = heard-fresh C
+
+-- of which mark 3 needs
 abbrev Ok : Setup → ℕ → State → Type 0
 Ok C n (search k noise raw) = (k ≤ n) × (noise ≡ stopped (n - k))
 Ok C n (body r m) = length (m .stored) ≤ C .capacity
 Ok C n (escape k m) = length (m .stored) ≤ C .capacity
 Ok C n (done P) = n ≡ 0
 
-ok-fresh : (C : Setup) → Ok C 0 fresh
-ok-fresh C = (omega arith, refl)
-
-ok-judged : (C : Setup) (n : ℕ) (m : Mem) (four : List ℕ) (o : Out) → length (m .stored) ≤ C .capacity → Judged m four o → Ok C (tally (numbered (o .event)) n) (o .state)
-ok-judged C n m four o fit (is-data e) = fit
-ok-judged C n m four o fit (restarts e) = omega arith
-ok-judged C n m four o fit (good e h) = refl
-ok-judged C n m four o fit (bad e h) = ok-fresh C
-ok-judged C n m four o fit (shifts a e lo hi t) = fit
-ok-judged C n m four o fit (W.unknown a b c d) = ok-fresh C
-
-ok-saw : (C : Setup) (n : ℕ) (s : State) (b : ℕ) (o : Out) → Ok C n s → Saw C s b o → Ok C (tally (numbered (o .event)) n) (o .state)
-ok-saw C n s b o ok (matched t ne) = omega arith
-ok-saw C n s b o ok (began t e) = omega arith
-ok-saw C n s b o ok (missed t) = omega arith
-ok-saw C n s b o ok (again w) = ok-saw C n fresh b o (omega arith) w
-ok-saw C n s b o ok (waits e ne) = ok
-ok-saw C n s b o ok (opens e f) = ok
-ok-saw C n s b o ok (stores {m = m} ne fit) = rw (length-append (m .stored)) fit
-ok-saw C n s b o ok (full ne h) = ok-fresh C
-ok-saw C n s b o ok (reads fit lt) = simp length-append fit
-ok-saw C n s b o ok (judges {m = m} fit ge j) = ok-judged C n (put m (b ∷ [])) _ o (simp length-append fit) j
-ok-saw C n s b o ok (full′ h) = ok-fresh C
-
-ok-step : (C : Setup) (n b : ℕ) (s : State) → Ok C n s → Ok C (tally (numbered ((step C s b) .event)) n) ((step C s b) .state)
-ok-step C n b s ok = ok-saw C n s b (step C s b) ok (saw C s b)
-
-ok-act : (C : Setup) (n : ℕ) (s : State) (o : Op) → Ok C n s → Ok C (tallyOp o (answerState C s o) n) (actState C s o)
-unfolding actState answerState
-ok-act C n s (push b) ok = ok-step C n b s ok
-ok-act C n s finalize ok = ok-fresh C
-ok-act C n s reset ok = ok-fresh C
+ok : (C : Setup) (n : ℕ) (s : State) → Heard C n s → Ok C n s
+ok C n (search j noise raw) k =
+    let c = reads-counted C (k .since) (search j noise raw) (k .reads′) in
+    let e : n ≡ length (k .since) = k .same′ in
+    (omega arith, omega arith)
+ok C n (body r m) k = k .reads′ .fits
+ok C n (escape j m) k = k .reads′ .fits
+ok C n (done P) k = k .same′ ∙ ap length (k .reads′ .0)
 
 -- ---- a zero byte: in a frame the fill goes up, or the frame ends
 
@@ -131,9 +160,8 @@ InFrame (escape k m) = Unit {0}
 InFrame (done P) = ⊥
 
 moved : (C : Setup) (s : State) (b : ℕ) (o : Out) → b ≡ 0 → InFrame s → Saw C s b o → Moved C (length (contents s)) (o .state)
-moved C s b o z i (matched t ne) = absurd i
-moved C s b o z i (began t e) = absurd i
-moved C s b o z i (missed t) = absurd i
+moved C s b o z i (sought k e ne) = absurd i
+moved C s b o z i (began e) = absurd i
 moved C s b o z i (again w) = absurd i
 moved C s b o z i (waits e ne) = absurd (omega arith)
 moved C s b o z i (opens e f) = absurd (omega arith)
@@ -163,7 +191,7 @@ starts-zero n = by-test (λ (t : Bool). t ≡ false) (ltb n 4) false false (λ e
 
 search-zero : (n noise raw : ℕ) → searching n noise raw 0 ≡ says (search 0 (stopped (noise + suc n)) (stopped (suc raw))) silent
 unfolding searching
-search-zero n noise raw = rw (starts-zero n)
+search-zero n noise raw = rw (starts-zero n, ne-eqb 0 (suc n) (λ e. omega arith), sub-zero)
 
 near-step : (C : Setup) (k n : ℕ) (s : State) → Ok C n s → Near C (suc k) n s → Near C k (tally (numbered ((step C s 0) .event)) n) ((step C s 0) .state)
 unfolding step searching
@@ -184,18 +212,19 @@ searching-cons C s n o os t =
     let e = count-cons n o (answerState C s o) os (runState C (actState C s o) os) in
     record { raw = t .raw; state′ = rw e (t .state′); some = rw e (t .some) }
 
-settle : (C : Setup) (k n : ℕ) (s : State) → Ok C n s → Near C k n s → Searching C s n (replicate k (push 0))
+settle : (C : Setup) (k n : ℕ) (s : State) → Heard C n s → Near C k n s → Searching C s n (replicate k (push 0))
 unfolding stateBehind runState countFrom actState answerState
-settle C zero n (search j noise raw) ok h =
+settle C zero n (search j noise raw) b h =
+    let c = ok C n (search j noise raw) b in
     let e : j ≡ 0 = h .1 refl in
     let f : noise ≡ stopped n = omega arith in
     record { raw = raw; state′ = cc; some = omega arith }
-settle C zero n (body r m) ok h = absurd (omega arith)
-settle C zero n (escape j m) ok h = absurd (omega arith)
-settle C zero n (done P) ok h = absurd (omega arith)
-settle C (suc k) n s ok h =
+settle C zero n (body r m) b h = absurd (let c = ok C n (body r m) b in omega arith)
+settle C zero n (escape j m) b h = absurd (let c = ok C n (escape j m) b in omega arith)
+settle C zero n (done P) b h = absurd (omega arith)
+settle C (suc k) n s b h =
     searching-cons C s n (push 0) (replicate k (push 0))
-    (settle C k (tally (numbered ((step C s 0) .event)) n) ((step C s 0) .state) (ok-step C n 0 s ok) (near-step C k n s ok h))
+    (settle C k (tally (numbered ((step C s 0) .event)) n) ((step C s 0) .state) (heard-act C n s (push 0) b) (near-step C k n s (ok C n s b) h))
 
 near : (C : Setup) (n : ℕ) (s : State) → Ok C n s → Near C (C .capacity + 5) n s
 near C n (search j noise raw) ok = (omega arith, λ e. absurd (omega arith))
@@ -204,11 +233,11 @@ near C n (escape j m) ok = omega arith
 near C n (done P) ok = omega arith
 
 -- whatever was pushed, finalized and reset: its capacity + 5 zero bytes more, and the decoder searches
-recovers : (C : Setup) (before : List Op) (s : State) (n : ℕ) → Ok C n s → Searching C s n (before ++ replicate (C .capacity + 5) (push 0))
-recovers C [] s n ok = settle C (C .capacity + 5) n s ok (near C n s ok)
-recovers C (o ∷ os) s n ok =
+recovers : (C : Setup) (before : List Op) (s : State) (n : ℕ) → Heard C n s → Searching C s n (before ++ replicate (C .capacity + 5) (push 0))
+recovers C [] s n k = settle C (C .capacity + 5) n s k (near C n s (ok C n s k))
+recovers C (o ∷ os) s n k =
     searching-cons C s n o (os ++ replicate (C .capacity + 5) (push 0))
-    (recovers C os (actState C s o) (tallyOp o (answerState C s o) n) (ok-act C n s o ok))
+    (recovers C os (actState C s o) (tallyOp o (answerState C s o) n) (heard-act C n s o k))
 
 -- ---- several frames
 
@@ -275,7 +304,7 @@ answers-run [] d m = refl
 answers-run (o ∷ os) d m = ap (λ (l : List Answer). act d m o .answer ∷ l) (answers-run os (act d m o .decoder) (act d m o .memory))
 
 pub answers-new : (C : Setup) (m : List ℕ) (os : List Op) → length m ≡ C .capacity → C .capacity ≤ 1048576 → answers ours (ours .new C) m os ≡ runState C fresh os
-answers-new C m os l le = answers-run os (newRecord (C .capacity)) m ∙ run-new (C .capacity) m os l le
+answers-new C m os l le = answers-run os (newRecord C) m ∙ run-new C m os l le
 
 pub mark3 : Mark3 ours encodeTo
 mark3 C m l le before j js fit =
@@ -283,7 +312,7 @@ mark3 C m l le before j js fit =
     let fs : List Op = map push (framesFor encodeTo (j ∷ js)) in
     let heard : List Answer = answers ours (ours .new C) m os in
     let same : heard ≡ runState C fresh os = answers-new C m os l le in
-    let t : Searching C fresh 0 os = recovers C before fresh 0 (ok-fresh C) in
+    let t : Searching C fresh 0 os = recovers C before fresh 0 (heard-fresh C) in
     answers-new C m (os ++ fs) l le ∙ run-append C os fs fresh
     ∙ ap (λ (s : State). runState C fresh os ++ runState C s fs) (t .state′)
     ∙ ap (λ (l : List Answer). runState C fresh os ++ l) (first-says C le (countFrom 0 os (runState C fresh os)) (t .raw) j js (t .some) fit)

@@ -9,17 +9,19 @@ use lib.Seq.{take-at, drop-append-seam}
 use borrow.Author.Tests.{eq-eqb, le-leb, lt-leb}
 use Rattle.crc_x25.specs.Crc.{register, finalXor, crcOf}
 use Rattle.crc_x25.proofs.Laws.{register-append, register-none, crc-is}
-use Rattle.frame.specs.Frame.{Sound, missing, escSeq, startSeq, escaped, closed, framed, frameOf}
-use Rattle.decoder.specs.Push.{Setup, Mem, State, search, body, escape, done, silent, paysOut, Out, begun, searching, says, put, tick, opened, store, same, judge, finish, computed, step, noticed, fresh, memory}
+use Rattle.frame.specs.Frame.{Sound, missing, escSeq, startSeq, escaped, closed, framed, frameOf, runBehind}
+use Rattle.decoder.specs.Push.{Mem, State, search, body, escape, done, silent, paysOut, Out, begun, searching, says, put, tick, opened, store, same, judge, finish, computed, step, noticed, fresh, memory}
 use Rattle.decoder.specs.Record.{Answer, nothing, payload, numbered}
 use Rattle.decoder.specs.Run as R
 use Rattle.decoder.specs.Run.{Op}
 use Rattle.decoder.proofs.States.{runState, actState, answerState}
+use Rattle.decoder.specs.declared.Setup.{Setup}
 use Rattle.marks.specs.Decoders.{frameSays}
 use Rattle.frame.proofs.Cases.{either}
-use Rattle.frame.proofs.Escapes.{runBehind, swap-escSeq, run-le, escaped-append, escaped-zeros, escaped-other, run-other, escaped-wait, run-wait}
+use Rattle.frame.proofs.Escapes.{swap-escSeq, run-le, escaped-append, escaped-zeros, escaped-other, run-other, escaped-wait, run-wait}
 use Rattle.marks.proofs.Rules.{Silent, stop, push, andThen, step-other, step-wait, step-open, step-read, step-judge, silent-run, nothings}
-use Rattle.marks.proofs.Inside.{InsideFrame, begins, inside-other, inside-wait, computed-is, trimmed}
+use Rattle.marks.proofs.Inside.{InsideFrame, begins, inside-other, inside-wait}
+use Rattle.since.proofs.Lists.{computed-is, trimmed}
 
 -- ---- the data
 

@@ -1,23 +1,21 @@
 -- What a push does, rule by rule, and runs of pushes that say nothing.
 use mathlib.Core.Path.{_≡_, refl, ap, _∙_}
 use mathlib.Core.List.{List, [], _∷_, _++_, append-assoc, map}
-use Prim.Native.Nat.{ℕ, suc, _+_, _-_, _≤_, _<_}
+use Prim.Native.Nat.{ℕ, suc, _+_, _≤_, _<_}
 use native.Mathlib.Omega.{arith}
-use lib.ListN.{length, replicate, drop, length-append, length-replicate}
-use lib.Seq.{drop-at}
+use lib.ListN.{length, replicate, length-append, length-replicate}
 use borrow.Author.Tests.{ne-eqb, le-leb, lt-ltb}
-use Rattle.decoder.specs.Push.{Setup, Mem, State, body, escape, silent, Out, says, put, tick, opened, store, judge, step}
+use Rattle.decoder.specs.Push.{Mem, State, body, escape, silent, Out, says, put, tick, opened, store, judge, step}
 use Rattle.decoder.specs.Record.{Answer, nothing, numbered}
 use Rattle.decoder.specs.Run as R
 use Rattle.decoder.specs.Run.{Op}
 use Rattle.decoder.proofs.States.{runState, actState, answerState}
+use Rattle.decoder.specs.declared.Setup.{Setup}
+use Rattle.since.proofs.Lists.{last-four}
 
 pub store-fits : (C : Setup) (m : Mem) (l : List ℕ) (k : Mem → Out) → length (m .stored) + length l ≤ C .capacity → store C m l k ≡ k (put m l)
 unfolding store
 store-fits C m l k h = rw (le-leb (length (m .stored) + length l) (C .capacity) h)
-
-pub last-four : (s S : List ℕ) (w x y z : ℕ) → s ≡ S ++ w ∷ x ∷ y ∷ z ∷ [] → drop (length s - 4) s ≡ w ∷ x ∷ y ∷ z ∷ []
-last-four s S w x y z e = rw e (drop-at S (w ∷ x ∷ y ∷ z ∷ []) (length (S ++ w ∷ x ∷ y ∷ z ∷ []) - 4) (simp length-append (omega arith)))
 
 module _ (C : Setup) (m : Mem) where
   pub step-other : (n b : ℕ) → (b ≡ 0x1b → ⊥) → length (m .stored) + suc n ≤ C .capacity → step C (body n m) b ≡ says (body 0 (put m (replicate n 0x1b ++ b ∷ []))) silent

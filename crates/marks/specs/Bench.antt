@@ -15,9 +15,10 @@ use Rattle.numbers.specs.Numbers.{unsignedAt, signedAt}
 use Rattle.octet_string.specs.Strings.{octetsAt}
 use Rattle.octet_string.specs.Optional.{optional}
 use Rattle.encoder.specs.Encode.{AfterEncode, afterEncode, length-is}
-use Rattle.decoder.specs.Push.{Setup}
+use Rattle.decoder.specs.Push.{sized}
 use Rattle.decoder.specs.Record.{Answer, nothing, payload, count, refusal}
 use Rattle.decoder.specs.Run.{push, finalize}
+use Rattle.decoder.specs.declared.Setup.{Setup}
 use Rattle.marks.specs.Decoders.{Machine, answers}
 use Rattle.marks.specs.Mark3.{Encode}
 
@@ -79,10 +80,6 @@ pub record Row : Type 0 where
 abbrev pub row : ℕ → Input → Outcome → Row
 row n i e = record { number = n; input = i; expected = e }
 
--- a decoder of this capacity
-abbrev pub holding : ℕ → Setup
-holding n = record { capacity = n }
-
 -- B1's payload
 abbrev pub payload1 : List ℕ
 payload1 = 0x12 ∷ 0x34 ∷ 0x56 ∷ 0x78 ∷ []
@@ -117,11 +114,11 @@ refusedAs number kind place = record { number = number; kind = kind; place = pla
 
 -- the rows that the fakes fall at, by name: B3, the payload at byte 20
 abbrev pub b3 : Row
-b3 = row 3 (decode (holding 8) frame1) (events (sheetSaid 20 (payload payload1) ∷ []))
+b3 = row 3 (decode (sized 8) frame1) (events (sheetSaid 20 (payload payload1) ∷ []))
 
 -- one byte of noise, then the payload
 abbrev pub b6 : Row
-b6 = row 6 (decode (holding 8) (0x00 ∷ frame1)) (events (sheetSaid 9 (refusal 6 (1 ∷ [])) ∷ sheetSaid 21 (payload payload1) ∷ []))
+b6 = row 6 (decode (sized 8) (0x00 ∷ frame1)) (events (sheetSaid 9 (refusal 6 (1 ∷ [])) ∷ sheetSaid 21 (payload payload1) ∷ []))
 
 -- two payloads encoded into an output of 20 bytes
 abbrev pub b1 : Row
@@ -136,12 +133,12 @@ sheet =
     b1
     ∷ b2
     ∷ b3
-    ∷ row 4 (decode (holding 7) frame1) (events (sheetSaid 20 (refusal 3 []) ∷ []))
-    ∷ row 5 (decode (holding 8) (0x1b ∷ frame1)) (events (sheetSaid 22 (refusal 6 (21 ∷ [])) ∷ []))
+    ∷ row 4 (decode (sized 7) frame1) (events (sheetSaid 20 (refusal 3 []) ∷ []))
+    ∷ row 5 (decode (sized 8) (0x1b ∷ frame1)) (events (sheetSaid 22 (refusal 6 (21 ∷ [])) ∷ []))
     ∷ b6
-    ∷ row 7 (decode (holding 8) twoStarts) (events (sheetSaid 18 (refusal 6 (10 ∷ [])) ∷ sheetSaid 30 (payload payload1) ∷ []))
-    ∷ row 8 (decode (holding 8) wrongEscape) (events (sheetSaid 16 (refusal 7 (0x02 ∷ 0x00 ∷ 0x00 ∷ 0x00 ∷ [])) ∷ []))
-    ∷ row 9 (decode (holding 8) spoilt1) (events (sheetSaid 20 (refusal 8 (0x7ab8 ∷ 0x7bb8 ∷ 0 ∷ 0 ∷ [])) ∷ []))
+    ∷ row 7 (decode (sized 8) twoStarts) (events (sheetSaid 18 (refusal 6 (10 ∷ [])) ∷ sheetSaid 30 (payload payload1) ∷ []))
+    ∷ row 8 (decode (sized 8) wrongEscape) (events (sheetSaid 16 (refusal 7 (0x02 ∷ 0x00 ∷ 0x00 ∷ 0x00 ∷ [])) ∷ []))
+    ∷ row 9 (decode (sized 8) spoilt1) (events (sheetSaid 20 (refusal 8 (0x7ab8 ∷ 0x7bb8 ∷ 0 ∷ 0 ∷ [])) ∷ []))
     ∷ row 10 (lengthField (0x07 ∷ [])) (stringOf 6 1)
     ∷ row 10 (lengthField (0x83 ∷ 0x02 ∷ [])) (stringOf 48 2)
     ∷ row 10 (optionalString (0x80 ∷ 0x02 ∷ [])) (string (got (some (record { start = 2; len = 0 })) 2))

@@ -2,11 +2,11 @@
 use mathlib.Core.List.{List, [], _∷_, _++_}
 use Prim.Native.Nat.{ℕ, suc, _-_}
 use lib.ListN.{length, replicate}
-use Rattle.decoder.specs.Push.{Setup}
 use Rattle.decoder.specs.Record.{Answer, nothing, payload, count, refusal, After, newRecord, payloadRecord}
 use Rattle.decoder.specs.Run as R
 use Rattle.decoder.specs.Run.{Op, push, finalize, reset}
 use Rattle.decoder.specs.declared.Decoder.{Decoder}
+use Rattle.decoder.specs.declared.Setup.{Setup}
 
 -- what a call gave: its answer, the decoder and the lent memory as they are then
 pub record Gave (S : Type 0) : Type 0 where
@@ -27,7 +27,7 @@ gave a = record { answer = a .answer; decoder = a .decoder; memory = a .memory }
 -- ours, by the definitions that the contracts of new, push_byte, finalize, reset and payload cite. An operation (`Op` of crate decoder) is a push of one byte, finalize or reset; `R.act` there takes the definition that it names:
 -- pushRecord, finalizeRecord or resetRecord, of which the last two leave the memory as it is
 abbrev pub ours : Machine Decoder
-ours = record { new = λ C. newRecord (C .capacity); act = λ d m o. gave (R.act d m o); payloadOf = payloadRecord }
+ours = record { new = newRecord; act = λ d m o. gave (R.act d m o); payloadOf = payloadRecord }
 
 -- ---- in use
 

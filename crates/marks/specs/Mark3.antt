@@ -6,9 +6,10 @@ use lib.ListN.{length, take, replicate}
 use Rattle.frame.specs.Frame.{frameOf, missing}
 use Rattle.encoder.specs.Encode.{AfterEncode, length-is}
 use Rattle.encoder.specs.Encode as E
-use Rattle.decoder.specs.Push.{Setup, stopped}
+use Rattle.decoder.specs.Push.{stopped}
 use Rattle.decoder.specs.Record.{Answer, nothing, refusal}
 use Rattle.decoder.specs.Run.{Op, push}
+use Rattle.decoder.specs.declared.Setup.{Setup}
 use Rattle.marks.specs.Decoders.{Machine, answers, countSince, frameSays}
 
 -- an encode: of a payload and the output that is lent, its answer and what it leaves in the output

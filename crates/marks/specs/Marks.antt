@@ -3,9 +3,9 @@ use mathlib.Core.Path.{_≡_}
 use mathlib.Core.List.{List}
 use Prim.Native.Nat.{ℕ, _≤_}
 use lib.ListN.{length}
-use Rattle.decoder.specs.Push.{Setup}
 use Rattle.decoder.specs.Run.{Op}
 use Rattle.decoder.specs.declared.Decoder.{Decoder}
+use Rattle.decoder.specs.declared.Setup.{Setup}
 use Rattle.marks.specs.Decided.{Views, Decided}
 use Rattle.marks.specs.Decoders.{Gave, ours, behindOf}
 use Rattle.marks.specs.Mark2.{Soundness, Completeness, Unmatched, OurSearch}

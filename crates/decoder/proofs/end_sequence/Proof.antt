@@ -39,6 +39,9 @@ update-requires c κs = search needs
 finalize-requires : tie.Need-finalize-requires
 finalize-requires c κs = search needs
 
+setup-of-requires : tie.Need-setup-of-requires
+setup-of-requires c κs = search needs
+
 add-judged-end : tie.Need-add-judged-end
 add-judged-end c = search needs
 
@@ -50,7 +53,7 @@ judged-end-requires c κs = search needs
 
 returns : tie.Need-returns
 unfolding endStep
-returns c = simp (c .judged-end .ensures, c .before .before .finalize .ensures, c .before .before .before .update .ensures, c .before .before .before .before .before .le16 .ensures)
+returns c = simp (c .judged-end .ensures, c .before .before .setup-of .ensures, c .before .before .before .finalize .ensures, c .before .before .before .before .update .ensures, c .before .before .before .before .before .before .le16 .ensures)
 
 pub end-sequence-spec : {M : Type 1} → statement M
 end-sequence-spec =
@@ -68,6 +71,7 @@ end-sequence-spec =
     part-update-end
     update-requires
     finalize-requires
+    setup-of-requires
     add-judged-end
     shared-slice-read-judged-end
     judged-end-requires

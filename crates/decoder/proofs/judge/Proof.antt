@@ -58,12 +58,15 @@ same-bytes-requires-2 c κs = search needs
 sub-ignored-bytes : tie.Need-sub-ignored-bytes
 sub-ignored-bytes c = search needs
 
+setup-of-requires : tie.Need-setup-of-requires
+setup-of-requires c κs = search needs
+
 begun-frame-requires : tie.Need-begun-frame-requires
 begun-frame-requires c κs = search needs
 
 returns-2 : tie.Need-returns-2
 unfolding judgeStep
-returns-2 c = simp (sym (simp add-sub-cancel-left at (c .before .before .before .before .before .before .before .same-bytes .ensures)), c .before .before .before .before .before .before .if1 .left, sym (simp add-sub-cancel-left at (c .before .before .before .same-bytes2 .ensures)), c .before .before .if2 .taken, c .begun-frame .ensures)
+returns-2 c = simp (sym (simp add-sub-cancel-left at (c .before .before .before .before .before .before .before .before .same-bytes .ensures)), c .before .before .before .before .before .before .before .if1 .left, sym (simp add-sub-cancel-left at (c .before .before .before .before .same-bytes2 .ensures)), c .before .before .before .if2 .taken, c .begun-frame .ensures, c .before .setup-of .ensures)
 
 shared-slice-read-if3 : tie.Need-shared-slice-read-if3
 shared-slice-read-if3 c = search needs
@@ -103,6 +106,7 @@ judge-spec =
     slice-aggregate-same-bytes-2
     same-bytes-requires-2
     sub-ignored-bytes
+    setup-of-requires
     begun-frame-requires
     returns-2
     shared-slice-read-if3

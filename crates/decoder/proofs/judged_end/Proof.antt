@@ -9,17 +9,20 @@ use Rattle.decoder.proofs.judged_end.Tie as tie
 is-sound-end-requires : tie.Need-is-sound-end-requires
 is-sound-end-requires c κs = search needs
 
-add-t8 : tie.Need-add-t8
-add-t8 c = search needs
+add-length : tie.Need-add-length
+add-length c = search needs
 
-sub-t9 : tie.Need-sub-t9
-sub-t9 c =
+sub-length : tie.Need-sub-length
+sub-length c =
     let a = c .before .before .args in
     omega (arith, sound-room (a .fill) (a .read-crc) (a .calculated-crc) (a .p) (sym (c .before .is-sound-end .ensures) ∙ c .if1 .taken))
 
+made-requires : tie.Need-made-requires
+made-requires c κs = search needs
+
 returns : tie.Need-returns
 unfolding verdict
-returns c = simp (sym (c .before .is-sound-end .ensures), c .if1 .taken)
+returns c = simp (c .made .ensures, sym (c .before .before .is-sound-end .ensures), c .before .if1 .taken)
 
 fresh-with-requires : tie.Need-fresh-with-requires
 fresh-with-requires c κs = search needs
@@ -30,4 +33,4 @@ returns-2 c = simp (c .fresh-with .ensures, sym (c .before .before .is-sound-end
 
 pub judged-end-spec : {M : Type 1} → statement M
 judged-end-spec =
-    tie.close (tie.spec is-sound-end-requires add-t8 sub-t9 returns fresh-with-requires returns-2)
+    tie.close (tie.spec is-sound-end-requires add-length sub-length made-requires returns fresh-with-requires returns-2)

@@ -15,18 +15,24 @@ part-update-end c = search needs
 update-requires : tie.Need-update-requires
 update-requires c κs = search needs
 
-one-more-requires : tie.Need-one-more-requires
-one-more-requires c κs = search needs
-
 slice-aggregate-update : tie.Need-slice-aggregate-update
 slice-aggregate-update c = search needs
 
 update-requires-2 : tie.Need-update-requires-2
 update-requires-2 c κs = search needs
 
+setup-of-requires : tie.Need-setup-of-requires
+setup-of-requires c κs = search needs
+
+one-more-requires : tie.Need-one-more-requires
+one-more-requires c κs = search needs
+
+made-requires : tie.Need-made-requires
+made-requires c κs = search needs
+
 returns : tie.Need-returns
 unfolding escapeAt
-returns c = simp (c .update2 .ensures, c .before .before .one-more .ensures, c .before .before .before .update .ensures)
+returns c = simp (c .made .ensures, c .before .one-more .ensures, c .before .before .setup-of .ensures, c .before .before .before .update2 .ensures, c .before .before .before .before .before .update .ensures)
 
 pub opened-spec : {M : Type 1} → statement M
 opened-spec =
@@ -36,7 +42,9 @@ opened-spec =
     part-update-start
     part-update-end
     update-requires
-    one-more-requires
     slice-aggregate-update
     update-requires-2
+    setup-of-requires
+    one-more-requires
+    made-requires
     returns)

@@ -44,34 +44,37 @@ returns : tie.Need-returns
 unfolding otherStep
 returns c = simp (sym (simp add-sub-cancel-left at (c .before .before .before .is-cut-end .ensures)), c .before .before .if1 .taken, c .quietly .ensures, c .before .in-state .ensures)
 
-shared-slice-read-t17 : tie.Need-shared-slice-read-t17
-shared-slice-read-t17 c = search needs
+setup-of-requires : tie.Need-setup-of-requires
+setup-of-requires c κs = search needs
+
+shared-slice-read-t18 : tie.Need-shared-slice-read-t18
+shared-slice-read-t18 c = search needs
 
 add-t7 : tie.Need-add-t7
 add-t7 c = search needs
 
-shared-slice-read-t19 : tie.Need-shared-slice-read-t19
-shared-slice-read-t19 c = search needs
+shared-slice-read-t20 : tie.Need-shared-slice-read-t20
+shared-slice-read-t20 c = search needs
 
 add-t8 : tie.Need-add-t8
 add-t8 c = search needs
 
-shared-slice-read-t21 : tie.Need-shared-slice-read-t21
-shared-slice-read-t21 c = search needs
+shared-slice-read-t22 : tie.Need-shared-slice-read-t22
+shared-slice-read-t22 c = search needs
 
-add-t22 : tie.Need-add-t22
-add-t22 c = search needs
+add-t23 : tie.Need-add-t23
+add-t23 c = search needs
 
-shared-slice-read-t24 : tie.Need-shared-slice-read-t24
-shared-slice-read-t24 c = search needs
+shared-slice-read-t25 : tie.Need-shared-slice-read-t25
+shared-slice-read-t25 c = search needs
 
 fresh-with-requires : tie.Need-fresh-with-requires
 fresh-with-requires c κs = search needs
 
 returns-2 : tie.Need-returns-2
 returns-2 c =
-    let a = c .before .before .before .before .before .before .before .before .before .args in
-    c .fresh-with .ensures ∙ other-refused (a .d) (now (a .buf)) (sym (simp add-sub-cancel-left at (c .before .before .before .before .before .before .is-cut-end .ensures)) ∙ c .before .before .before .before .before .if1 .left)
+    let a = c .before .before .before .before .before .before .before .before .before .before .args in
+    rw (c .fresh-with .ensures, c .before .before .before .before .before .setup-of .ensures) (other-refused (a .d) (now (a .buf)) (sym (simp add-sub-cancel-left at (c .before .before .before .before .before .before .before .is-cut-end .ensures)) ∙ c .before .before .before .before .before .before .if1 .left))
 
 pub other-escape-spec : {M : Type 1} → statement M
 other-escape-spec =
@@ -89,12 +92,13 @@ other-escape-spec =
     in-state-requires
     quietly-requires
     returns
-    shared-slice-read-t17
+    setup-of-requires
+    shared-slice-read-t18
     add-t7
-    shared-slice-read-t19
+    shared-slice-read-t20
     add-t8
-    shared-slice-read-t21
-    add-t22
-    shared-slice-read-t24
+    shared-slice-read-t22
+    add-t23
+    shared-slice-read-t25
     fresh-with-requires
     returns-2)

@@ -54,12 +54,15 @@ returns-3 : tie.Need-returns-3
 unfolding waitStep
 returns-3 c = simp (ne-eqb _ _ (c .before .before .before .before .before .before .before .if1 .left), run-length, lt-room-left _ _ _ (c .before .before .before .before .before .before .if3 .taken), c .before .before .before .before .put-run-and .ensures, c .quietly3 .ensures, c .before .stored-on .ensures)
 
+setup-of-requires : tie.Need-setup-of-requires
+setup-of-requires c κs = search needs
+
 fresh-with-requires : tie.Need-fresh-with-requires
 fresh-with-requires c κs = search needs
 
 returns-4 : tie.Need-returns-4
 unfolding waitStep
-returns-4 c = simp (ne-eqb _ _ (c .before .before .if1 .left), run-length, le-room-left _ _ _ (c .before .if3 .left), c .fresh-with .ensures)
+returns-4 c = simp (ne-eqb _ _ (c .before .before .before .if1 .left), run-length, le-room-left _ _ _ (c .before .before .if3 .left), c .fresh-with .ensures, c .before .setup-of .ensures)
 
 pub parsing-esc-chars-spec : {M : Type 1} → statement M
 parsing-esc-chars-spec =
@@ -80,5 +83,6 @@ parsing-esc-chars-spec =
     quietly-requires-3
     same-length-2
     returns-3
+    setup-of-requires
     fresh-with-requires
     returns-4)

@@ -39,12 +39,15 @@ returns-2 : tie.Need-returns-2
 unfolding escapeStep
 returns-2 c = simp (lt-room _ _ (c .before .before .before .before .if1 .taken), le-ltb _ _ (c .before .before .before .if2 .left), c .judge .ensures, c .before .before .stored-on2 .ensures)
 
+setup-of-requires : tie.Need-setup-of-requires
+setup-of-requires c κs = search needs
+
 fresh-with-requires : tie.Need-fresh-with-requires
 fresh-with-requires c κs = search needs
 
 returns-3 : tie.Need-returns-3
 unfolding escapeStep
-returns-3 c = simp (le-room _ _ (c .before .if1 .left), c .fresh-with .ensures)
+returns-3 c = simp (le-room _ _ (c .before .before .if1 .left), c .fresh-with .ensures, c .before .setup-of .ensures)
 
 pub parsing-esc-payload-spec : {M : Type 1} → statement M
 parsing-esc-payload-spec =
@@ -60,5 +63,6 @@ parsing-esc-payload-spec =
     judge-requires
     same-length-2
     returns-2
+    setup-of-requires
     fresh-with-requires
     returns-3)

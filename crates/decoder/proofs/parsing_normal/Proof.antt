@@ -31,12 +31,15 @@ returns-2 : tie.Need-returns-2
 unfolding normalStep
 returns-2 c = simp (ne-eqb _ _ (c .before .before .before .if1 .left), lt-room _ _ (c .before .before .if2 .taken), c .quietly2 .ensures, c .before .stored-on .ensures)
 
+setup-of-requires : tie.Need-setup-of-requires
+setup-of-requires c κs = search needs
+
 fresh-with-requires : tie.Need-fresh-with-requires
 fresh-with-requires c κs = search needs
 
 returns-3 : tie.Need-returns-3
 unfolding normalStep
-returns-3 c = simp (ne-eqb _ _ (c .before .before .if1 .left), le-room _ _ (c .before .if2 .left), c .fresh-with .ensures)
+returns-3 c = simp (ne-eqb _ _ (c .before .before .before .if1 .left), le-room _ _ (c .before .before .if2 .left), c .fresh-with .ensures, c .before .setup-of .ensures)
 
 pub parsing-normal-spec : {M : Type 1} → statement M
 parsing-normal-spec =
@@ -50,5 +53,6 @@ parsing-normal-spec =
     quietly-requires-2
     same-length
     returns-2
+    setup-of-requires
     fresh-with-requires
     returns-3)

@@ -4,7 +4,7 @@ use native.Mathlib.Omega.{arith}
 use denote.Ref.{now}
 use lib.ListN.{length}
 use Rattle.decoder.specs.Push.{searching}
-use Rattle.decoder.specs.Record.{setup}
+use Rattle.decoder.specs.Record.{setup, newRecord}
 use Rattle.decoder.specs.Cut.{code, cut, stepCut}
 use Rattle.decoder.specs.declared.Decoder.{Decoder}
 use Rattle.decoder.specs.declared.Pushed.{Pushed}
@@ -63,8 +63,11 @@ parsing-esc-payload-requires c κs = sane-escape (c .before .before .before .bef
 enum-told-2 : tie.Need-enum-told-2
 enum-told-2 c = search needs
 
-new-requires : tie.Need-new-requires
-new-requires c κs = search needs
+setup-of-requires : tie.Need-setup-of-requires
+setup-of-requires c κs = search needs
+
+fresh-requires : tie.Need-fresh-requires
+fresh-requires c κs = search needs
 
 looking-for-message-start-requires-2 : tie.Need-looking-for-message-start-requires-2
 looking-for-message-start-requires-2 c κs = search needs
@@ -109,10 +112,10 @@ returns-6 c =
 returns-7 : tie.Need-returns-7
 unfolding stepCut
 returns-7 c =
-    let a = c .before .before .before .before .before .before .before .before .before .args in
-    push-step (a .d) (now (a .buf)) (a .b) _ _ (sym (c .before .before .before .before .before .before .before .bad-decoder .ensures) ∙ c .before .before .before .before .before .before .if1 .left) (sym (c .before .before .before .before .before .wrong-buffer .ensures) ∙ c .before .before .before .before .if2 .left) (c .before .before .enum-told2 .given .1)
+    let a = c .before .before .before .before .before .before .before .before .before .before .args in
+    push-step (a .d) (now (a .buf)) (a .b) _ _ (sym (c .before .before .before .before .before .before .before .before .bad-decoder .ensures) ∙ c .before .before .before .before .before .before .before .if1 .left) (sym (c .before .before .before .before .before .before .wrong-buffer .ensures) ∙ c .before .before .before .before .before .if2 .left) (c .before .before .before .enum-told2 .given .1)
     (ap (λ (p : Pushed). cut p (now (a .buf)))
-    (c .looking-for-message-start2 .ensures ∙ ap (λ (d : Decoder). code (setup d) (searching 0 0 (d .«raw_msg_len») (a .b))) (c .before .new .ensures)))
+    (c .looking-for-message-start2 .ensures ∙ ap (λ (d : Decoder). code (setup d) (searching 0 0 (d .«raw_msg_len») (a .b))) (c .before .fresh .ensures ∙ ap newRecord (c .before .before .setup-of .ensures))))
 
 pub push-any-spec : {M : Type 1} → statement M
 push-any-spec =
@@ -131,7 +134,8 @@ push-any-spec =
     enum-known-s-3
     parsing-esc-payload-requires
     enum-told-2
-    new-requires
+    setup-of-requires
+    fresh-requires
     looking-for-message-start-requires-2
     returns-3
     same-length

@@ -5,7 +5,7 @@ use denote.Ref.{now}
 use lib.ListN.{length, drop}
 use Rattle.decoder.specs.declared.Decoder.{Decoder}
 use Rattle.decoder_slice.specs.Slice.{pushesFrom}
-use Rattle.decoder_slice.specs.Stretch.{stretchedIn}
+use Rattle.decoder.specs.Cut.{inState}
 use Rattle.decoder.specs.declared.DecodeState.the-variants.{LookingForMessageStart, ParsingNormal, ParsingEscChars, ParsingEscPayload}
 use Rattle.decoder.proofs.Valid.{sane, sane-search, sane-normal, sane-wait, sane-escape, right-buffer}
 use Rattle.decoder_slice.proofs.Runs as runs
@@ -93,15 +93,15 @@ put-judged-requires c κs =
 enum-told-2 : tie.Need-enum-told-2
 enum-told-2 c = search needs
 
-new-requires : tie.Need-new-requires
-new-requires c κs = search needs
+reset-requires : tie.Need-reset-requires
+reset-requires c κs = search needs
 
 search-more-requires-2 : tie.Need-search-more-requires-2
 search-more-requires-2 c κs =
-    let a = c .before .before .before .before .before .before .before .before .before .args in
+    let a = c .before .before .before .before .before .before .before .before .before .before .args in
     let inside : a .from ≤ length (now (a .chunk)) = search needs in
-    let wrong = sym (c .before .before .before .before .wrong-buffer .ensures) ∙ c .before .before .before .if2 .left in
-    let n = c .new .ensures in
+    let wrong = sym (c .before .before .before .before .before .wrong-buffer .ensures) ∙ c .before .before .before .before .if2 .left in
+    let n = runs.reset-fresh _ _ (c .before .reset .ensures) in
     let small = runs.right-capacity _ _ wrong in
     (ap (λ (x : Decoder). x .«crc_idx») n, ap (λ (x : Decoder). x .fill) n, subst (λ (x : Decoder). x .capacity ≤ 1048576) (sym n) small, search needs, inside, ap (λ (x : Decoder). x .crc) n)
 
@@ -137,16 +137,16 @@ returns-7 c =
 
 returns-8 : tie.Need-returns-8
 returns-8 c =
-    let a = c .before .before .before .before .before .before .before .before .before .before .args in
-    let bad = sym (c .before .before .before .before .before .before .before .bad-decoder .ensures) ∙ c .before .before .before .before .before .before .if1 .left in
-    let wrong = sym (c .before .before .before .before .before .wrong-buffer .ensures) ∙ c .before .before .before .before .if2 .left in
-    let n = c .before .new .ensures in
+    let a = c .before .before .before .before .before .before .before .before .before .before .before .args in
+    let bad = sym (c .before .before .before .before .before .before .before .before .bad-decoder .ensures) ∙ c .before .before .before .before .before .before .before .if1 .left in
+    let wrong = sym (c .before .before .before .before .before .before .wrong-buffer .ensures) ∙ c .before .before .before .before .before .if2 .left in
+    let n = runs.reset-fresh _ _ (c .before .before .reset .ensures) in
     let e = c .search-more2 .ensures in (
       e .0,
       e .1,
       e .2 (now (a .buf)) (right-buffer _ _ wrong .0 ∙ sym (ap (λ (x : Decoder). x .capacity) n))
-          ∙ ap (λ (x : Decoder). pushesFrom (a .from) (stretchedIn x (LookingForMessageStart 0 0)) (now (a .buf)) (drop (a .from) (now (a .chunk)))) n
-          ∙ runs.fresh-goes (a .d) (now (a .buf)) (now (a .chunk)) (a .from) (c .before .before .enum-told2 .given .1) bad wrong (c .before .before .before .before .before .before .before .before .before .before .pre),
+          ∙ ap (λ (x : Decoder). pushesFrom (a .from) (inState x (LookingForMessageStart 0 0)) (now (a .buf)) (drop (a .from) (now (a .chunk)))) n
+          ∙ runs.fresh-goes (a .d) (now (a .buf)) (now (a .chunk)) (a .from) (c .before .before .before .enum-told2 .given .1) bad wrong (c .before .before .before .before .before .before .before .before .before .before .before .pre),
     )
 
 pub ahead-spec : {M : Type 1} → statement M
@@ -167,7 +167,7 @@ ahead-spec =
     enum-known-s-3
     put-judged-requires
     enum-told-2
-    new-requires
+    reset-requires
     search-more-requires-2
     returns-4
     same-length

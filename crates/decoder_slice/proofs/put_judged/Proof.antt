@@ -10,13 +10,14 @@ use Rattle.decoder.specs.declared.Decoder.{Decoder}
 use Rattle.decoder.specs.declared.DecodeState.the-variants.{LookingForMessageStart, ParsingNormal, ParsingEscChars, ParsingEscPayload, Done}
 use Rattle.decoder.specs.Push.{stopped, starts}
 use Rattle.decoder_slice.specs.Slice.{saysNothing, pushesFrom}
-use Rattle.decoder_slice.specs.Stretch.{stretched, stretchedIn, Goes}
+use Rattle.decoder.specs.Cut.{movedBy, inState}
+use Rattle.decoder_slice.specs.Stretch.{Goes}
 use Rattle.decoder_slice.proofs.Runs as runs
 use Rattle.decoder_slice.proofs.put_judged.Statement.{statement}
 use Rattle.decoder_slice.proofs.put_judged.Tie as tie
 
 abbrev Inv-loop : tie.InvT-loop
-Inv-loop d n buf₀ chunk from at room left fits limit k₀ buf k = (k ≤ limit) × (at ≡ d .fill) × (from + limit ≤ length chunk) × (d .fill + limit ≤ length buf₀) × (n + limit ≤ 3) × (length buf ≡ length buf₀) × Goes (stretched d k k (ParsingEscPayload (n + k))) (from + k) buf from (stretchedIn d (ParsingEscPayload n)) buf₀ chunk
+Inv-loop d n buf₀ chunk from at room left fits limit k₀ buf k = (k ≤ limit) × (at ≡ d .fill) × (from + limit ≤ length chunk) × (d .fill + limit ≤ length buf₀) × (n + limit ≤ 3) × (length buf ≡ length buf₀) × Goes (movedBy d k k (ParsingEscPayload (n + k))) (from + k) buf from (inState d (ParsingEscPayload n)) buf₀ chunk
 
 abbrev μ-loop : tie.MeasureT-loop
 μ-loop d n buf₀ chunk from at room left fits limit k₀ buf k = limit - k
@@ -81,8 +82,8 @@ cast-t14 c = search needs
 add-t21 : tie.Need-add-t21 Inv-loop μ-loop
 add-t21 c = search needs
 
-stretched-on-requires : tie.Need-stretched-on-requires Inv-loop μ-loop
-stretched-on-requires c κs = search needs
+moved-by-requires : tie.Need-moved-by-requires Inv-loop μ-loop
+moved-by-requires c κs = search needs
 
 add-t13 : tie.Need-add-t13 Inv-loop μ-loop
 add-t13 c = search needs
@@ -94,7 +95,7 @@ returns : tie.Need-returns Inv-loop μ-loop
 returns c =
     let l = c .before .before .loop in
     let a = c .before .before .before .before .before .before .before .args in
-    (search needs, search needs, ap (λ (x : Decoder). pushesFrom (a .from + l .k) x (l .buf) (drop (a .from + l .k) (now (a .chunk)))) (c .stretched-on .ensures) ∙ l .inv .6)
+    (search needs, search needs, ap (λ (x : Decoder). pushesFrom (a .from + l .k) x (l .buf) (drop (a .from + l .k) (now (a .chunk)))) (c .moved-by .ensures) ∙ l .inv .6)
 
 pub put-judged-spec : {M : Type 1} → statement M
 put-judged-spec =
@@ -118,7 +119,7 @@ put-judged-spec =
     loop-again
     cast-t14
     add-t21
-    stretched-on-requires
+    moved-by-requires
     add-t13
     same-length
     returns)

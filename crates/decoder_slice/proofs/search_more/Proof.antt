@@ -1,23 +1,24 @@
 use borrow.Author.Needs.{needs}
 use Prim.Native.Nat.{ℕ, _+_, _-_, _<_, _≤_}
 use mathlib.Core.List.{List}
-use mathlib.Core.Path.{_≡_, refl, sym, ap, _∙_}
-use mathlib.Core.Bool.{true, false}
+use mathlib.Core.Path.{_≡_, sym, ap, _∙_}
 use native.Mathlib.Omega.{arith}
 use denote.Ref.{now}
-use lib.ListN.{length, drop}
+use lib.ListN.{length, drop, getD}
 use Rattle.decoder.specs.declared.Decoder.{Decoder}
 use Rattle.decoder.specs.declared.DecodeState.the-variants.{LookingForMessageStart}
 use Rattle.decoder.specs.Push.{stopped}
+use Rattle.decoder.proofs.Search.{matched-more, matched-none}
 use Rattle.decoder_slice.specs.Slice.{pushesFrom}
-use Rattle.decoder_slice.specs.Stretch.{stretched, stretchedIn, Goes}
+use Rattle.decoder.specs.Cut.{movedBy, inState}
+use Rattle.decoder_slice.specs.Stretch.{Goes}
 use Rattle.decoder_slice.proofs.Runs as runs
 use Rattle.decoder_slice.proofs.Skips as skips
 use Rattle.decoder_slice.proofs.search_more.Statement.{statement}
 use Rattle.decoder_slice.proofs.search_more.Tie as tie
 
 abbrev Inv-loop : tie.InvT-loop
-Inv-loop d noise n chunk from left k₀ q₀ k q = (k ≤ left) × (left ≡ length chunk - from) × (from ≤ length chunk) × (q ≤ n + k) × (q < 8) × ((m : List ℕ) → length m ≡ d .capacity → Goes (stretched d 0 k (LookingForMessageStart q (stopped (noise + (n + k - q))))) (from + k) m from (stretchedIn d (LookingForMessageStart n noise)) m chunk)
+Inv-loop d noise n chunk from left k₀ q₀ k q = (k ≤ left) × (left ≡ length chunk - from) × (from ≤ length chunk) × (q ≤ n + k) × (q < 8) × ((m : List ℕ) → length m ≡ d .capacity → Goes (movedBy d 0 k (LookingForMessageStart q (stopped (noise + (n + k - q))))) (from + k) m from (inState d (LookingForMessageStart n noise)) m chunk)
 
 abbrev μ-loop : tie.MeasureT-loop
 μ-loop d noise n chunk from left k₀ q₀ k q = left - k
@@ -65,7 +66,7 @@ loop-again c =
     let said = sym (c .before .before .before .before .matching .ensures) in
     let small : a .d .capacity ≤ 1048576 = search needs in
     let room : a .from + l .k < length s = search needs in
-    let z = runs.search-next (a .d) (a .noise) (a .n) (l .q) (l .q + 1) s (a .from) (l .k) true (search needs) (search needs) (search needs) small room (l .inv .4) (l .inv .3) (said ∙ c .before .before .before .if1 .taken) (runs.not-seven (l .q) (c .before .before .if2 .left)) refl in
+    let z = runs.search-next (a .d) (a .noise) (a .n) (l .q) (l .q + 1) s (a .from) (l .k) (search needs) (search needs) (search needs) small room (l .inv .4) (l .inv .3) (matched-more (l .q) (getD s (a .from + l .k) 0) (said ∙ c .before .before .before .if1 .taken)) (λ w. c .before .before .if2 .left (omega arith)) in
     let e = c .fives-end .ensures in (
       search needs,
       search needs,
@@ -86,7 +87,7 @@ loop-again-2 c =
     let said = sym (c .before .before .before .matching .ensures) in
     let small : a .d .capacity ≤ 1048576 = search needs in
     let room : a .from + l .k < length s = search needs in
-    let z = runs.search-next (a .d) (a .noise) (a .n) (l .q) (l .q + 1) s (a .from) (l .k) true (search needs) (search needs) (search needs) small room (l .inv .4) (l .inv .3) (said ∙ c .before .before .if1 .taken) (runs.not-seven (l .q) (c .before .if2 .left)) refl in
+    let z = runs.search-next (a .d) (a .noise) (a .n) (l .q) (l .q + 1) s (a .from) (l .k) (search needs) (search needs) (search needs) small room (l .inv .4) (l .inv .3) (matched-more (l .q) (getD s (a .from + l .k) 0) (said ∙ c .before .before .if1 .taken)) (λ w. c .before .if2 .left (omega arith)) in
     (search needs, search needs, search needs, z .0, z .1, λ m h. z .2 m h ∙ l .inv .5 m h)
 
 add-plain-end : tie.Need-add-plain-end Inv-loop μ-loop
@@ -112,7 +113,7 @@ loop-again-3 c =
     let said = sym (c .before .before .matching .ensures) in
     let small : a .d .capacity ≤ 1048576 = search needs in
     let room : a .from + l .k < length s = search needs in
-    let z = runs.search-next (a .d) (a .noise) (a .n) (l .q) (0) s (a .from) (l .k) false (search needs) (search needs) (search needs) small room (l .inv .4) (l .inv .3) (said ∙ c .before .if1 .left) (runs.no-match (l .q)) refl in
+    let z = runs.search-next (a .d) (a .noise) (a .n) (l .q) 0 s (a .from) (l .k) (search needs) (search needs) (search needs) small room (l .inv .4) (l .inv .3) (matched-none (l .q) (getD s (a .from + l .k) 0) (said ∙ c .before .if1 .left)) (λ w. omega arith) in
     let e = c .plain-end .ensures in (
       search needs,
       search needs,
@@ -134,8 +135,8 @@ sub-more c = search needs
 more-requires : tie.Need-more-requires Inv-loop μ-loop
 more-requires c κs = search needs
 
-stretched-on-requires : tie.Need-stretched-on-requires Inv-loop μ-loop
-stretched-on-requires c κs = search needs
+moved-by-requires : tie.Need-moved-by-requires Inv-loop μ-loop
+moved-by-requires c κs = search needs
 
 add-t11 : tie.Need-add-t11 Inv-loop μ-loop
 add-t11 c = search needs
@@ -144,7 +145,7 @@ returns : tie.Need-returns Inv-loop μ-loop
 returns c =
     let l = c .before .before .before .loop in
     let a = c .before .before .before .before .before .args in
-    let e = c .stretched-on .ensures ∙ ap (λ (x : ℕ). stretched (a .d) 0 (l .k) (LookingForMessageStart (l .q) x)) (c .before .more .ensures) in
+    let e = c .moved-by .ensures ∙ ap (λ (x : ℕ). movedBy (a .d) 0 (l .k) (LookingForMessageStart (l .q) x)) (c .before .more .ensures) in
     (search needs, search needs, λ m h. ap (λ (x : Decoder). pushesFrom (a .from + l .k) x m (drop (a .from + l .k) (now (a .chunk)))) e ∙ l .inv .5 m h)
 
 pub search-more-spec : {M : Type 1} → statement M
@@ -177,6 +178,6 @@ search-more-spec =
     cast-more
     sub-more
     more-requires
-    stretched-on-requires
+    moved-by-requires
     add-t11
     returns)

@@ -7,13 +7,14 @@ use lib.ListN.{length, drop, length-set}
 use Rattle.decoder.specs.declared.Decoder.{Decoder}
 use Rattle.decoder.specs.declared.DecodeState.the-variants.{ParsingNormal}
 use Rattle.decoder_slice.specs.Slice.{pushesFrom}
-use Rattle.decoder_slice.specs.Stretch.{stretched, stretchedIn, Goes, Plain}
+use Rattle.decoder.specs.Cut.{movedBy, inState}
+use Rattle.decoder_slice.specs.Stretch.{Goes, Plain}
 use Rattle.decoder_slice.proofs.Runs as runs
 use Rattle.decoder_slice.proofs.store_plain.Statement.{statement}
 use Rattle.decoder_slice.proofs.store_plain.Tie as tie
 
 abbrev Inv-loop : tie.InvT-loop
-Inv-loop d buf₀ chunk from at room left limit to all k₀ buf k = (k ≤ all) × (at ≡ d .fill) × (from + all ≤ length chunk) × (d .fill + all ≤ length buf₀) × (length buf ≡ length buf₀) × Goes (stretched d k k ParsingNormal) (from + k) buf from (stretchedIn d ParsingNormal) buf₀ chunk × Plain chunk from (from + all)
+Inv-loop d buf₀ chunk from at room left limit to all k₀ buf k = (k ≤ all) × (at ≡ d .fill) × (from + all ≤ length chunk) × (d .fill + all ≤ length buf₀) × (length buf ≡ length buf₀) × Goes (movedBy d k k ParsingNormal) (from + k) buf from (inState d ParsingNormal) buf₀ chunk × Plain chunk from (from + all)
 
 abbrev μ-loop : tie.MeasureT-loop
 μ-loop d buf₀ chunk from at room left limit to all k₀ buf k = all - k
@@ -73,8 +74,8 @@ loop-again c =
       l .inv .6,
     )
 
-stretched-on-requires : tie.Need-stretched-on-requires Inv-loop μ-loop
-stretched-on-requires c κs = search needs
+moved-by-requires : tie.Need-moved-by-requires Inv-loop μ-loop
+moved-by-requires c κs = search needs
 
 add-t13 : tie.Need-add-t13 Inv-loop μ-loop
 add-t13 c = search needs
@@ -86,7 +87,7 @@ returns : tie.Need-returns Inv-loop μ-loop
 returns c =
     let l = c .before .before .loop in
     let a = c .before .before .before .before .before .before .before .args in
-    (search needs, search needs, ap (λ (x : Decoder). pushesFrom (a .from + l .k) x (l .buf) (drop (a .from + l .k) (now (a .chunk)))) (c .stretched-on .ensures) ∙ l .inv .5)
+    (search needs, search needs, ap (λ (x : Decoder). pushesFrom (a .from + l .k) x (l .buf) (drop (a .from + l .k) (now (a .chunk)))) (c .moved-by .ensures) ∙ l .inv .5)
 
 pub store-plain-spec : {M : Type 1} → statement M
 store-plain-spec =
@@ -108,7 +109,7 @@ store-plain-spec =
     add-k
     loop-less
     loop-again
-    stretched-on-requires
+    moved-by-requires
     add-t13
     same-length
     returns)

@@ -10,7 +10,6 @@ use Rattle.decoder.specs.declared.Decoder.{Decoder}
 use Rattle.decoder.specs.declared.DecodeState.the-variants.{LookingForMessageStart, ParsingNormal, ParsingEscChars, ParsingEscPayload, Done}
 use Rattle.decoder.specs.Push.{stopped, starts}
 use Rattle.decoder_slice.specs.Slice.{saysNothing, pushesFrom}
-use Rattle.decoder_slice.specs.Stretch.{stretched, stretchedIn, Goes}
 use Rattle.decoder_slice.proofs.Runs as runs
 use Rattle.decoder_slice.proofs.until_event.Statement.{statement}
 use Rattle.decoder_slice.proofs.until_event.Tie as tie

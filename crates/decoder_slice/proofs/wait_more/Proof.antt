@@ -10,13 +10,14 @@ use Rattle.decoder.specs.declared.Decoder.{Decoder}
 use Rattle.decoder.specs.declared.DecodeState.the-variants.{LookingForMessageStart, ParsingNormal, ParsingEscChars, ParsingEscPayload, Done}
 use Rattle.decoder.specs.Push.{stopped, starts}
 use Rattle.decoder_slice.specs.Slice.{saysNothing, pushesFrom}
-use Rattle.decoder_slice.specs.Stretch.{stretched, stretchedIn, Goes}
+use Rattle.decoder.specs.Cut.{movedBy, inState}
+use Rattle.decoder_slice.specs.Stretch.{Goes}
 use Rattle.decoder_slice.proofs.Runs as runs
 use Rattle.decoder_slice.proofs.wait_more.Statement.{statement}
 use Rattle.decoder_slice.proofs.wait_more.Tie as tie
 
 abbrev Inv-loop : tie.InvT-loop
-Inv-loop d n chunk from left k₀ q₀ k q = (k ≤ left) × (left ≡ length chunk - from) × (from ≤ length chunk) × (q ≡ n + k) × (q ≤ 3) × ((m : List ℕ) → length m ≡ d .capacity → Goes (stretched d 0 k (ParsingEscChars q)) (from + k) m from (stretchedIn d (ParsingEscChars n)) m chunk)
+Inv-loop d n chunk from left k₀ q₀ k q = (k ≤ left) × (left ≡ length chunk - from) × (from ≤ length chunk) × (q ≡ n + k) × (q ≤ 3) × ((m : List ℕ) → length m ≡ d .capacity → Goes (movedBy d 0 k (ParsingEscChars q)) (from + k) m from (inState d (ParsingEscChars n)) m chunk)
 
 abbrev μ-loop : tie.MeasureT-loop
 μ-loop d n chunk from left k₀ q₀ k q = left - k
@@ -56,8 +57,8 @@ loop-again c =
       λ m h. runs.wait-next (a .d) (l .q) m (now (a .chunk)) (a .from) (l .k) (search needs) (search needs) (search needs) h (search needs) (search needs) (search needs) (search needs) (c .if2 .left) (c .before .before .if1 .left) ∙ l .inv .5 m h,
     )
 
-stretched-on-requires : tie.Need-stretched-on-requires Inv-loop μ-loop
-stretched-on-requires c κs = search needs
+moved-by-requires : tie.Need-moved-by-requires Inv-loop μ-loop
+moved-by-requires c κs = search needs
 
 add-t9 : tie.Need-add-t9 Inv-loop μ-loop
 add-t9 c = search needs
@@ -66,7 +67,7 @@ returns : tie.Need-returns Inv-loop μ-loop
 returns c =
     let l = c .before .before .loop in
     let a = c .before .before .before .before .args in
-    (search needs, search needs, λ m h. ap (λ (x : Decoder). pushesFrom (a .from + l .k) x m (drop (a .from + l .k) (now (a .chunk)))) (c .stretched-on .ensures) ∙ l .inv .5 m h)
+    (search needs, search needs, λ m h. ap (λ (x : Decoder). pushesFrom (a .from + l .k) x m (drop (a .from + l .k) (now (a .chunk)))) (c .moved-by .ensures) ∙ l .inv .5 m h)
 
 pub wait-more-spec : {M : Type 1} → statement M
 wait-more-spec =
@@ -82,6 +83,6 @@ wait-more-spec =
     add-k
     loop-less
     loop-again
-    stretched-on-requires
+    moved-by-requires
     add-t9
     returns)

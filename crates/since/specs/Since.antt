@@ -1,0 +1,107 @@
+-- claim: which bytes a reached decoder has read since its search or frame began, what they are in each state, and what an event says of them.
+use mathlib.Core.Path.{_≡_}
+use mathlib.Core.Bool.{Bool, false, cond}
+use mathlib.Core.List.{List, [], _∷_, _++_}
+use Prim.Native.Nat.{ℕ, _-_, _≤_, _<_}
+use lib.ListN.{length, take, drop, replicate}
+use lib.Dec.{eqb}
+use Rattle.crc_x25.specs.Crc.{start, register}
+use Rattle.frame.specs.Frame.{startSeq, escSeq, escaped, Sound, runBehind}
+use Rattle.decoder.specs.Push.{Mem, State, search, body, escape, done, PushEvent, silent, discarded, paysOut, memory, badEscape, badMessage, stopped, starts}
+use Rattle.decoder.specs.Record.{Answer, nothing, payload, count, refusal}
+use Rattle.decoder.specs.Run.{Op, push, finalize, reset}
+use Rattle.decoder.specs.declared.Setup.{Setup}
+
+-- ---- the bytes since the search or frame began, told by the operations and their answers alone
+
+-- with the byte b more and its answer: a DiscardedBytes leaves the eight of the new start, any other refusal and a payload leave none
+abbrev pub grownSince : Answer → List ℕ → ℕ → List ℕ
+grownSince nothing h b = h ++ b ∷ []
+grownSince (payload bytes) h b = []
+grownSince (count k) h b = []
+grownSince (refusal k values) h b = cond (eqb k 6) startSeq []
+
+abbrev pub grownSinceOp : Op → Answer → List ℕ → List ℕ
+grownSinceOp (push b) a h = grownSince a h b
+grownSinceOp finalize a h = []
+grownSinceOp reset a h = []
+
+-- the second case never occurs: each operation has its answer
+unfoldable pub sinceFrom : List ℕ → List Op → List Answer → List ℕ
+sinceFrom h [] more = h
+sinceFrom h (o ∷ os) [] = h
+sinceFrom h (o ∷ os) (a ∷ more) = sinceFrom (grownSinceOp o a h) os more
+
+-- ---- what they are in each state
+
+-- a frame up to where the data D is read
+unfoldable pub frameHead : List ℕ → List ℕ
+frameHead D = startSeq ++ escaped 0 D
+
+-- what a search has passed over: again and again some first bytes of the start sequence, and a byte that doesn't go on with it
+pub data Misses : List ℕ → Type 0 where
+  nonePassed : Misses []
+  miss : (n b : ℕ) {l : List ℕ} → n ≤ 7 → starts n b ≡ false → Misses l → Misses (take n startSeq ++ (b ∷ l))
+
+-- a search: bytes that were passed over, and the first n bytes of the start sequence
+pub record InSearch (h : List ℕ) (n noise raw : ℕ) : Type 0 where
+  pub passed : List ℕ
+  pub here : h ≡ passed ++ take n startSeq
+  pub most : n ≤ 7
+  pub misses : Misses passed
+  pub dropped : noise ≡ stopped (length passed)
+  pub long : raw ≡ stopped (length h)
+
+-- a frame's data: the stored bytes, which end no run of 1b, and r 1b that wait; the register, taken on over the stored bytes that it has not gone over, is that of all bytes but the waiting ones
+pub record InBody (C : Setup) (h : List ℕ) (r : ℕ) (m : Mem) : Type 0 where
+  pub here : h ≡ frameHead (m .stored) ++ replicate r 0x1b
+  pub few : r ≤ 3
+  pub clean : runBehind 0 (m .stored) ≡ 0
+  pub fits : length (m .stored) ≤ C .capacity
+  pub long : m .raw ≡ stopped (length h)
+  pub index : m .idx ≤ length (m .stored)
+  pub sum : register (m .reg) (drop (m .idx) (m .stored)) ≡ register start (frameHead (m .stored))
+
+-- the data ends no run of 1b, or an end sequence was found early, behind 1 to 3 of the 1b that belong to the data
+pub data Opens (D l : List ℕ) : Type 0 where
+  tidy : runBehind 0 D ≡ 0 → Opens D l
+  earlyEnd : (k : List ℕ) → l ≡ 0x1a ∷ k → Opens D l
+
+-- behind an escape: the data D, and k bytes l behind the escape, all stored
+pub record InEscape (C : Setup) (h : List ℕ) (k : ℕ) (m : Mem) : Type 0 where
+  pub D : List ℕ
+  pub l : List ℕ
+  pub here : h ≡ frameHead D ++ escSeq ++ l
+  pub has : m .stored ≡ D ++ l
+  pub count : length l ≡ k
+  pub few : k ≤ 3
+  pub opens : Opens D l
+  pub fits : length (m .stored) ≤ C .capacity
+  pub long : m .raw ≡ stopped (length h)
+  pub index : m .idx ≤ length D
+  pub sum : register (m .reg) (drop (m .idx) D) ≡ register start (frameHead D ++ escSeq)
+
+abbrev pub ReadSince : Setup → List ℕ → State → Type 0
+ReadSince C h (search n noise raw) = InSearch h n noise raw
+ReadSince C h (body r m) = InBody C h r m
+ReadSince C h (escape k m) = InEscape C h k m
+ReadSince C h (done P) = (h ≡ []) × (length P ≤ C .capacity)
+
+-- ---- what an event says of w, the bytes since the search or frame began with the one that brought it
+
+-- all bytes
+abbrev pub AllBytes : List ℕ → Type 0
+AllBytes [] = Unit {0}
+AllBytes (x ∷ l) = (x < 256) × AllBytes l
+
+pub data EventSays (w : List ℕ) : PushEvent → Type 0 where
+  goesOn : EventSays w silent
+  -- a start behind bytes that were passed over
+  startFound : (k : ℕ) (x : List ℕ) → w ≡ x ++ startSeq → Misses x → 1 ≤ length x → k ≡ stopped (length x) → EventSays w (discarded k)
+  -- a start inside a frame
+  startInside : (k : ℕ) (D : List ℕ) → w ≡ frameHead D ++ startSeq → k ≡ stopped (length w) - 8 → EventSays w (discarded k)
+  noRoom : EventSays w memory
+  noEscape : {a b c d : ℕ} → EventSays w (badEscape a b c d)
+  noMessage : {read computed : ℕ} {mis : Bool} {p : ℕ} → EventSays w (badMessage read computed mis p)
+  -- the last byte of a sound frame
+  handedOut : (P : List ℕ) → (AllBytes w → Sound w P) → EventSays w (paysOut P)
