@@ -1,4 +1,4 @@
-// The limits of document 01, met and passed by one, and each refusal that no line of smlreplay can bring: 1, 4, 5, 9 and 16. Prints a word or the refusal's number for what is answered, the
+// The limits of document 01, met and passed by one, and each refusal that no command of bin/replay is for: 1, 4, 5, 9 and 16. Prints a word or the refusal's number for what is answered, the
 // record that is left, and of a push whether the memory is as before.
 use decoder::Asked;
 use decoder::DecodeState;
