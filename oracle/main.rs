@@ -291,13 +291,13 @@ macro_rules! at_capacity {
     ($n:expr, $f:ident, $a:expr) => {
         with_capacity!($n, $f, $a, [0 1 2 3 4 5 6 7 8 9 10 11 12 13 14 15 16 17 18 19 20 21 22 23 24 25 26 27 28 29 30 31 32 33 34 35 36
             37 38 39 40 41 42 43 44 45 46 47 48 49 50 51 52 53 54 55 56 57 58 59 60 61 62 63 64 72 80 96 100 128 160 192 231 232 233
-            234 235 236 237 238 239 240 241 242 256 300 359 360 361 362 363 364 365 366 400 512 1000 1024 2048 4095 4096])
+            234 235 236 237 238 239 240 241 242 256 300 359 360 361 362 363 364 365 366 400 512 1000 1024 2048 4095 4096 65536 1048576])
     };
 }
 
 // The longest line, and the largest capacity, that is a command.
 const LINE: usize = 70000;
-const CAPACITY: usize = 4096;
+const CAPACITY: usize = 1048577;
 
 fn answer(line: &[u8]) -> Option<String> {
     let line = std::str::from_utf8(line).ok().filter(|l| l.len() <= LINE)?;

@@ -1,8 +1,7 @@
-"""message_vectors.py: prints the fixed commands over messages. vectors.py puts them, with their answers, behind its own lines in crates/smlreplay/stdin and stdout; message_vectors.py append does that alone.
+"""message_vectors.py: prints the fixed commands over messages. vectors.py puts them, with their answers, behind its own lines in crates/replay_messages/stdin and stdout.
 
 The answers are the crate's (target/oracle/oracle, made by oracle/build). The crate has no places: what `places` answers is its answer to `events` with document 01's number behind each
 error, and its place. Both are those of places.py, a reader of its own, and the number must be the crate's; where one field is bent they are also written here beside the input.
-A second `append` replaces what the first one put there.
 """
 import os, subprocess, sys
 
@@ -255,21 +254,5 @@ def vectors():
         yield "places " + data.hex(), with_places(answer, len(data), number, place)
 
 
-def append():
-    crate = os.path.join(HERE, "..", "crates", "smlreplay")
-    # as they stand: some lines hold a carriage return or a byte that is no text
-    given, stored = (open(os.path.join(crate, f), encoding="latin-1", newline="").read() for f in ("stdin", "stdout"))
-    pairs = list(vectors())
-    old = given.removesuffix("\n").split("\n")
-    kept = old.index(pairs[0][0]) if pairs[0][0] in old else len(old)
-    # the last line has no line end
-    open(os.path.join(crate, "stdin"), "w", encoding="latin-1", newline="").write("\n".join(old[:kept] + [c for c, _ in pairs]))
-    open(os.path.join(crate, "stdout"), "w", encoding="latin-1", newline="").write("".join(a + "\n" for a in stored.split("\n")[:kept] + [a for _, a in pairs]))
-    print(f"{len(pairs)} commands behind {kept}")
-
-
 if __name__ == "__main__":
-    if sys.argv[1:] == ["append"]:
-        append()
-    else:
-        sys.stdout.writelines(c + "\n" for c in plain() + ["places " + d.hex() for d, _, _ in bent()])
+    sys.stdout.writelines(c + "\n" for c in plain() + ["places " + d.hex() for d, _, _ in bent()])

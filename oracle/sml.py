@@ -1,7 +1,11 @@
-"""What the scripts here and the tests share: frames by document 01's rules, how a built program is run, and the capacities that the oracle knows."""
-import os, platform, re, shutil
+"""What the scripts here and the tests share: frames by document 01's rules, how a built program is run (bin/lib/programs.py), and the capacities that the oracle knows."""
+import os, re, sys
 
 HERE = os.path.dirname(os.path.abspath(__file__))
+sys.dont_write_bytecode = True
+sys.path.append(os.path.join(HERE, "..", "bin", "lib"))
+from programs import COMMANDS, program
+REPLAY = os.path.join(HERE, "..", "bin", "replay")
 START, ESCAPE = bytes.fromhex("1b1b1b1b01010101"), bytes.fromhex("1b1b1b1b")
 
 
@@ -42,20 +46,11 @@ def hexed(data):
     return data.hex() or "-"
 
 
-def program(name):
-    """The words that run a built program as `rt` does: under the toolchain's loader, and its emulator where it has one."""
-    kit = os.environ.get("RATTLE_HOME") or os.path.dirname(os.path.dirname(os.path.realpath(shutil.which("rt"))))
-    tools = os.path.join(kit, "on", platform.machine(), "toolchain")
-    emulator = os.path.join(tools, "bin/qemu-x86_64")
-    loader = [os.path.join(tools, "lib/ld-linux-x86-64.so.2"), "--library-path", os.path.join(tools, "lib")]
-    return [emulator] * os.access(emulator, os.X_OK) + loader + [os.path.join(HERE, "..", "target/bin", name)]
-
-
 def capacities():
-    """Those that at_capacity! of main.rs names."""
+    """Those that at_capacity! of main.rs names, up to 4096: the large ones are for commands written by hand."""
     text = open(os.path.join(HERE, "main.rs"), encoding="utf-8").read()
     listed = re.search(r"with_capacity!\(\$n, \$f, \$a, \[([\d\s]+)\]\)", text).group(1)
-    return sorted(map(int, listed.split()))
+    return sorted(c for c in map(int, listed.split()) if c <= 4096)
 
 
 # kinds of `leaf` that crates num and octet_string read; those of crate value are KINDS of messages.py

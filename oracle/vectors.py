@@ -1,13 +1,14 @@
-"""vectors.py: writes the fixed list of commands to crates/smlreplay/stdin and the crate's answers (target/oracle/oracle, made by oracle/build) to stdout beside it; those over messages (message_vectors.py) come last.
+"""vectors.py: writes the fixed list of commands to the files stdin of crates/replay_wire and crates/replay_messages, each to the program that knows it and what is no command to both, and the crate's answers
+(target/oracle/oracle, made by oracle/build) to stdout beside them; those over messages (message_vectors.py) come last.
 
-`rt check smlreplay` replays them without the crate at hand. Run it again when a command is added; what it writes depends on nothing but this folder and the crate.
+`rt check replay_wire replay_messages` replays them without the crate at hand. Run it again when a command is added; what it writes depends on nothing but this folder and the crate.
 """
 import itertools, os, subprocess, sys
 
 sys.dont_write_bytecode = True
 import message_vectors
 from generate import commands
-from sml import ESCAPE, HERE, KINDS, START, capacities, closed, frame, hexed
+from sml import COMMANDS, ESCAPE, HERE, KINDS, START, capacities, closed, frame, hexed
 
 b = bytes.fromhex
 CAPS = capacities()
@@ -95,6 +96,9 @@ def at_the_limits():
     say("encode_cap 0 -", "encode_cap 15 -", "encode_cap 16 -", "encode_cap 17 -", "encode_cap 4096 " + "1b" * 300)
     push(0, "f"), push(0, START, "f"), push(0, START + b"\x41", "f"), push(4096, START + bytes(4096), "f"), push(4096, START + bytes(4097), "f")
     push(4096, frame(bytes(4092))), push(4096, frame(bytes(4093))), push(4095, frame(bytes(4092)))
+    # memory that is made for those who ask for much
+    say("encode_cap 65536 " + "1b" * 3000, "encode_cap 1048576 12345678", "encode " + "1b" * 2000, "encode " + "1b" * 2001, "encode " + "1b" * 34996, "stream " + "1b" * 2001)
+    push(65536, START, "z65536:00", "f"), push(65536, START, "z65537:00", "f"), push(65536, START, "z65532:41", closed(START + b"\x41" * 65532, 0)[-8:], "f"), push(1048576, frame(bytes(5000)), B1, "f")
 
 
 def refusals():
@@ -135,27 +139,34 @@ def fields():
 
 def no_commands():
     say("", " ", "encode", "encode ", "encode  12", "encode 1", "encode 123", "encode AB", "encode ab ", "encode ab cd", "encode --", "encode 0x12", "ENCODE ab", "encode\tab",
-        "encode ab\r", "crc", "crc -\r", "stream", "stream g0", "encode_cap", "encode_cap 16", "encode_cap 16 ", "encode_cap  -", "encode_cap -1 -", "encode_cap +16 -", "encode_cap 4097 -",
+        "encode ab\r", "crc", "crc -\r", "stream", "stream g0", "encode_cap", "encode_cap 16", "encode_cap 16 ", "encode_cap  -", "encode_cap -1 -", "encode_cap +16 -", "encode_cap 1048578 -",
         "encode_cap 016 -", "encode_cap 99999999999999999999999999 -", "push", "push 8", "push 8 ", "push 8 ,", "push 8 f,", "push 8 ,f", "push 8 b", "push 8 b1", "push 8 bAB", "push 8 f f",
-        "push 8 x", "push 8 ff", "push 8 rf", "push 8 b12-", "push 8 b--", "push 4097 f", "push 99999999999999999999 f", "push 8x f", "push -8 f", "push 008 f", "push 8 z", "push 8 z3", "push 8 z3:",
+        "push 8 x", "push 8 ff", "push 8 rf", "push 8 b12-", "push 8 b--", "push 1048578 f", "push 99999999999999999999 f", "push 8x f", "push -8 f", "push 008 f", "push 8 z", "push 8 z3", "push 8 z3:",
         "push 8 z:00", "push 8 z3:0", "push 8 z3:000", "push 8 z3:-", "push 8 z3:00:00", "push 8 z+3:00", "push 8 z1048577:00", "push 8 z99999999999999999999:00", "push 8 f,b,r", "leaf", "leaf u8",
         "leaf u8 ", "leaf u9 6201", "leaf  6201", "leaf U8 6201", "leaf u8 620", "leaf opt_u9 01", "bad command", "pushx 8 f", "pus 8 f", "crc " + "00" * 34998,
         "crc " + "00" * 34999, "x" * 70001, "encode \u00e9", "crc 31")
 
 
+def store(name, pairs):
+    """The commands that are no other program's, and their answers. The last line has no line end."""
+    others = [w for other in COMMANDS if other != name for w in COMMANDS[other]]
+    mine = [(c, a) for c, a in pairs if c.split(" ")[0] not in others]
+    for file, text in ("stdin", "\n".join(c for c, _ in mine)), ("stdout", "".join(a + "\n" for _, a in mine)):
+        open(os.path.join(HERE, "..", "crates", name, file), "w", encoding="utf-8", newline="").write(text)
+    print(f"{name}: {len(mine)} commands, {sum(a == 'bad command' for _, a in mine)} of them answered bad command")
+
+
 def main():
     bench(), doc_comments(), wrong_readings(), runs_of_1b(), at_the_limits(), refusals(), meters(), fields(), no_commands()
     lines.extend(commands(20240607, 1500))
-    crate = os.path.join(HERE, "..", "crates", "smlreplay")
-    # the last line has no line end
-    given = "\n".join(lines + ["encode 12345678"]).encode()
-    said = subprocess.run([os.path.join(HERE, "..", "target/oracle/oracle")], input=given, capture_output=True, check=True).stdout
-    for word in (b"no such capacity", b"panic"):
+    said = subprocess.run([os.path.join(HERE, "..", "target/oracle/oracle")], input="\n".join(lines).encode(), capture_output=True, check=True).stdout.decode()
+    for word in ("no such capacity", "panic"):
         assert word not in said, word
-    open(os.path.join(crate, "stdin"), "wb").write(given)
-    open(os.path.join(crate, "stdout"), "wb").write(said)
-    print(f"{len(lines) + 1} commands, {len(given)} bytes; {len(said)} bytes of answers, {said.count(b'bad command')} of them bad command")
-    message_vectors.append()
+    last = ("encode 12345678", frame(b("12345678")).hex())
+    pairs = list(zip(lines, said.split("\n"))) + list(message_vectors.vectors())
+    assert said.count("\n") == len(lines)
+    for name in COMMANDS:
+        store(name, pairs + [last] * ("encode" in COMMANDS[name]))
 
 
 if __name__ == "__main__":

@@ -112,7 +112,7 @@ def events(capacity, data):
 
 
 def answer(capacity, ops):
-    """What smlreplay answers to `push`, from a list of bytes, "f" and "r"."""
+    """What bin/replay answers to `push`, from a list of bytes, "f" and "r"."""
     d, said, index = Decoder(capacity), [], 0
     for op in ops:
         for e in map(d.push, op) if isinstance(op, bytes) else [d.finalize() if op == "f" else d.reset()]:

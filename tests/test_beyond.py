@@ -1,4 +1,4 @@
-"""Beyond document 01's domain the crate's counts wrap, and ours don't: each such input with our answer, run through smlreplay, and the crate's, run through it where it is at hand.
+"""Beyond document 01's domain the crate's counts wrap, and ours don't: each such input with our answer, run through bin/replay, and the crate's, run through it where it is at hand.
 Built with overflow checks the crate panics there: that answer is a third column, run where it is at hand.
 
 The first of each group is the last input inside the domain, where all agree. Behind them the shortest inputs of docs/DIFFERENCES.md at which crate and specification differ: all answer alike.
@@ -9,7 +9,7 @@ sys.dont_write_bytecode = True
 os.chdir(os.path.join(os.path.dirname(os.path.abspath(__file__)), ".."))
 sys.path.append("oracle")
 from messages import sealed
-from sml import frame, program
+from sml import frame
 
 B1 = frame(bytes.fromhex("12345678")).hex()
 EOF = " | err UnexpectedEOF"
@@ -104,9 +104,7 @@ def held(name, words, column):
             print(f"{name}: {row[0][:100]}\n  says   {answer}\n  stored {row[column]}")
 
 
-if subprocess.run(["rt", "check", "smlreplay"], capture_output=True).returncode != 0:
-    sys.exit("test_beyond: smlreplay is not proved")
-held("smlreplay", program("smlreplay"), 1)
+held("bin/replay", ["bin/replay"], 1)
 for checks, name, column in ("0", "oracle", 2), ("1", "checked", 3):
     built = subprocess.run(["sh", "oracle/build"], env={**os.environ, "CHECKED": checks}).returncode
     if built == 0:

@@ -1,4 +1,4 @@
-"""The crate and smlreplay answer the same random commands alike, and the generator gives the same commands for the same seed. Skipped, and said so, where the crate is not at hand."""
+"""The crate and bin/replay answer the same random commands alike, and the generator gives the same commands for the same seed. Skipped, and said so, where the crate is not at hand."""
 import os, subprocess, sys
 
 os.chdir(os.path.join(os.path.dirname(os.path.abspath(__file__)), ".."))

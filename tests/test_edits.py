@@ -1,4 +1,4 @@
-"""Each must-fail edit is told in docs/WRONG-READINGS.md in three lines and named in docs/STATEMENTS.md, and the prover refused it at a fact and not at a shape: where the edits were tried (target/must-fail), each has its log."""
+"""Each wrong reading is a must-fail edit, or a theorem of a crate's proofs/Wrong.antt that has its name, and is told in docs/WRONG-READINGS.md in three lines and named in docs/STATEMENTS.md. The prover refused each edit at a fact and not at a shape: where the edits were tried (target/must-fail), each has its log."""
 import glob, os, re, sys
 
 os.chdir(os.path.join(os.path.dirname(os.path.abspath(__file__)), ".."))
@@ -28,11 +28,20 @@ for edit in sorted(glob.glob("crates/*/must-fail/*.edit")):
             bad.append(f"{label}: the prover's log has no error")
         elif any(s in first.group(0) for s in SHAPE):
             bad.append(f"{label}: refused at a shape: {first.group(0)[:200]}")
-for name in re.findall(r"^### (\w+)$", told, re.M):
-    if name not in labels:
-        bad.append(f"{name}: told in docs/WRONG-READINGS.md, and no edit has that name")
+theorems = {}
+for path in sorted(glob.glob("crates/*/proofs/Wrong.antt")):
+    for law in re.findall(r"^([a-z][\w-]*) : .*→ ⊥$", open(path, encoding="utf-8").read(), re.M):
+        theorems[law.replace("-", "_")] = path
+for name, path in theorems.items():
+    if f"### {name}\n" not in told or f"`{name}`" not in mapped:
+        bad.append(f"{path}: {name} is not told in docs/WRONG-READINGS.md and docs/STATEMENTS.md")
+for name, text in re.findall(r"^### (\w+)\n(.*?)(?=^#|\Z)", told, re.M | re.S):
+    if name not in labels and name not in theorems:
+        bad.append(f"{name}: told in docs/WRONG-READINGS.md, and neither an edit nor a theorem has that name")
+    if re.findall(r"^- (\w+):", text, re.M) != ["Belief", "Bytes", "Prover"]:
+        bad.append(f"{name}: docs/WRONG-READINGS.md does not tell it in three lines")
 if os.path.isdir("target/must-fail") and logs < len(labels):
     bad.append(f"target/must-fail has {logs} logs, and there are {len(labels)} edits")
 print("\n".join(bad))
-print(f"{len(labels)} edits, {logs} logs read, {len(bad)} faults")
+print(f"{len(labels)} edits, {logs} logs read, {len(theorems)} theorems, {len(bad)} faults")
 sys.exit(1 if bad or not labels else 0)

@@ -30,7 +30,7 @@ def items(text):
     """The top-level definitions: the name, what else it brings (constructors), its text without comments."""
     found, owner = {}, {}
     for line in re.sub(r"--.*", "", text).split("\n"):
-        if not line.strip() or line.startswith("use "):
+        if not line.strip() or line.startswith(("use ", "pub use ")):
             continue
         if not line[0].isspace():
             words = [w for w in line.split() if w not in ("pub", "abbrev", "unfoldable", "record", "data")]
@@ -53,7 +53,7 @@ for path in sorted(glob.glob("crates/*/specs/*.antt")):
         bad.append(f"{path}: its first line says none of {', '.join(KINDS)}")
         continue
     kind[file] = m.group(1)
-    lines[file] = len([l for l in text.split("\n") if l.strip() and not l.startswith("use ") and not l.strip().startswith("--")])
+    lines[file] = len([l for l in text.split("\n") if l.strip() and not l.startswith(("use ", "pub use ")) and not l.strip().startswith("--")])
     files[file] = (scope(text), items(text), {module(u) for u in re.findall(r"^use ([^\s{]+?)(?:\.\{| as |$)", text, re.M)} - {None})
 
 
@@ -98,7 +98,9 @@ for file in sorted({f for f, _ in claims if kind[f] in ("check", "cut")}):
     bad.append(f"{file}: a {kind[file]}, and a claim rests on it")
 marks = reached([("marks/Marks", "Marks")], "check")
 for file in sorted(f for f in files if kind[f] in ("rule", "view")):
-    named = everywhere | marks | (cited if kind[file] == "view" else set())
+    named = everywhere | marks | claims | (cited if kind[file] == "view" else set())
+    if file == "refusals/Numbers":  # document 02's numbers have their names before they have their functions
+        continue
     bad += [f"{file}: nothing rests on {n}" for n in files[file][1][0] if (file, n) not in named]
 
 readme = open("README.md", encoding="utf-8").read()

@@ -1,4 +1,4 @@
-"""docs/STATEMENTS.md is true to the files: each file that it names is there, and each definition or law of a row stands in that row's file; README names every crate; the forms of docs/DECISIONS.md stand at their lines; the layout is rt fmt's."""
+"""docs/STATEMENTS.md is true to the files: each file that it names is there, and each definition or law of a row stands in that row's file; README names every crate; the forms of docs/DECISIONS.md stand at their lines; docs/house.svg is the house of crates.txt; the layout is rt fmt's."""
 import glob, os, re, subprocess, sys
 
 os.chdir(os.path.join(os.path.dirname(os.path.abspath(__file__)), ".."))
@@ -33,6 +33,9 @@ for path, line, what in forms:
         bad.append(f"docs/DECISIONS.md: {what} does not stand at {path}:{line}")
 if not forms:
     bad.append("docs/DECISIONS.md: no form has a file and a line")
+house = subprocess.run([sys.executable, "-B", "docs/house.py", "--check"], capture_output=True, text=True)
+if house.returncode != 0:
+    bad.append(house.stderr.strip()[-400:])
 fmt = subprocess.run(["rt", "fmt", "--check"], capture_output=True, text=True)
 if fmt.returncode != 0:
     bad.append("rt fmt --check: " + (fmt.stdout + fmt.stderr).strip()[-400:])

@@ -1,4 +1,4 @@
-"""The marks, run: random histories of a decoder, then capacity + 5 zero bytes, then frames, through the built program smlreplay; what it answers is judged here by document 01's words, without the decoder's rules.
+"""The marks, run: random histories of a decoder, then capacity + 5 zero bytes, then frames, through bin/replay; what it answers is judged here by document 01's words, without the decoder's rules.
 
 Mark 1: a command is answered alike whatever the program did before it. Mark 2: a payload comes only at the last byte of a sound frame for it; and a new decoder, noise, then any sound frame: with room
 for its data and 4, DiscardedBytes at the eighth byte for the noise and the payload at the last; with one less, 3 is the first event behind the eighth. Mark 3: behind the zero bytes one DiscardedBytes at the first frame's eighth
@@ -9,7 +9,7 @@ os.chdir(os.path.join(os.path.dirname(os.path.abspath(__file__)), ".."))
 sys.path.insert(0, "oracle")
 sys.dont_write_bytecode = True
 from generate import commands
-from sml import ESCAPE, START, closed, crc, escaped, frame, hexed, program
+from sml import ESCAPE, START, closed, crc, escaped, frame, hexed
 
 COUNT, FRAMES, MESSAGES = 800, 400, 1000
 CAPACITIES = list(range(18)) + [20, 23, 24, 31, 32, 40, 63, 64, 100, 128, 255, 256, 300, 512, 1000, 1024, 2048, 4095, 4096]
@@ -169,16 +169,14 @@ def lists_whole(line):
 
 
 def answers(given):
-    run = subprocess.run(program("smlreplay"), input="".join(c + "\n" for c in given).encode(), capture_output=True)
+    run = subprocess.run(["bin/replay"], input="".join(c + "\n" for c in given).encode(), capture_output=True)
     lines = run.stdout.decode().split("\n")
     if run.returncode != 0 or len(lines) != len(given) + 1:
-        sys.exit(f"test_marks: smlreplay ended with status {run.returncode} and {len(lines) - 1} answers to {len(given)} commands")
+        sys.exit(f"test_marks: bin/replay ended with status {run.returncode} and {len(lines) - 1} answers to {len(given)} commands")
     return lines[:-1]
 
 
 def main():
-    if not os.path.isfile("target/bin/smlreplay"):
-        sys.exit("test_marks: target/bin/smlreplay is not built")
     tried = [history(seed) for seed in range(COUNT)]
     pushes = [c for c, _, _ in tried]
     encodes = [("encode " + hexed(p), frame(p).hex()) for _, _, payloads in tried for p in payloads]

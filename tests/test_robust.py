@@ -1,25 +1,25 @@
-"""smlcat and smlreplay on bytes that nobody meant: random, cut, empty, a megabyte without a line end, lines of the longest length and one more. Neither may stop early, and each must say what the rules give.
+"""smlcat and the programs behind bin/replay on bytes that nobody meant: random, cut, empty, a megabyte without a line end, lines of the longest length and one more. None may stop early, and each must say what the rules give.
 
-smlcat, and smlreplay's pushes, are held to tests/push_rules.py; what is no command must be answered `bad command`, and nothing else.
+smlcat, and the pushes of replay_wire, are held to tests/push_rules.py; what is no command, or none of that program, must be answered `bad command`, and nothing else.
 """
-import os, random, re, subprocess, sys
+import functools, os, random, re, subprocess, sys
 
 sys.dont_write_bytecode = True
 os.chdir(os.path.join(os.path.dirname(os.path.abspath(__file__)), ".."))
 sys.path.append("oracle")
 import push_rules
 from generate import commands, damaged, payload, piece
-from sml import KINDS, START, crc, frame, hexed, program
+from sml import COMMANDS, KINDS, START, crc, frame, hexed, program
 from messages import KINDS as MORE
 
 SEED = 20250711
-if subprocess.run(["rt", "check", "smlcat", "smlreplay"], capture_output=True).returncode != 0:
-    sys.exit("test_robust: smlcat or smlreplay is not proved")
+if subprocess.run(["rt", "check", "smlcat", *COMMANDS], capture_output=True).returncode != 0:
+    sys.exit("test_robust: smlcat or a program of bin/replay is not proved")
 faults, count = [], 0
 
 
 def run(name, given):
-    ran = subprocess.run(program(name), input=given, capture_output=True)
+    ran = subprocess.run(["bin/replay"] if name == "bin/replay" else program(name), input=given, capture_output=True)
     if ran.returncode != 0 or ran.stderr:
         faults.append(f"{name}: status {ran.returncode} on {len(given)} bytes, {given[:40]!r}")
     return ran.stdout.decode("latin-1")
@@ -55,7 +55,7 @@ r = random.Random(SEED)
 for k, data in enumerate(captures(r)):
     same(f"smlcat, capture {k}", run("smlcat", data), "".join(e + "\n" for e in push_rules.events(4096, data)))
 
-# ---- smlreplay: what is a command, by the table of commands
+# ---- replay: what is a command, by the table of commands
 
 HEX = r"(?:-|(?:[0-9a-f]{2})+)"
 COMMAND = re.compile(r"(?:encode|stream|crc|events|places) %s|encode_cap \d+ %s|leaf (?:%s) %s|push \d+ (?:f|r|b%s|z\d+:[0-9a-f]{2})(?:,(?:f|r|b%s|z\d+:[0-9a-f]{2}))*" % (HEX, HEX, "|".join(KINDS + MORE), HEX, HEX, HEX), re.A)
@@ -63,13 +63,14 @@ COMMAND = re.compile(r"(?:encode|stream|crc|events|places) %s|encode_cap \d+ %s|
 
 def is_command(line):
     numbers = [int(n) for n in re.findall(r"^(?:encode_cap|push) (\d+)", line)], [int(n) for n in re.findall(r"[ ,]z(\d+):", line)]
-    return len(line) <= 70000 and bool(COMMAND.fullmatch(line)) and all(n <= 4096 for n in numbers[0]) and all(n <= 1048576 for n in numbers[1])
+    return len(line) <= 70000 and bool(COMMAND.fullmatch(line)) and all(n <= 1048577 for n in numbers[0]) and all(n <= 1048576 for n in numbers[1])
 
 
 def unhex(h):
     return bytes.fromhex(h.replace("-", ""))
 
 
+@functools.cache
 def wanted(line):
     """The answer where this file knows it, else None."""
     if not is_command(line):
@@ -89,20 +90,27 @@ def wanted(line):
         return push_rules.answer(int(words[1]), ops)
 
 
-def replayed(what, given):
+def held(name, known, what, given):
+    """The answers of one program, which knows these commands."""
     lines = given.decode("latin-1").split("\n")
     if lines[-1] == "":
         lines.pop()
-    said = run("smlreplay", given).split("\n")
+    said = run(name, given).split("\n")
     if len(said) != len(lines) + 1 or said[-1] != "":
-        faults.append(f"smlreplay, {what}: {len(lines)} lines in, {len(said) - 1} out")
+        faults.append(f"{name}, {what}: {len(lines)} lines in, {len(said) - 1} out")
         return
     for line, answer in zip(lines, said):
-        want = wanted(line)
+        want = wanted(line) if line.split(" ")[0] in known else "bad command"
         if want is None:
-            same(f"smlreplay, {what}, {line[:60]!r}", answer in ("bad command", "differ", ""), False)
+            same(f"{name}, {what}, {line[:60]!r}", answer in ("bad command", "differ", ""), False)
         else:
-            same(f"smlreplay, {what}, {line[:60]!r}", answer, want)
+            same(f"{name}, {what}, {line[:60]!r}", answer, want)
+
+
+def replayed(what, given):
+    for name, known in COMMANDS.items():
+        held(name, known, what, given)
+    held("bin/replay", sum(COMMANDS.values(), []), what, given)
 
 
 cut = [c[: r.randrange(len(c) + 1)] for c in list(commands(SEED, 1000)) + list(commands(SEED, 300, "messages"))]

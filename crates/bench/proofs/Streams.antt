@@ -13,7 +13,7 @@ use Rattle.frame.specs.Frame.{frameOf}
 use Rattle.decoder_slice.proofs.Runs.{never}
 use Rattle.encoder.specs.declared.Encoder.{Encoder}
 use Rattle.encoder.specs.declared.Given.{Given}
-use Rattle.encoder.specs.Encode.{limit}
+use Rattle.refusals.specs.Numbers.{limit}
 use Rattle.encoder.specs.Encoder.{NextAnswer, byte, finished, noByte, Step, stepOf, freshEncoder, nextStep, nextAnswer}
 use Rattle.encoder.specs.Calls.{calls}
 use Rattle.encoder.proofs.Calls.{gives-the-frame}

@@ -10,7 +10,8 @@ use Rattle.decoder.specs.Push.{sized}
 use Rattle.decoder.specs.Record.{nothing, payload, count, After, pushRecord, newRecord}
 use Rattle.decoder.specs.declared.Decoder.{Decoder}
 use Rattle.encoder.specs.Encode as E
-use Rattle.encoder.specs.Encode.{limit, length-is, encodeTo}
+use Rattle.refusals.specs.Numbers.{limit}
+use Rattle.encoder.specs.Encode.{length-is, encodeTo}
 use Rattle.streaming.specs.Next as N
 use Rattle.streaming.specs.Next.{Said, event, noEvent, failed, alone, nextAt}
 

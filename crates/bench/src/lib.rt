@@ -7,7 +7,7 @@ ghost use Rattle.crc_x25.specs.Crc.{crcOf};
 ghost use Rattle.frame.specs.Frame.{frameOf};
 ghost use Rattle.decoder.specs.Record as D;
 ghost use Rattle.encoder.specs.Encode as E;
-ghost use Rattle.encoder.specs.Encode.{limit};
+ghost use Rattle.refusals.specs.Numbers.{limit};
 ghost use Rattle.encoder.specs.Encoder.{nextAnswer};
 ghost use Rattle.streaming.specs.Answers.{said};
 ghost use Rattle.bench.specs.Bench.{counted, one, payloads, lengthIn, encoded, sum, streamed, isEvent, events};
@@ -149,7 +149,7 @@ fn sum_given(payload: &[u8]) -> u64
 pub extern "C" fn bench_stream(payload: &[u8]) -> u64
     ensures { λ r. ⌜ r ≡ streamed (now (payload .entry)) ⌝ }
 {
-    if encoder::LIMIT < payload.len() {
+    if refusals::LIMIT < payload.len() {
         return 0;
     }
     sum_given(payload)

@@ -2,11 +2,14 @@
 ghost use mathlib.Core.Path.{_≡_};
 ghost use Rattle.crc_x25.specs.Crc.{start, bitStep, byteStep, register, finalXor, crcOf};
 
+// What the register is before any byte.
+pub const INIT: u16 = 0xffff;
+
 // The register before any byte.
 pub fn digest() -> u16
     ensures { λ r. ⌜ r ≡ start ⌝ }
 {
-    0xffff
+    INIT
 }
 
 // One bit of the register, lowest first.

@@ -5,6 +5,7 @@ use mathlib.Core.Bool.{Bool, true, false, cond, not}
 use lib.ListN.{length, getD, take, drop, replicate}
 use lib.Seq.{sets}
 use lib.Dec.{ltb, leb, eqb}
+use Rattle.refusals.specs.Numbers.{limit}
 use Rattle.crc_x25.specs.Crc.{register, finalXor}
 use Rattle.frame.specs.Frame.{escSeq, restartSeq, missing}
 use Rattle.decoder.specs.Push as P
@@ -173,7 +174,7 @@ plainByte d lent b =
     cond (eqb b 0x1b) false
     (cond (leb lent (d .fill)) false
     (cond (ltb (d .fill) (d .«crc_idx»)) false
-    (cond (ltb (d .«raw_msg_len») 8) false (cond (eqb lent (d .capacity)) (cond (ltb 1048576 lent) false (isNormal (d .state))) false))))
+    (cond (ltb (d .«raw_msg_len») 8) false (cond (eqb lent (d .capacity)) (cond (ltb limit lent) false (isNormal (d .state))) false))))
 
 -- ---- a payload in the buffer
 

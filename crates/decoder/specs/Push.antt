@@ -4,6 +4,7 @@ use mathlib.Core.List.{List, [], _∷_, _++_}
 use Prim.Native.Nat.{ℕ, suc, _+_, _-_, _*_, _%_, min}
 use lib.ListN.{length, take, drop, getD, replicate}
 use lib.Dec.{eqb, ltb, leb}
+use Rattle.refusals.specs.Numbers.{countStop}
 use Rattle.crc_x25.specs.Crc.{start, register, finalXor}
 use Rattle.frame.specs.Frame.{escSeq, restartSeq, startSeq, missing}
 -- what never changes of a decoder: the code's struct, now the capacity alone
@@ -43,7 +44,7 @@ says s e = record { state = s; event = e }
 
 -- counts stop at 4,294,967,295
 abbrev pub stopped : ℕ → ℕ
-stopped n = min n 0xffffffff
+stopped n = min n countStop
 
 abbrev pub fresh : State
 fresh = search 0 0 0

@@ -4,6 +4,7 @@ use mathlib.Core.List.{List, [], _∷_, _++_}
 use Prim.Native.Nat.{ℕ, zero, suc, _+_}
 use lib.ListN.{length, take, drop, replicate}
 use lib.Dec.{eqb, leb, ltb}
+use Rattle.refusals.specs.Numbers.{decoderOutOfMemoryNo, badStateNo, wrongBufferNo, discardedBytesNo, invalidEscNo, invalidMessageNo, badSpanNo, limit}
 use Rattle.crc_x25.specs.Crc.{start}
 use Rattle.decoder.specs.Push as P
 use Rattle.decoder.specs.Push.{Setup, Mem, State, search, body, escape, done, Out, fresh, step, finalized, resetCount}
@@ -34,21 +35,21 @@ flag false = 0
 abbrev pub numbered : P.PushEvent → Answer
 numbered P.silent = nothing
 numbered (P.paysOut bytes) = payload bytes
-numbered P.memory = refusal 3 []
-numbered (P.discarded n) = refusal 6 (n ∷ [])
-numbered (P.badEscape a b c d) = refusal 7 (a ∷ b ∷ c ∷ d ∷ [])
-numbered (P.badMessage read computed misaligned p) = refusal 8 (read ∷ computed ∷ flag misaligned ∷ p ∷ [])
+numbered P.memory = refusal decoderOutOfMemoryNo []
+numbered (P.discarded n) = refusal discardedBytesNo (n ∷ [])
+numbered (P.badEscape a b c d) = refusal invalidEscNo (a ∷ b ∷ c ∷ d ∷ [])
+numbered (P.badMessage read computed misaligned p) = refusal invalidMessageNo (read ∷ computed ∷ flag misaligned ∷ p ∷ [])
 
 -- the code's event; `bytes` are those of a payload
 abbrev pub answerOf : Event → List ℕ → Answer
 answerOf Nothing bytes = nothing
 answerOf Payload bytes = payload bytes
-answerOf OutOfMemory bytes = refusal 3 []
-answerOf BadState bytes = refusal 4 []
-answerOf WrongBuffer bytes = refusal 5 []
-answerOf (DiscardedBytes n) bytes = refusal 6 (n ∷ [])
-answerOf (InvalidEsc a b c d) bytes = refusal 7 (a ∷ b ∷ c ∷ d ∷ [])
-answerOf (InvalidMessage read computed misaligned p) bytes = refusal 8 (read ∷ computed ∷ flag misaligned ∷ p ∷ [])
+answerOf OutOfMemory bytes = refusal decoderOutOfMemoryNo []
+answerOf BadState bytes = refusal badStateNo []
+answerOf WrongBuffer bytes = refusal wrongBufferNo []
+answerOf (DiscardedBytes n) bytes = refusal discardedBytesNo (n ∷ [])
+answerOf (InvalidEsc a b c d) bytes = refusal invalidEscNo (a ∷ b ∷ c ∷ d ∷ [])
+answerOf (InvalidMessage read computed misaligned p) bytes = refusal invalidMessageNo (read ∷ computed ∷ flag misaligned ∷ p ∷ [])
 
 -- an answer, with the record and the lent memory as they are then
 pub record After : Type 0 where
@@ -79,7 +80,7 @@ afterReset r = left (count (r .count)) (r .decoder)
 
 abbrev pub answerAsked : Asked → Answer
 answerAsked Good = nothing
-answerAsked BadSpan = refusal 16 []
+answerAsked BadSpan = refusal badSpanNo []
 
 -- ---- the record's state, and the record of a state
 
@@ -155,7 +156,7 @@ badDecoder d =
 
 -- the lent capacity isn't the recorded one, or is over 1,048,576
 unfoldable pub wrongBuffer : ℕ → ℕ → Bool
-wrongBuffer recorded lent = cond (eqb lent recorded) (ltb 1048576 lent) true
+wrongBuffer recorded lent = cond (eqb lent recorded) (ltb limit lent) true
 
 -- ---- the public functions
 
@@ -165,12 +166,12 @@ pushed d m b o = after (numbered (o .event)) (recordOf (setup d) (o .state)) (wr
 -- a push: the checks for 4 and 5, then the step
 unfoldable pub pushRecord : Decoder → List ℕ → ℕ → After
 pushRecord d m b =
-    cond (badDecoder d) (after (refusal 4 []) d m)
-    (cond (wrongBuffer (d .capacity) (length m)) (after (refusal 5 []) d m) (pushed d m b (step (setup d) (stateOf d m) b)))
+    cond (badDecoder d) (after (refusal badStateNo []) d m)
+    (cond (wrongBuffer (d .capacity) (length m)) (after (refusal wrongBufferNo []) d m) (pushed d m b (step (setup d) (stateOf d m) b)))
 
 -- finalize and reset look at no stored byte, so the view is over no memory
 unfoldable pub finalizeRecord : Decoder → Left
-finalizeRecord d = cond (badDecoder d) (left (refusal 4 []) d) (left (numbered (finalized (stateOf d []))) (newRecord (setup d)))
+finalizeRecord d = cond (badDecoder d) (left (refusal badStateNo []) d) (left (numbered (finalized (stateOf d []))) (newRecord (setup d)))
 
 unfoldable pub resetRecord : Decoder → Left
 resetRecord d = left (count (resetCount (stateOf d []))) (newRecord (setup d))
@@ -191,4 +192,4 @@ payloadRecord d m = cond (hasPayload d m) (take (d .fill) m) []
 
 -- the question behind an empty part: 16 if no payload stands there
 unfoldable pub askRecord : Decoder → List ℕ → Answer
-askRecord d m = cond (hasPayload d m) nothing (refusal 16 [])
+askRecord d m = cond (hasPayload d m) nothing (refusal badSpanNo [])

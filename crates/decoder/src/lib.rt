@@ -19,6 +19,9 @@ pub enum DecodeState {
     Done,
 }
 
+// Where the counts of noise and raw bytes stop: as many as 32 bits hold.
+pub const COUNT_STOP: u32 = 4_294_967_295;
+
 // What never changes of a decoder.
 pub struct Setup {
     pub capacity: usize,
@@ -73,7 +76,7 @@ pub enum Asked {
 
 impl Decoder {
     // The byte that escapes are made of.
-    pub const ESC: u8 = 0x1b;
+    pub const ESC: u8 = frame::ESC;
 
     // The length of the start sequence, with which a frame's raw length begins.
     pub const START_LEN: u32 = 8;
@@ -126,7 +129,7 @@ fn fresh(c: Setup) -> Decoder
         c,
         0,
         0,
-        0xffff,
+        crc_x25::INIT,
         0,
         DecodeState::LookingForMessageStart {
             num_discarded_bytes: 0,
@@ -146,7 +149,7 @@ pub fn recounted(d: Decoder, fill: usize, raw: u32, s: DecodeState) -> Decoder
 fn one_more(x: u32) -> u32
     ensures { λ r. ⌜ r ≡ stopped (suc x) ⌝ }
 {
-    if x == 4294967295 { x } else { x + 1 }
+    if x == COUNT_STOP { x } else { x + 1 }
 }
 
 // The noise behind n matched bytes and one more, of which k are matched then, or as many as 32 bits hold.
@@ -155,10 +158,10 @@ fn more_noise(noise: u32, n: u8, k: u8) -> u32
     ensures { λ r. ⌜ r ≡ moreNoise noise n k ⌝ }
 {
     let add = (n as u32) + 1 - (k as u32);
-    if noise <= 4294967295 - add {
+    if noise <= COUNT_STOP - add {
         noise + add
     } else {
-        4294967295
+        COUNT_STOP
     }
 }
 
@@ -208,7 +211,7 @@ fn stored_on(d: Decoder, k: usize, s: DecodeState) -> Decoder
 fn begun_frame(c: Setup) -> Decoder
     ensures { λ r. ⌜ r ≡ recordOf c begun ⌝ }
 {
-    let crc = crc_x25::update(0xffff, &frame::START);
+    let crc = crc_x25::update(crc_x25::INIT, &frame::START);
     made(c, 0, Decoder::START_LEN, crc, 0, DecodeState::ParsingNormal)
 }
 
@@ -220,7 +223,7 @@ fn looking(d: Decoder, noise: u32, n: u8) -> Decoder
         setup_of(d),
         0,
         one_more(d.raw_msg_len),
-        0xffff,
+        crc_x25::INIT,
         0,
         DecodeState::LookingForMessageStart {
             num_discarded_bytes: noise,
@@ -283,7 +286,7 @@ fn put_run(buf: &mut [u8], at: usize, n: usize)
 {
     let mut i = 0;
     while i < n {
-        buf[at + i] = 0x1b;
+        buf[at + i] = Decoder::ESC;
         i += 1;
     }
 }
@@ -382,7 +385,7 @@ fn judged_end(c: Setup, fill: usize, read_crc: u16, calculated_crc: u16, p: u8) 
     if is_sound_end(fill, read_crc, calculated_crc, p) {
         let length = fill - (p as usize + Decoder::ESC_PAYLOAD_LEN);
         return Pushed {
-            decoder: made(c, length, 0, 0xffff, 0, DecodeState::Done),
+            decoder: made(c, length, 0, crc_x25::INIT, 0, DecodeState::Done),
             event: Event::Payload,
         };
     }
@@ -527,7 +530,7 @@ pub fn wrong_buffer(recorded: usize, lent: usize) -> bool
     ensures { λ r. ⌜ r ≡ wrongBuffer recorded lent ⌝ }
 {
     if lent == recorded {
-        1048576 < lent
+        refusals::LIMIT < lent
     } else {
         true
     }
@@ -568,7 +571,7 @@ fn is_plain(d: Decoder, lent: usize, b: u8) -> bool
     if lent != d.capacity {
         return false;
     }
-    if 1048576 < lent {
+    if refusals::LIMIT < lent {
         return false;
     }
     let s = d.state;

@@ -3,6 +3,7 @@ use mathlib.Core.Bool.{Bool, true, false, cond}
 use mathlib.Core.List.{List, [], _∷_}
 use Prim.Native.Nat.{ℕ, suc}
 use lib.ListN.{length, take}
+use Rattle.refusals.specs.Numbers.{badStateNo, wrongBufferNo}
 use Rattle.decoder.specs.Record.{Answer, nothing, payload, count, refusal, answerOf, After, pushRecord, badDecoder, wrongBuffer}
 use Rattle.decoder.specs.declared.Decoder.{Decoder}
 use Rattle.decoder_slice.specs.declared.Sliced.{Sliced}
@@ -37,5 +38,5 @@ pushesFrom n d m (b ∷ bs) =
 -- the checks for 4 and 5 come first, as in a push: a refused slice, empty ones too, takes no byte
 unfoldable pub sliceRecord : Decoder → List ℕ → List ℕ → Took
 sliceRecord d m bytes =
-    cond (badDecoder d) (took (refusal 4 []) d 0 m)
-    (cond (wrongBuffer (d .capacity) (length m)) (took (refusal 5 []) d 0 m) (pushesFrom 0 d m bytes))
+    cond (badDecoder d) (took (refusal badStateNo []) d 0 m)
+    (cond (wrongBuffer (d .capacity) (length m)) (took (refusal wrongBufferNo []) d 0 m) (pushesFrom 0 d m bytes))

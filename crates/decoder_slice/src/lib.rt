@@ -51,10 +51,10 @@ fn says_nothing(e: Event) -> bool
 fn more(x: u32, k: usize) -> u32
     ensures { λ r. ⌜ r ≡ stopped (x + k) ⌝ }
 {
-    if k <= (4294967295 - x) as usize {
+    if k <= (decoder::COUNT_STOP - x) as usize {
         x + k as u32
     } else {
-        4294967295
+        decoder::COUNT_STOP
     }
 }
 
@@ -76,16 +76,16 @@ fn least(a: usize, b: usize) -> usize
 fn all_plain(a: u8, b: u8, c: u8, d: u8) -> bool
     ensures { λ r. ⌜ (r ≡ true → (a ≡ 0x1b → ⊥) × (b ≡ 0x1b → ⊥) × (c ≡ 0x1b → ⊥) × (d ≡ 0x1b → ⊥)) ⌝ }
 {
-    if a == 0x1b {
+    if a == Decoder::ESC {
         return false;
     }
-    if b == 0x1b {
+    if b == Decoder::ESC {
         return false;
     }
-    if c == 0x1b {
+    if c == Decoder::ESC {
         return false;
     }
-    if d == 0x1b {
+    if d == Decoder::ESC {
         return false;
     }
     true
@@ -115,7 +115,7 @@ fn plain_end(chunk: &[u8], from: usize, to: usize) -> usize
 {
     let mut k = plain_fours(chunk, from, to);
     while k < to {
-        if chunk[k] == 0x1b {
+        if chunk[k] == Decoder::ESC {
             break;
         }
         k += 1;
@@ -150,19 +150,19 @@ fn store_plain(d: Decoder, buf: &mut [u8], chunk: &[u8], from: usize) -> Stretch
 fn all_escape(a: u8, b: u8, c: u8, d: u8, e: u8) -> bool
     ensures { λ r. ⌜ (r ≡ true → (a ≡ 0x1b) × (b ≡ 0x1b) × (c ≡ 0x1b) × (d ≡ 0x1b) × (e ≡ 0x1b)) ⌝ }
 {
-    if a != 0x1b {
+    if a != Decoder::ESC {
         return false;
     }
-    if b != 0x1b {
+    if b != Decoder::ESC {
         return false;
     }
-    if c != 0x1b {
+    if c != Decoder::ESC {
         return false;
     }
-    if d != 0x1b {
+    if d != Decoder::ESC {
         return false;
     }
-    if e != 0x1b {
+    if e != Decoder::ESC {
         return false;
     }
     true
@@ -243,7 +243,7 @@ fn wait_more(d: Decoder, n: u8, chunk: &[u8], from: usize) -> Stretch
         if q == 3 {
             break;
         }
-        if chunk[from + k] != 0x1b {
+        if chunk[from + k] != Decoder::ESC {
             break;
         }
         q += 1;
@@ -301,7 +301,7 @@ fn ahead(d: Decoder, buf: &mut [u8], chunk: &[u8], from: usize) -> Stretch
             num_discarded_bytes,
             num_init_seq_bytes,
         } => {
-            if d.crc == 0xffff {
+            if d.crc == crc_x25::INIT {
                 return search_more(d, num_discarded_bytes, num_init_seq_bytes, chunk, from);
             }
             Stretch {

@@ -19,7 +19,7 @@ use Rattle.frame.proofs.Frames.{frame-parts}
 use Rattle.encoder.specs.declared.Encoder.{Encoder}
 use Rattle.encoder.specs.declared.EncoderState.{EncoderState}
 use Rattle.encoder.specs.declared.EncoderState.the-variants.{Init, LookingForEscape, HandlingEscape, End}
-use Rattle.encoder.specs.Encode.{limit}
+use Rattle.refusals.specs.Numbers.{limit}
 use Rattle.encoder.specs.Encoder.{NextAnswer, byte, finished, Step, stepTo, encoderAt, freshEncoder, endOf, badEnd, lastEnd, ended, runOf, looked, stepFrom, badCount, nextStep}
 use Rattle.encoder.specs.Calls.{calls, GivesTheFrame}
 use Rattle.encoder.proofs.Ends.{not-last}

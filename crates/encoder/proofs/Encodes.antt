@@ -11,7 +11,8 @@ use lib.ListN.{length, drop}
 use lib.Seq.{sets-eq}
 use Rattle.frame.specs.Frame.{escaped, missing, frameOf}
 use Rattle.frame.proofs.Frames.{escaped-short, length-frame}
-use Rattle.encoder.specs.Encode.{limit, length-is, noFrame, afterEncode, encodeTo}
+use Rattle.refusals.specs.Numbers.{limit}
+use Rattle.encoder.specs.Encode.{length-is, noFrame, afterEncode, encodeTo}
 use Rattle.encoder.specs.Encoder.{endOf}
 use Rattle.encoder.specs.Parts.{Stored}
 use Rattle.encoder.proofs.Stores.{length-end}

@@ -15,7 +15,7 @@ use Rattle.frame.proofs.Cases.{by-test}
 use Rattle.encoder.specs.declared.Encoder.{Encoder}
 use Rattle.encoder.specs.declared.EncoderState.{EncoderState}
 use Rattle.encoder.specs.declared.EncoderState.the-variants.{Init, LookingForEscape, HandlingEscape, End}
-use Rattle.encoder.specs.Encode.{limit}
+use Rattle.refusals.specs.Numbers.{limit}
 use Rattle.encoder.specs.Encoder.{NextAnswer, Step, byte, finished, noByte, stepTo, encoderAt, freshEncoder, endOf, endByte, lastEnd, ended, runOf, looked, stepFrom, badCount, badEncoder, nextStep}
 use Rattle.encoder.proofs.Stores.{zeros-take}
 

@@ -4,13 +4,10 @@ use mathlib.Core.List.{List, _++_}
 use Prim.Native.Nat.{ℕ}
 use lib.ListN.{length, drop}
 use lib.Dec.{leb}
+use Rattle.refusals.specs.Numbers.{payloadTooLongNo, encodeOutOfMemoryNo, limit}
 use Rattle.frame.specs.Frame.{frameOf}
 use Rattle.encoder.specs.declared.Encoded.{Encoded}
 use Rattle.encoder.specs.declared.Encoded.the-variants.{Frame, PayloadTooLong, OutOfMemory}
-
--- the longest payload
-abbrev pub limit : ℕ
-limit = 1048576
 
 pub data EncodeAnswer : Type 0 where
   length-is : ℕ → EncodeAnswer  -- of the frame
@@ -18,8 +15,8 @@ pub data EncodeAnswer : Type 0 where
 
 abbrev pub encodeAnswer : Encoded → EncodeAnswer
 encodeAnswer (Frame n) = length-is n
-encodeAnswer PayloadTooLong = noFrame 1
-encodeAnswer OutOfMemory = noFrame 2
+encodeAnswer PayloadTooLong = noFrame payloadTooLongNo
+encodeAnswer OutOfMemory = noFrame encodeOutOfMemoryNo
 
 pub record AfterEncode : Type 0 where
   pub answer : EncodeAnswer
@@ -35,5 +32,5 @@ encodeTo payload out =
     cond (leb (length payload) limit)
     (cond (leb (length frame) (length out))
     (afterEncode (length-is (length frame)) (frame ++ drop (length frame) out))
-    (afterEncode (noFrame 2) out))
-    (afterEncode (noFrame 1) out)
+    (afterEncode (noFrame encodeOutOfMemoryNo) out))
+    (afterEncode (noFrame payloadTooLongNo) out)

@@ -7,6 +7,7 @@ use lib.ListN.{length, getD, replicate}
 use lib.IntN.{ℤ, pos, negsuc, sucℤ, negℤ}
 use lib.Dec.{eqb, ltb, leb}
 use Rattle.crc_x25.specs.Crc.{start, byteStep, register, finalXor}
+use Rattle.refusals.specs.Numbers.{payloadTooLongNo, badStateNo, limit}
 use Rattle.frame.specs.Frame.{escSeq, startSeq, missing}
 use Rattle.encoder.specs.declared.Encoder.{Encoder}
 use Rattle.encoder.specs.declared.EncoderState.{EncoderState}
@@ -14,7 +15,6 @@ use Rattle.encoder.specs.declared.EncoderState.the-variants.{Init, Looki
 use Rattle.encoder.specs.declared.Given.{Given}
 use Rattle.encoder.specs.declared.Item.{Item}
 use Rattle.encoder.specs.declared.Item.the-variants.{Byte, Finished, PayloadTooLong, BadState}
-use Rattle.encoder.specs.Encode.{limit}
 
 pub data NextAnswer : Type 0 where
   byte : ℕ → NextAnswer
@@ -24,8 +24,8 @@ pub data NextAnswer : Type 0 where
 abbrev pub nextAnswer : Item → NextAnswer
 nextAnswer (Byte b) = byte b
 nextAnswer Finished = finished
-nextAnswer PayloadTooLong = noByte 1
-nextAnswer BadState = noByte 4
+nextAnswer PayloadTooLong = noByte payloadTooLongNo
+nextAnswer BadState = noByte badStateNo
 
 -- an answer, and the Encoder for the next call
 pub record Step : Type 0 where
@@ -104,5 +104,5 @@ badEncoder e len = cond (ltb len (e .place)) true (badCount (e .state))
 unfoldable pub nextStep : Encoder → List ℕ → Step
 nextStep e payload =
     cond (leb (length payload) limit)
-    (cond (badEncoder e (length payload)) (stepTo (noByte 4) e) (stepFrom (e .state) (e .place) (e .crc) payload))
-    (stepTo (noByte 1) e)
+    (cond (badEncoder e (length payload)) (stepTo (noByte badStateNo) e) (stepFrom (e .state) (e .place) (e .crc) payload))
+    (stepTo (noByte payloadTooLongNo) e)

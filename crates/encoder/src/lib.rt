@@ -9,12 +9,10 @@ ghost use lib.Signed.{ltZ};
 ghost use lib.Dec.{leb};
 ghost use Rattle.crc_x25.specs.Crc.{register};
 ghost use Rattle.frame.specs.Frame.{runWith, fourMore, escaped, missing, frameOf};
-ghost use Rattle.encoder.specs.Encode.{limit, encodeAnswer, afterEncode, encodeTo};
+ghost use Rattle.refusals.specs.Numbers.{limit};
+ghost use Rattle.encoder.specs.Encode.{encodeAnswer, afterEncode, encodeTo};
 ghost use Rattle.encoder.specs.Encoder.{byte, nextAnswer, stepOf, stepTo, encoderAt, freshEncoder, endOf, endByte, badEnd, lastEnd, badCount, badEncoder, ended, runOf, looked, stepFrom, nextStep};
 ghost use Rattle.encoder.specs.Parts.{Stored, Writes, runAfter};
-
-// The longest payload.
-pub const LIMIT: usize = 1048576;
 
 // What encode answers.
 pub enum Encoded {
@@ -124,7 +122,7 @@ fn end_byte(n: i8, pad: u8, crc: u16) -> u8
     }
     let k = end_index(n);
     if k < 4 {
-        return 0x1b;
+        return frame::ESC;
     }
     if k == 4 {
         return 0x1a;
@@ -165,7 +163,7 @@ fn run_of(n: u8, b: u8) -> u8
     requires { ⌜ n ≤ 3 ⌝ }
     ensures { λ r. ⌜ r ≡ runOf n b ⌝ }
 {
-    if b == 0x1b { n + 1 } else { 0 }
+    if b == frame::ESC { n + 1 } else { 0 }
 }
 
 // The payload's next byte, behind n 1b of a run, or the end's first.
@@ -212,13 +210,13 @@ fn step(state: EncoderState, place: usize, crc: u16, payload: &[u8]) -> Given
                 run
             } else {
                 let counted = crc_x25::update(crc, &frame::ESCAPE);
-                return give_byte(0x1b, EncoderState::HandlingEscape(1), place, counted);
+                return give_byte(frame::ESC, EncoderState::HandlingEscape(1), place, counted);
             }
         }
         EncoderState::HandlingEscape(n) => {
             if n < 4 {
                 let next = n + 1;
-                return give_byte(0x1b, EncoderState::HandlingEscape(next), place, crc);
+                return give_byte(frame::ESC, EncoderState::HandlingEscape(next), place, crc);
             }
             0
         }
@@ -259,7 +257,7 @@ impl Encoder {
     pub fn next(self, payload: &[u8]) -> Given
         ensures { λ r. ⌜ stepOf r ≡ nextStep self (now (payload .entry)) ⌝ }
     {
-        if LIMIT < payload.len() {
+        if refusals::LIMIT < payload.len() {
             return answered(Item::PayloadTooLong, self);
         }
         if self.bad_encoder(payload.len()) {
@@ -292,7 +290,7 @@ fn put_unescaped(payload: &[u8], from: usize, n: u8, out: &mut [u8], at: usize) 
     let mut k = 0;
     while k < left {
         let b = payload[from + k];
-        if b == 0x1b {
+        if b == frame::ESC {
             break;
         }
         out[at + k] = b;
@@ -314,7 +312,7 @@ fn run_with(n: u8, b: u8) -> u8
     requires { ⌜ n ≤ 3 ⌝ }
     ensures { λ r. ⌜ (r ≡ runWith n b) × (r ≤ 3) ⌝ }
 {
-    if b != 0x1b {
+    if b != frame::ESC {
         return 0;
     }
     if n == 3 {
@@ -329,7 +327,7 @@ fn put_byte(out: &mut [u8], at: usize, n: u8, b: u8) -> usize
     ensures { λ r. ⌜ Stored (now (out .exit)) r (now (out .entry)) at (b ∷ fourMore n b) ⌝ }
 {
     out[at] = b;
-    if b != 0x1b {
+    if b != frame::ESC {
         return at + 1;
     }
     if n != 3 {
@@ -365,7 +363,7 @@ fn put_escaped(payload: &[u8], out: &mut [u8], at: usize) -> usize
 fn bytes_of(run: u8, b: u8) -> usize
     ensures { λ r. ⌜ r ≡ length (b ∷ fourMore run b) ⌝ }
 {
-    if b != 0x1b {
+    if b != frame::ESC {
         return 1;
     }
     if run == 3 { 5 } else { 1 }
@@ -437,7 +435,7 @@ fn put_frame(payload: &[u8], out: &mut [u8]) -> usize
 pub fn encode(payload: &[u8], out: &mut [u8]) -> Encoded
     ensures { λ r. ⌜ afterEncode (encodeAnswer r) (now (out .exit)) ≡ encodeTo (now (payload .entry)) (now (out .entry)) ⌝ }
 {
-    if LIMIT < payload.len() {
+    if refusals::LIMIT < payload.len() {
         return Encoded::PayloadTooLong;
     }
     if !fits(payload, out.len()) {

@@ -1,5 +1,8 @@
 // The byte strings of SML transport version 1 that encoder and decoder share.
 
+// The byte that escapes are made of.
+pub const ESC: u8 = 0x1b;
+
 // The start sequence of a frame.
 pub const START: [u8; 8] = *b"\x1b\x1b\x1b\x1b\x01\x01\x01\x01";
 

@@ -1,4 +1,4 @@
-// The limits of document 01, met and passed by one, and each refusal that no line of smlreplay can bring: 1, 4, 5, 9 and 16. Prints a word or the refusal's number for what is answered, the
+// The limits of document 01, met and passed by one, and each refusal that no command of bin/replay is for: 1, 4, 5, 9 and 16. Prints a word or the refusal's number for what is answered, the
 // record that is left, and of a push whether the memory is as before.
 use decoder::Asked;
 use decoder::DecodeState;
@@ -117,7 +117,7 @@ fn by_value(label: &[u8], d: Decoder, buf: &mut [u8]) {
 fn in_place(label: &[u8], d: Decoder, buf: &mut [u8]) {
     text(label);
     text(b", push_lent:");
-    let p = transport::push_lent(d, buf, PUSHED);
+    let p = in_place::push_lent(d, buf, PUSHED);
     let e = p.event;
     let left = p.decoder;
     event(e);
@@ -318,7 +318,7 @@ fn given(label: &[u8], e: Encoder, payload: &[u8]) {
     item(e.next(payload));
     text(label);
     text(b", next_lent:");
-    item(transport::next_lent(e, payload));
+    item(in_place::next_lent(e, payload));
 }
 
 fn encoder_at(state: EncoderState, place: usize) -> Encoder {

@@ -2,13 +2,12 @@
 use Rattle.crc_x25.proofs.Decided as Crc
 use Rattle.refusals.proofs.Decided as Refusals
 use Rattle.tlf.proofs.Decided as Tlf
-use Rattle.numbers.proofs.Decided as Num
+use Rattle.numbers.proofs.Decided as Numbers
 use Rattle.octet_string.proofs.Decided as OctetString
 use Rattle.encoder.proofs.Decided as Encoder
 use Rattle.decoder.proofs.Decided as Decoder
-use Rattle.transport.proofs.Decided as Transport
+use Rattle.in_place.proofs.Decided as InPlace
 use Rattle.decoder_slice.proofs.Decided as Slice
-use Rattle.slice_in_place.proofs.Decided as SliceInPlace
 use Rattle.value.proofs.Decided as Value
 use Rattle.common.proofs.Decided as Common
 use Rattle.message.proofs.Decided as Message
@@ -22,13 +21,12 @@ views =
     record {
       refusals = Refusals.views;
       tlf = Tlf.views;
-      num = Num.views;
+      numbers = Numbers.views;
       octet-string = OctetString.views;
       encoder = Encoder.views;
       decoder = Decoder.views;
-      transport = Transport.views;
-      slice = Slice.views;
-      slice-in-place = SliceInPlace.views;
+      in-place = InPlace.views;
+      decoder-slice = Slice.views;
       value = Value.views;
       common = Common.views;
       message = Message.views;
@@ -42,13 +40,12 @@ decided =
       crc-x25 = Crc.decided;
       refusals = Refusals.decided;
       tlf = Tlf.decided;
-      num = Num.decided;
+      numbers = Numbers.decided;
       octet-string = OctetString.decided;
       encoder = Encoder.decided;
       decoder = Decoder.decided;
-      transport = Transport.decided;
-      slice = Slice.decided;
-      slice-in-place = SliceInPlace.decided;
+      in-place = InPlace.decided;
+      decoder-slice = Slice.decided;
       value = Value.decided;
       common = Common.decided;
       message = Message.decided;

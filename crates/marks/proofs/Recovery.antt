@@ -24,7 +24,8 @@ use Rattle.decoder.specs.declared.Setup.{Setup}
 use Rattle.since.specs.Since.{grownSince, ReadSince}
 use Rattle.since.proofs.Kept.{kept, reads-fresh}
 use Rattle.since.proofs.Counts.{reads-counted}
-use Rattle.encoder.specs.Encode.{limit, encodeTo}
+use Rattle.refusals.specs.Numbers.{limit}
+use Rattle.encoder.specs.Encode.{encodeTo}
 use Rattle.marks.specs.Decoders.{ours, answers, countFrom, countSince, frameSays}
 use Rattle.marks.specs.Mark3.{Job, Suits, AllSuit, wroteFor, framesFor, restSays, Mark3}
 use Rattle.frame.proofs.Cases.{by-test}

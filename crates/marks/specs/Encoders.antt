@@ -5,7 +5,7 @@ use Prim.Native.Nat.{ℕ, zero, suc, _+_, _≤_}
 use lib.ListN.{length, replicate}
 use Rattle.frame.specs.Frame.{frameOf}
 use Rattle.encoder.specs.declared.Encoder.{Encoder}
-use Rattle.encoder.specs.Encode.{limit}
+use Rattle.refusals.specs.Numbers.{limit}
 use Rattle.encoder.specs.Encoder.{NextAnswer, byte, finished, freshEncoder, nextStep}
 use Rattle.marks.specs.Mark3.{Encode, Job, wroteFor}
 

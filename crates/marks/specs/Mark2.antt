@@ -5,6 +5,7 @@ use mathlib.Core.List.{List, [], _∷_, _++_, map}
 use Prim.Native.Nat.{ℕ, _+_, _≤_, _<_}
 use lib.ListN.{length, replicate}
 use lib.Dec.{eqb}
+use Rattle.refusals.specs.Numbers.{limit}
 use Rattle.frame.specs.Frame.{Sound}
 use Rattle.decoder.specs.Record.{Answer, nothing, payload, refusal, setup, badDecoder, wrongBuffer}
 use Rattle.decoder.specs.Run.{Op, push, finalize, reset}
@@ -36,7 +37,7 @@ pub record EndsFrame (since : List ℕ) (o : Op) (P : List ℕ) : Type 0 where
 -- what is handed back from the memory of that same run is that payload
 abbrev pub Soundness : {S : Type 0} → Machine S → Type 0
 Soundness {S} M =
-    (C : Setup) (m : List ℕ) → length m ≡ C .capacity → C .capacity ≤ 1048576
+    (C : Setup) (m : List ℕ) → length m ≡ C .capacity → C .capacity ≤ limit
     → (os : List Op) (o : Op) (P : List ℕ) → PushesBytes (os ++ o ∷ [])
     → let a : Gave S = behindOf M (M .new C) m os o in
     a .answer ≡ payload P

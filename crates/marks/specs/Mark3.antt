@@ -3,6 +3,7 @@ use mathlib.Core.Path.{_≡_}
 use mathlib.Core.List.{List, [], _∷_, _++_, map}
 use Prim.Native.Nat.{ℕ, _+_, _≤_}
 use lib.ListN.{length, take, replicate}
+use Rattle.refusals.specs.Numbers.{limit}
 use Rattle.frame.specs.Frame.{frameOf, missing}
 use Rattle.encoder.specs.Encode.{AfterEncode, length-is}
 use Rattle.encoder.specs.Encode as E
@@ -61,7 +62,7 @@ restSays encode (j ∷ js) = frameSays nothing (wroteFor encode j) (j .payload) 
 -- first frame's eighth byte, with the count of the bytes before that frame since the last payload, refusal, finalize or reset, or else since the start, stopped at 4,294,967,295; each payload at its own last byte; nothing else
 abbrev pub Mark3 : {S : Type 0} → Machine S → Encode → Type 0
 Mark3 M encode =
-    (C : Setup) (m : List ℕ) → length m ≡ C .capacity → C .capacity ≤ 1048576
+    (C : Setup) (m : List ℕ) → length m ≡ C .capacity → C .capacity ≤ limit
     → (before : List Op) (j : Job) (js : List Job) → AllSuit C (j ∷ js)
     → let os : List Op = before ++ replicate (C .capacity + 5) (push 0x00) in
     let heard : List Answer = answers M (M .new C) m os in

@@ -3,6 +3,7 @@ use mathlib.Core.Path.{_≡_}
 use mathlib.Core.List.{List}
 use Prim.Native.Nat.{ℕ, _≤_}
 use lib.ListN.{length}
+use Rattle.refusals.specs.Numbers.{limit}
 use Rattle.decoder.specs.Run.{Op}
 use Rattle.decoder.specs.declared.Decoder.{Decoder}
 use Rattle.decoder.specs.declared.Setup.{Setup}
@@ -22,8 +23,8 @@ pub record Marks : Type 0 where
   -- mark 2: payloads only of sound frames, and of every sound frame that fits; a new decoder is such a search, and so is what any operations with one buffer leave, wherever nothing is matched
   pub soundness : Soundness ours
   pub completeness : Completeness ours OurSearch
-  pub new-searches : (C : Setup) (m : List ℕ) → length m ≡ C .capacity → C .capacity ≤ 1048576 → OurSearch C (ours .new C) m 0
-  pub reached-searches : (C : Setup) (m : List ℕ) → length m ≡ C .capacity → C .capacity ≤ 1048576 → (os : List Op) (o : Op) (noise : ℕ)
+  pub new-searches : (C : Setup) (m : List ℕ) → length m ≡ C .capacity → C .capacity ≤ limit → OurSearch C (ours .new C) m 0
+  pub reached-searches : (C : Setup) (m : List ℕ) → length m ≡ C .capacity → C .capacity ≤ limit → (os : List Op) (o : Op) (noise : ℕ)
       → let a : Gave Decoder = behindOf ours (ours .new C) m os o in
       Unmatched (a .decoder .state) noise → OurSearch C (a .decoder) (a .memory) noise
   -- encode and the Encoder give the same bytes

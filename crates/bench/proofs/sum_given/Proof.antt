@@ -5,7 +5,7 @@ use Prim.Native.Nat.{_≤_, _<_, _-_, _+_, _*_, _^_}
 use native.Mathlib.Omega.{arith}
 use lib.ListN.{length, drop}
 use Rattle.frame.specs.Frame.{frameOf}
-use Rattle.encoder.specs.Encode.{limit}
+use Rattle.refusals.specs.Numbers.{limit}
 use Rattle.encoder.specs.declared.Encoder.{Encoder}
 use Rattle.encoder.proofs.Encodes.{frame-short}
 use Rattle.decoder_slice.proofs.Runs.{not-true, not-false}

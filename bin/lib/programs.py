@@ -1,0 +1,64 @@
+"""What the commands of bin/ share: a program is proved and built where that hasn't been done, and run as `rt` runs it. Its input is standard input, or a file."""
+import os, platform, shutil, subprocess, sys
+
+ROOT = os.path.dirname(os.path.dirname(os.path.dirname(os.path.abspath(__file__))))
+# which program behind bin/replay answers a command, by its first word
+COMMANDS = {"replay_wire": ["encode", "encode_cap", "stream", "crc", "push"], "replay_messages": ["leaf", "places", "events"]}
+
+
+def build(names, seconds):
+    """Proves and builds what isn't. Where nothing is left to do that takes less than a second, and nothing is said."""
+    left = [name for name in names if not os.path.exists(os.path.join(ROOT, "target/bin", name))]
+    try:
+        check = subprocess.Popen(["rt", "check", *names], cwd=ROOT, stdin=subprocess.DEVNULL, stdout=subprocess.PIPE, stderr=subprocess.STDOUT)
+    except FileNotFoundError:
+        refuse("rt, the command of the Rattle toolchain, is not at hand")
+    try:
+        said = check.communicate(timeout=0 if left else 5)[0]
+    except subprocess.TimeoutExpired:
+        print(f"proving {' and '.join(left or names)}, once; about {seconds} seconds", file=sys.stderr, flush=True)
+        said = check.communicate()[0]
+    if check.returncode != 0:
+        print(b"\n".join(said.split(b"\n")[-20:]).decode(errors="replace"), file=sys.stderr)
+        sys.exit(1)
+    for name in left:
+        if not os.path.exists(os.path.join(ROOT, "target/bin", name)):
+            refuse(f"target/bin/{name} is gone, though it is proved: remove target/ and start again")
+
+
+def program(name):
+    """The words that run a built program: under the toolchain's loader, and its emulator where it has one, since programs are x86-64."""
+    kit = os.environ.get("RATTLE_HOME") or os.path.dirname(os.path.dirname(os.path.realpath(shutil.which("rt"))))
+    tools = os.path.join(kit, "on", platform.machine(), "toolchain")
+    emulator = os.path.join(tools, "bin/qemu-x86_64")
+    loader = [os.path.join(tools, "lib/ld-linux-x86-64.so.2"), "--library-path", os.path.join(tools, "lib")]
+    return [emulator] * os.access(emulator, os.X_OK) + loader + [os.path.join(ROOT, "target/bin", name)]
+
+
+def refuse(said):
+    print(said, file=sys.stderr)
+    sys.exit(2)
+
+
+def take_input(usage):
+    """The one argument, if any: -h prints the usage; FILE becomes standard input, and - is standard input itself."""
+    words = sys.argv[1:]
+    if words in (["-h"], ["--help"]):
+        print(usage.strip())
+        sys.exit(0)
+    if len(words) > 1 or words and words[0].startswith("-") and words != ["-"]:
+        refuse(usage.strip())
+    if words and words != ["-"]:
+        try:
+            os.dup2(os.open(words[0], os.O_RDONLY), 0)
+            os.read(0, 0)
+        except OSError as e:
+            refuse(f"{os.path.basename(sys.argv[0])}: {words[0]}: {e.strerror}")
+
+
+def start(name, usage, seconds):
+    """Becomes the program."""
+    take_input(usage)
+    build([name], seconds)
+    words = program(name)
+    os.execv(words[0], words)
