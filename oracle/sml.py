@@ -53,5 +53,5 @@ def capacities():
     return sorted(c for c in map(int, listed.split()) if c <= 4096)
 
 
-# kinds of `leaf` that crates num and octet_string read; those of crate value are KINDS of messages.py
+# kinds of `leaf` that crates numbers and octet_string read; those of crate value are KINDS of messages.py
 KINDS = ["u8", "u16", "u32", "u64", "i8", "i16", "i32", "i64", "bool", "oct", "opt_oct"]

@@ -1,8 +1,9 @@
-"""No public function relies on its caller, and each has a statement on what it answers; functions are short; no file names a machine's path or a registry."""
+"""No public function relies on its caller, and each has a statement on what it answers; functions are short, and each of a library has its line; no file names a machine's path or a registry."""
 import glob, os, re, subprocess, sys
 
 os.chdir(os.path.join(os.path.dirname(os.path.abspath(__file__)), ".."))
 bad, count = [], 0
+PROGRAMS = [c for c in os.listdir("crates") if os.path.isfile(f"crates/{c}/src/main.rt")]
 FN = re.compile(r'^(\s*)(pub\s+|pub\(crate\)\s+)?(?:extern\s+"C"\s+)?fn\s+(\w+)')
 for path in sorted(glob.glob("crates/*/src/**/*.rt", recursive=True)):
     lines = open(path, encoding="utf-8").read().split("\n")
@@ -17,6 +18,8 @@ for path in sorted(glob.glob("crates/*/src/**/*.rt", recursive=True)):
         end = next(k for k in range(j, len(lines)) if lines[k] == m.group(1) + "}")
         if end - j > 40:
             bad.append(f"{path}:{i + 1}: {m.group(3)} has {end - j} lines")
+        if path.split(os.sep)[1] not in PROGRAMS and not lines[i - 1 - (lines[i - 1] == "#[no_mangle]")].strip().startswith("//"):
+            bad.append(f"{path}:{i + 1}: {m.group(3)} has no line that says which function of the Rust it is, or why it is there")
         if m.group(2) and m.group(2).startswith("pub "):
             count += 1
             if "requires" in clauses:

@@ -80,6 +80,7 @@ pub extern "C" fn bench_push_slice(src: &[u8], buf: &mut [u8]) -> u64
     n
 }
 
+// The length of the frame that encode wrote, or 0.
 fn frame_length(r: Encoded) -> u64
     ensures { λ k. ⌜ k ≡ lengthIn (E.encodeAnswer r) ⌝ }
 {
@@ -99,6 +100,7 @@ pub extern "C" fn bench_encode(payload: &[u8], out: &mut [u8]) -> u64
     frame_length(r)
 }
 
+// Whether an Encoder gave a byte: it goes on as long as it does.
 fn is_byte(answer: Item) -> bool
     ensures { λ r. ⌜ r ≡ isByte (nextAnswer answer) ⌝ }
 {
@@ -155,6 +157,7 @@ pub extern "C" fn bench_stream(payload: &[u8]) -> u64
     sum_given(payload)
 }
 
+// Whether a call of the reader gave an event.
 fn is_event(answer: Answer) -> bool
     ensures { λ r. ⌜ r ≡ isEvent (said answer) ⌝ }
 {

@@ -36,6 +36,7 @@ pub enum OpenRead {
     Refused(Fault),
 }
 
+// The last two of OpenResponse's six fields, so that no function is longer than a page.
 fn open_rest(
     input: &[u8],
     at: usize,
@@ -74,6 +75,7 @@ fn open_rest(
     }
 }
 
+// OpenResponse of common.rs: check_tlf, then parse_with_tlf field by field.
 pub fn parse_open_response(input: &[u8], at: usize) -> OpenRead
     ensures { λ r. ⌜ openRead r ≡ openAt (now (input .entry)) at ⌝ }
 {
@@ -125,6 +127,7 @@ pub enum CloseRead {
     Refused(Fault),
 }
 
+// CloseResponse of common.rs.
 pub fn parse_close_response(input: &[u8], at: usize) -> CloseRead
     ensures { λ r. ⌜ closeRead r ≡ closeAt (now (input .entry)) at ⌝ }
 {
@@ -161,6 +164,7 @@ pub enum EntryRead {
     Refused(Fault),
 }
 
+// The last three of ListEntry's seven fields, so that no function is longer than a page.
 fn entry_rest(
     input: &[u8],
     at: usize,
@@ -207,6 +211,7 @@ fn entry_rest(
     }
 }
 
+// ListEntry of common.rs: check_tlf, then parse_with_tlf field by field.
 pub fn parse_list_entry(input: &[u8], at: usize) -> EntryRead
     ensures { λ r. ⌜ entryRead r ≡ entryAt (now (input .entry)) at ⌝ }
 {

@@ -17,7 +17,7 @@ views =
     record {
       pushed = push-both;
       finalized = finalize-one;
-      resetted = reset-one;
+      was-reset = reset-one;
       asked = ask-one;
     }
 
@@ -32,7 +32,7 @@ decided =
       push-byte = λ self buf b. injective (λ (r : With Pushed). afterPush (r .answer) (r .memory)) (views .pushed) _;
       push-any = λ d buf b. injective (λ (r : With Pushed). afterPush (r .answer) (r .memory)) (views .pushed) _;
       finalize = λ self. injective afterFinalize (views .finalized) _;
-      reset = λ self. injective afterReset (views .resetted) _;
+      reset = λ self. injective afterReset (views .was-reset) _;
       ask-payload = λ self buf. injective answerAsked (views .asked) _;
       payload = λ self buf. oneOutcome _;
     }

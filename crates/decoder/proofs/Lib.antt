@@ -16,3 +16,4 @@ pub mod Tests
 pub mod Checks
 pub mod Reached
 pub mod Decided
+pub mod Wrong

@@ -6,7 +6,7 @@ use Prim.Native.Nat.{ℕ}
 use lib.ListN.{length}
 use Rattle.frame.proofs.Cases.{by-eq, by-test}
 use Rattle.decoder.specs.Push.{Setup, Mem, State, done, PushEvent, paysOut, Out, noticed, fresh, step}
-use Rattle.decoder.specs.Record.{Answer, nothing, payload, count, refusal, After, numbered, setup, stateOf, recordOf, badDecoder, wrongBuffer, pushed, pushRecord}
+use Rattle.decoder.specs.Record.{Answer, nothing, payload, count, refusal, After, numbered, setup, stateOf, recordWith, recordOf, badDecoder, wrongBuffer, pushed, pushRecord}
 use Rattle.decoder.specs.Saw.{Judged, is-data, restarts, good, bad, shifts, unknown, Saw, sought, began, again, waits, opens, stores, full, reads, judges, full′}
 use Rattle.decoder.specs.declared.DecodeState.the-variants.{Done}
 use Rattle.decoder.specs.declared.Decoder.{Decoder}
@@ -51,7 +51,7 @@ paid C s b o (full′ f) bytes h = cc
 
 -- the record behind a payload: its fill is the payload's length, CRC index and raw length are 0, the CRC register ffff
 pub payload-leaves : (d : Decoder) (m : List ℕ) (b : ℕ) (bytes : List ℕ) → pushRecord d m b .answer ≡ payload bytes
-    → pushRecord d m b .decoder ≡ record { capacity = d .capacity; fill = length bytes; «raw_msg_len» = 0; crc = 0xffff; «crc_idx» = 0; state = Done }
+    → pushRecord d m b .decoder ≡ recordWith (setup d) (length bytes) 0 0xffff 0 Done
 unfolding pushRecord pushed Paid
 payload-leaves d m b bytes =
     by-test (λ (a : After). a .answer ≡ payload bytes → a .decoder ≡ recordOf (setup d) (done bytes)) (badDecoder d) _ _ (λ t h. cc) (λ f.

@@ -15,7 +15,7 @@ use Rattle.frame.specs.Frame.{missing, escSeq, restartSeq}
 use Rattle.frame.proofs.Cases.{either}
 use Rattle.decoder.specs.Push as P
 use Rattle.decoder.specs.Push.{Setup, Mem, State, body, escape, done, silent, discarded, badEscape, says, put, searching, store, judge, finish, begun, fresh, early, same, sound?, computed, padOf, crcRead, step}
-use Rattle.decoder.specs.Record.{after, answerOf, numbered, setup, memOf, stateAs, stateOf, waiting, recordWith, recordOf, wrote, written, badDecoder, wrongBuffer, pushed, pushRecord, Answer, payload}
+use Rattle.decoder.specs.Record.{after, answerOf, numbered, setup, memOf, stateAs, stateOf, waiting, recordWith, recounted, recordOf, wrote, written, badDecoder, wrongBuffer, pushed, pushRecord, Answer, payload}
 use Rattle.decoder.specs.Cut.{codeEvent, code, Cut, cut, toldCut, storedOn, freshWith, storeStep, normalStep, escapeAt, waitStep, four, judgedAt, sound, verdict, computedCrc, endStep, otherStep, judgeStep, escapeStep, stepCut}
 use Rattle.decoder.specs.declared.DecodeState.{DecodeState}
 use Rattle.decoder.specs.declared.DecodeState.the-variants.{LookingForMessageStart, ParsingNormal, ParsingEscChars, ParsingEscPayload, Done}
@@ -175,12 +175,12 @@ tied-escape C b k m q holds lent le long =
 
 -- ---- every record that is not refused
 
--- inside a frame a record is the packed form of its state
+-- inside a frame a record is the code's form of its state
 same-record : (d : Decoder) (m : List ℕ) (s : DecodeState) → d .state ≡ s → d .fill ≤ length m
     → d ≡ recordWith (setup d) (length (take (d .fill) m)) (d .«raw_msg_len») (d .crc) (d .«crc_idx») s
 same-record d m s e l =
     let n : d .fill ≡ length (take (d .fill) m) = sym (length-take-le (d .fill) m l) in
-    λ i. record { capacity = d .capacity; fill = n i; «raw_msg_len» = d .«raw_msg_len»; crc = d .crc; «crc_idx» = d .«crc_idx»; state = e i }
+    λ i. recounted d (n i) (d .«raw_msg_len») (e i)
 
 tied-wait : (d : Decoder) (m : List ℕ) (b n : ℕ) → d .state ≡ waiting n → d .fill ≤ length m → length m ≡ d .capacity
     → stepCut (waiting n) d m b ≡ coded (setup d) m (body n (memOf d m)) b

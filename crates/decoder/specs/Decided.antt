@@ -18,7 +18,7 @@ use Rattle.decided.specs.One.{One, With, Injective}
 pub record Views : Type 0 where
   pub pushed : Injective (λ (r : With Pushed). afterPush (r .answer) (r .memory))
   pub finalized : Injective afterFinalize
-  pub resetted : Injective afterReset
+  pub was-reset : Injective afterReset
   pub asked : Injective answerAsked
 
 -- every public function: over its parameters, what its `ensures` allows. A slice that is lent stands for what it holds at the call

@@ -1,4 +1,4 @@
--- rule: the record that the code keeps of a decoder, with the lent buffer, as the packed form of the push rules' state; what is refused; document 01's number and values of every answer.
+-- rule: the record that the code keeps of a decoder, with the lent buffer, as the code's form of the push rules' state; what is refused; document 01's number and values of every answer.
 use mathlib.Core.Bool.{Bool, true, false, cond}
 use mathlib.Core.List.{List, [], _∷_, _++_}
 use Prim.Native.Nat.{ℕ, zero, suc, _+_}
@@ -169,7 +169,7 @@ pushRecord d m b =
     cond (badDecoder d) (after (refusal badStateNo []) d m)
     (cond (wrongBuffer (d .capacity) (length m)) (after (refusal wrongBufferNo []) d m) (pushed d m b (step (setup d) (stateOf d m) b)))
 
--- finalize and reset look at no stored byte, so the view is over no memory
+-- finalize and reset look at no stored byte, so the state is taken over no memory
 unfoldable pub finalizeRecord : Decoder → Left
 finalizeRecord d = cond (badDecoder d) (left (refusal badStateNo []) d) (left (numbered (finalized (stateOf d []))) (newRecord (setup d)))
 

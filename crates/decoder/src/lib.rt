@@ -84,6 +84,7 @@ impl Decoder {
     // The bytes behind an escape, which are stored and judged together.
     pub const ESC_PAYLOAD_LEN: usize = 4;
 
+    // Decoder::new of transport.rs: nothing is seen yet.
     pub fn new(capacity: usize) -> Decoder
         ensures { λ r. ⌜ r ≡ newRecord (sized capacity) ⌝ }
     {
@@ -232,7 +233,7 @@ fn looking(d: Decoder, noise: u32, n: u8) -> Decoder
     )
 }
 
-// Behind n start bytes, b is the next one.
+// Behind n start bytes, b is the next one. Public for decoder_slice, which runs over the bytes of a search by it.
 pub fn matching(n: u8, b: u8) -> bool
     ensures { λ r. ⌜ r ≡ starts n b ⌝ }
 {
@@ -247,6 +248,7 @@ fn next_match(n: u8, b: u8) -> u8
     if matching(n, b) { n + 1 } else { 0 }
 }
 
+// The arm LookingForMessageStart of push_byte: one byte of a search.
 fn looking_for_message_start(d: Decoder, noise: u32, n: u8, b: u8) -> Pushed
     requires { ⌜ n < 8 ⌝ }
     ensures { λ r. ⌜ r ≡ code (setup d) (searching n noise (d .«raw_msg_len») b) ⌝ }
@@ -265,6 +267,7 @@ fn looking_for_message_start(d: Decoder, noise: u32, n: u8, b: u8) -> Pushed
     quietly(looking(d, more_noise(noise, n, k), k))
 }
 
+// The arm ParsingNormal: a byte of the frame, or the first 1b of a run.
 fn parsing_normal(d: Decoder, buf: &mut [u8], b: u8) -> Pushed
     ensures { λ r. ⌜ cut r (now (buf .exit)) ≡ normalStep d (now (buf .entry)) b ⌝ }
 {
@@ -319,6 +322,7 @@ fn opened(d: Decoder, buf: &[u8]) -> Decoder
     )
 }
 
+// The arm ParsingEscChars: a 1b more, or the run was data and is stored with the byte.
 fn parsing_esc_chars(d: Decoder, buf: &mut [u8], n: u8, b: u8) -> Pushed
     requires { ⌜ (d .fill ≤ length (now buf)) × (d .«crc_idx» ≤ d .fill) × (n ≤ 3) ⌝ }
     ensures { λ r. ⌜ cut r (now (buf .exit)) ≡ waitStep d (now (buf .entry)) n b ⌝ }
@@ -355,12 +359,14 @@ fn same_bytes(s: &[u8], t: &[u8]) -> bool
     true
 }
 
+// u16::from_le_bytes of the Rust: the two CRC bytes, low byte first.
 fn le16(lo: u8, hi: u8) -> u16
     ensures { λ r. ⌜ r ≡ lo + hi * 256 ⌝ }
 {
     (lo as u16) + (hi as u16) * 256
 }
 
+// The tests of the Rust's arm 0x1a: CRC, alignment, and the pad count against 3 and against what is stored.
 fn is_sound_end(fill: usize, read_crc: u16, calculated_crc: u16, p: u8) -> bool
     requires { ⌜ 4 ≤ fill ⌝ }
     ensures { λ r. ⌜ r ≡ sound fill «read_crc» «calculated_crc» p ⌝ }
@@ -469,6 +475,7 @@ fn judge(d: Decoder, buf: &[u8]) -> Pushed
     other_escape(d, buf)
 }
 
+// The arm ParsingEscPayload: a byte behind an escape is stored, and the fourth is judged.
 fn parsing_esc_payload(d: Decoder, buf: &mut [u8], n: u8, b: u8) -> Pushed
     requires { ⌜ (d .«crc_idx» + n ≤ d .fill) × (n ≤ 3) × (8 ≤ d .«raw_msg_len») ⌝ }
     ensures { λ r. ⌜ cut r (now (buf .exit)) ≡ escapeStep d (now (buf .entry)) n b ⌝ }
@@ -484,7 +491,7 @@ fn parsing_esc_payload(d: Decoder, buf: &mut [u8], n: u8, b: u8) -> Pushed
     fresh_with(setup_of(d), Event::OutOfMemory)
 }
 
-// A record that no pushes lead to.
+// Refusal 4: a record that no pushes lead to. Public for decoder_slice, which asks it before it takes a byte.
 pub fn bad_decoder(d: Decoder) -> bool
     ensures { λ r. ⌜ r ≡ badDecoder d ⌝ }
 {
@@ -526,6 +533,7 @@ pub fn bad_decoder(d: Decoder) -> bool
     }
 }
 
+// Refusal 5: the lent buffer isn't as long as the recorded one, or is over the limit; the Rust's buffer is in its type. Public for decoder_slice, too.
 pub fn wrong_buffer(recorded: usize, lent: usize) -> bool
     ensures { λ r. ⌜ r ≡ wrongBuffer recorded lent ⌝ }
 {
@@ -629,6 +637,7 @@ fn is_fresh(s: DecodeState) -> bool
     }
 }
 
+// The arm Done: a payload stands in the buffer.
 fn is_done(s: DecodeState) -> bool
     ensures { λ r. ⌜ r ≡ isDone s ⌝ }
 {

@@ -27,6 +27,7 @@ struct Stretch {
     at: usize,
 }
 
+// Whether a push of the chunk goes on behind this event.
 fn says_nothing(e: Event) -> bool
     ensures { λ r. ⌜ r ≡ saysNothing (answerOf e []) ⌝ }
 {
@@ -66,6 +67,7 @@ fn moved_by(d: Decoder, j: usize, k: usize, s: DecodeState) -> Decoder
     decoder::recounted(d, d.fill + j, more(d.raw_msg_len, k), s)
 }
 
+// The smaller of two counts: there is no min for numbers.
 fn least(a: usize, b: usize) -> usize
     ensures { λ r. ⌜ (r ≤ a) × (r ≤ b) ⌝ }
 {
@@ -313,6 +315,7 @@ fn ahead(d: Decoder, buf: &mut [u8], chunk: &[u8], from: usize) -> Stretch
         DecodeState::ParsingEscChars(n) => wait_more(d, n, chunk, from),
         DecodeState::ParsingEscPayload(n) => put_judged(d, n, buf, chunk, from),
         DecodeState::Done => {
+            // The next byte begins a fresh search, and reset makes its record.
             let r = d.reset();
             let f = r.decoder;
             search_more(f, 0, 0, chunk, from)

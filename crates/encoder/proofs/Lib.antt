@@ -5,3 +5,4 @@ pub mod Steps
 pub mod Calls
 pub mod Examples
 pub mod Decided
+pub mod Wrong

@@ -61,7 +61,7 @@ unfolding escaped
 escaped-zeros zero r = refl
 escaped-zeros (suc n) r = ap (λ (l : List ℕ). 0 ∷ l) (escaped-zeros n 0)
 
--- escaped and run, case by case
+-- escaped and runBehind, case by case
 module _ (r b : ℕ) (p : List ℕ) (ne : b ≡ 0x1b → ⊥) where
   pub escaped-other : escaped r (b ∷ p) ≡ b ∷ escaped 0 p
   unfolding escaped

@@ -68,7 +68,7 @@ views =
     record {
       pushed-in-place = push-in-place;
       finalized-in-place = finalize-in-place;
-      resetted-in-place = reset-in-place;
+      was-reset-in-place = reset-in-place;
       next-in-place = next-in-place;
       sliced-in-place = slice-in-place;
     }
@@ -81,10 +81,10 @@ decided =
           (λ (r : With (Beside Event Decoder)). afterPush (record { decoder = r .answer .lent; event = r .answer .answer }) (r .memory))
           (views .pushed-in-place) _;
       finalize = λ d. injective (λ (r : Beside Event Decoder). afterFinalize (record { decoder = r .lent; event = r .answer })) (views .finalized-in-place) _;
-      reset = λ d. injective (λ (r : Beside ℕ Decoder). afterReset (record { decoder = r .lent; count = r .answer })) (views .resetted-in-place) _;
+      reset = λ d. injective (λ (r : Beside ℕ Decoder). afterReset (record { decoder = r .lent; count = r .answer })) (views .was-reset-in-place) _;
       push-lent = λ d buf b. injective (λ (r : With Pushed). afterPush (r .answer) (r .memory)) (decoderViews .pushed) _;
       finalize-lent = λ d. injective afterFinalize (decoderViews .finalized) _;
-      reset-lent = λ d. injective afterReset (decoderViews .resetted) _;
+      reset-lent = λ d. injective afterReset (decoderViews .was-reset) _;
       next = λ e payload. injective (λ (r : Beside Item Encoder). stepOf (record { answer = r .answer; encoder = r .lent })) (views .next-in-place) _;
       next-lent = λ e payload. injective stepOf (encoderViews .next) _;
       push-slice =

@@ -1,4 +1,4 @@
--- What the contracts rule out: each wrong reading of docs/WRONG-READINGS.md that is told here is an outcome that the definition does not allow, at the smallest input.
+-- What the contracts rule out: each wrong reading of docs/WRONG-READINGS.md that is told here is an outcome that the definition does not allow, at a small input.
 use mathlib.Core.Path.{_≡_, ap}
 use mathlib.Core.List.{List, [], _∷_}
 use Prim.Native.Nat.{ℕ}
@@ -34,17 +34,17 @@ zeros = replicate 8 0
 
 in-place-push-keeps-the-decoder : (e : Event) (m : List ℕ) → afterPush (record { decoder = new8; event = e }) m ≡ pushRecord new8 zeros 0x1b → ⊥
 unfolding pushRecord pushed badDecoder wrongBuffer step searching
-in-place-push-keeps-the-decoder e m h = let raw : 0 ≡ 1 = ap (λ (a : After). a .decoder .«raw_msg_len») h in omega (arith, raw)
+in-place-push-keeps-the-decoder e m h = let raw : _≡_ {A = ℕ} 0 1 = ap (λ (a : After). a .decoder .«raw_msg_len») h in omega (arith, raw)
 
 in-place-push-keeps-the-buffer : (d : Decoder) (e : Event) → afterPush (record { decoder = d; event = e }) zeros ≡ pushRecord begun8 zeros 0x12 → ⊥
 unfolding pushRecord pushed badDecoder wrongBuffer wrote step store reflect polynomial bitStep bitSteps byteStep register
-in-place-push-keeps-the-buffer d e h = let first : 0 ≡ 0x12 = ap (λ (a : After). getD (a .memory) 0 0) h in omega (arith, first)
+in-place-push-keeps-the-buffer d e h = let first : _≡_ {A = ℕ} 0 0x12 = ap (λ (a : After). getD (a .memory) 0 0) h in omega (arith, first)
 
 -- ---- finalize and reset
 
 in-place-finalize-keeps-the-decoder : (e : Event) → afterFinalize (record { decoder = behind1b; event = e }) ≡ finalizeRecord behind1b → ⊥
 unfolding finalizeRecord badDecoder finalized
-in-place-finalize-keeps-the-decoder e h = let raw : 1 ≡ 0 = ap (λ (l : Left). l .decoder .«raw_msg_len») h in omega (arith, raw)
+in-place-finalize-keeps-the-decoder e h = let raw : _≡_ {A = ℕ} 1 0 = ap (λ (l : Left). l .decoder .«raw_msg_len») h in omega (arith, raw)
 
 -- how many bytes an answer says are lost
 lost : Answer → ℕ
@@ -56,25 +56,25 @@ lost (refusal k values) = getD values 0 0
 -- asked behind its new beginning, a decoder has lost nothing
 in-place-finalize-judges-the-new-decoder : (d : Decoder) → afterFinalize (record { decoder = d; event = Nothing }) ≡ finalizeRecord behind1b → ⊥
 unfolding finalizeRecord badDecoder finalized lost
-in-place-finalize-judges-the-new-decoder d h = let n : 0 ≡ 1 = ap (λ (l : Left). lost (l .answer)) h in omega (arith, n)
+in-place-finalize-judges-the-new-decoder d h = let n : _≡_ {A = ℕ} 0 1 = ap (λ (l : Left). lost (l .answer)) h in omega (arith, n)
 
 in-place-reset-keeps-the-decoder : (n : ℕ) → afterReset (record { decoder = behind1b; count = n }) ≡ resetRecord behind1b → ⊥
 unfolding resetRecord resetCount
-in-place-reset-keeps-the-decoder n h = let raw : 1 ≡ 0 = ap (λ (l : Left). l .decoder .«raw_msg_len») h in omega (arith, raw)
+in-place-reset-keeps-the-decoder n h = let raw : _≡_ {A = ℕ} 1 0 = ap (λ (l : Left). l .decoder .«raw_msg_len») h in omega (arith, raw)
 
 in-place-reset-counts-the-new-decoder : (d : Decoder) → afterReset (record { decoder = d; count = 0 }) ≡ resetRecord behind1b → ⊥
 unfolding resetRecord resetCount lost
-in-place-reset-counts-the-new-decoder d h = let n : 0 ≡ 1 = ap (λ (l : Left). lost (l .answer)) h in omega (arith, n)
+in-place-reset-counts-the-new-decoder d h = let n : _≡_ {A = ℕ} 0 1 = ap (λ (l : Left). lost (l .answer)) h in omega (arith, n)
 
 -- ---- the push of a slice
 
 in-place-slice-keeps-the-decoder : (e : Event) (taken : ℕ) (m : List ℕ) → afterSlice (record { decoder = new8; event = e; taken = taken }) m ≡ sliceRecord new8 zeros (0x1b ∷ []) → ⊥
 unfolding sliceRecord pushesFrom pushRecord pushed badDecoder wrongBuffer step searching
-in-place-slice-keeps-the-decoder e taken m h = let raw : 0 ≡ 1 = ap (λ (t : Took). t .decoder .«raw_msg_len») h in omega (arith, raw)
+in-place-slice-keeps-the-decoder e taken m h = let raw : _≡_ {A = ℕ} 0 1 = ap (λ (t : Took). t .decoder .«raw_msg_len») h in omega (arith, raw)
 
 in-place-slice-keeps-the-buffer : (d : Decoder) (e : Event) (taken : ℕ) → afterSlice (record { decoder = d; event = e; taken = taken }) zeros ≡ sliceRecord begun8 zeros (0x12 ∷ []) → ⊥
 unfolding sliceRecord pushesFrom pushRecord pushed badDecoder wrongBuffer wrote step store reflect polynomial bitStep bitSteps byteStep register
-in-place-slice-keeps-the-buffer d e taken h = let first : 0 ≡ 0x12 = ap (λ (t : Took). getD (t .memory) 0 0) h in omega (arith, first)
+in-place-slice-keeps-the-buffer d e taken h = let first : _≡_ {A = ℕ} 0 0x12 = ap (λ (t : Took). getD (t .memory) 0 0) h in omega (arith, first)
 
 -- ---- the Encoder
 
@@ -87,7 +87,7 @@ started (End n) = 8
 
 in-place-next-keeps-the-encoder : (i : Item) → stepOf (record { answer = i; encoder = freshEncoder }) ≡ nextStep freshEncoder [] → ⊥
 unfolding nextStep badEncoder stepFrom freshEncoder started reflect polynomial bitStep bitSteps byteStep register
-in-place-next-keeps-the-encoder i h = let n : 0 ≡ 1 = ap (λ (s : Step). started (s .encoder .state)) h in omega (arith, n)
+in-place-next-keeps-the-encoder i h = let n : _≡_ {A = ℕ} 0 1 = ap (λ (s : Step). started (s .encoder .state)) h in omega (arith, n)
 
 -- the byte that an answer gives
 given : NextAnswer → ℕ
@@ -96,6 +96,6 @@ given finished = 256
 given (noByte n) = 256
 
 -- the fourth byte of a start is 1b; the Encoder that this call leaves would give the fifth, 01
-in-place-next-judges-the-new-encoder : (e : Encoder) → stepOf (record { answer = Item.Byte 0x01; encoder = e }) ≡ nextStep (encoderAt (Init 3) 0 0) [] → ⊥
+in-place-next-judges-the-new-encoder : (e : Encoder) (reg : ℕ) → stepOf (record { answer = Item.Byte 0x01; encoder = e }) ≡ nextStep (encoderAt (Init 3) 0 reg) [] → ⊥
 unfolding nextStep badEncoder stepFrom given
-in-place-next-judges-the-new-encoder e h = let b : 0x01 ≡ 0x1b = ap (λ (s : Step). given (s .answer)) h in omega (arith, b)
+in-place-next-judges-the-new-encoder e reg h = let b : _≡_ {A = ℕ} 0x01 0x1b = ap (λ (s : Step). given (s .answer)) h in omega (arith, b)

@@ -21,7 +21,7 @@ use Rattle.in_place.specs.declared.Taken.{Taken}
 pub record Views : Type 0 where
   pub pushed-in-place : Injective (λ (r : With (Beside Event Decoder)). afterPush (record { decoder = r .answer .lent; event = r .answer .answer }) (r .memory))
   pub finalized-in-place : Injective (λ (r : Beside Event Decoder). afterFinalize (record { decoder = r .lent; event = r .answer }))
-  pub resetted-in-place : Injective (λ (r : Beside ℕ Decoder). afterReset (record { decoder = r .lent; count = r .answer }))
+  pub was-reset-in-place : Injective (λ (r : Beside ℕ Decoder). afterReset (record { decoder = r .lent; count = r .answer }))
   pub next-in-place : Injective (λ (r : Beside Item Encoder). stepOf (record { answer = r .answer; encoder = r .lent }))
   pub sliced-in-place : Injective
       (λ (r : With (Beside Taken Decoder)).

@@ -1,4 +1,4 @@
-// The limits of document 01, met and passed by one, and each refusal that no command of bin/replay is for: 1, 4, 5, 9 and 16. Prints a word or the refusal's number for what is answered, the
+// The limits of document 01, met and passed by one, and each refusal that the crate doesn't have: 1, 4, 5, 9 and 16. Prints a word or the refusal's number for what is answered, the
 // record that is left, and of a push whether the memory is as before.
 use decoder::Asked;
 use decoder::DecodeState;
@@ -129,7 +129,7 @@ fn by_slice(label: &[u8], d: Decoder, buf: &mut [u8]) {
     let chunk = [PUSHED; 1];
     text(label);
     text(b", push_slice:");
-    let p = decoder_slice::push_slice(d, buf, &chunk);
+    let p = in_place::push_slice_lent(d, buf, &chunk);
     let e = p.event;
     let left = p.decoder;
     event(e);

@@ -10,3 +10,4 @@ pub mod Events
 pub mod Decided
 pub mod Fakes
 pub mod Marks
+pub mod Wrong

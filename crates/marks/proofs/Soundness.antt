@@ -18,7 +18,7 @@ use Rattle.decoder.specs.declared.Setup.{Setup}
 use Rattle.decoder.proofs.Payload.{got-done}
 use Rattle.decoder.proofs.Faithful.{Fit}
 use Rattle.decoder.proofs.Runs.{acts, Leads, leads, new-fit}
-use Rattle.since.specs.Since.{grownSince, grownSinceOp, sinceFrom, frameHead, ReadSince, AllBytes, EventSays, goesOn, startFound, startInside, noRoom, noEscape, noMessage, handedOut}
+use Rattle.since.specs.Since.{grownSince, grownSinceOp, sinceFrom, frameHead, ReadSince, AllBytes, EventSays, goesOn, startFound, startInside, noRoom, noEscape, noMessage, frameEnds}
 use Rattle.since.proofs.Lists.{bytes-back}
 use Rattle.since.proofs.Kept.{kept, reads-fresh, reads-act, reads-behind}
 use Rattle.marks.specs.Decoders.{gave, ours, behindOf, bytesFrom}
@@ -60,7 +60,7 @@ ends-told C g h b e k (startInside v D is c) = record { pre = k .pre ++ frameHea
 ends-told C g h b e k noRoom = none-left (g ++ b ∷ [])
 ends-told C g h b e k noEscape = none-left (g ++ b ∷ [])
 ends-told C g h b e k noMessage = none-left (g ++ b ∷ [])
-ends-told C g h b e k (handedOut P f) = none-left []
+ends-told C g h b e k (frameEnds P f) = none-left []
 
 ends-act : (C : Setup) (g h : List ℕ) (s : State) (o : Op) → ReadSince C h s → Ends g h → Ends (grown o (answerState C s o) g) (grownSinceOp o (answerState C s o) h)
 unfolding answerState
@@ -103,7 +103,7 @@ told-sound e P q (startInside v D is c) bs = absurd (let z : _≡_ {A = ℕ} 0 1
 told-sound e P q noRoom bs = absurd (let z : _≡_ {A = ℕ} 0 1 = cc in omega arith)
 told-sound e P q noEscape bs = absurd (let z : _≡_ {A = ℕ} 0 1 = cc in omega arith)
 told-sound e P q noMessage bs = absurd (let z : _≡_ {A = ℕ} 0 1 = cc in omega arith)
-told-sound {w = w} e P q (handedOut Q f) bs = let same′ : Q ≡ P = cc in subst (Sound w) same′ (f bs)
+told-sound {w = w} e P q (frameEnds Q f) bs = let same′ : Q ≡ P = cc in subst (Sound w) same′ (f bs)
 
 -- ---- the record
 

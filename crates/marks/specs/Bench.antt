@@ -38,7 +38,7 @@ pub record SheetSaid : Type 0 where
   pub at : ℕ
   pub answer : Answer
 
--- what comes of it; the last four are what the definitions of crates tlf, octet_string and num find
+-- what comes of it; the last four are what the definitions of crates tlf, octet_string and numbers find
 pub data Outcome : Type 0 where
   encoded : AfterEncode → Outcome  -- encode's answer, and the output
   events : List SheetSaid → Outcome  -- all answers but `nothing`

@@ -1,4 +1,4 @@
--- check: mark 1. Each public function's contract allows one outcome for each input: what each crate says of its own functions, joined.
+-- check: mark 1. Each public function's contract allows one outcome for each input: what each crate says of its own functions, joined, but for bench's, which bench says alone.
 use Rattle.crc_x25.specs.Decided as Crc
 use Rattle.refusals.specs.Decided as Refusals
 use Rattle.tlf.specs.Decided as Tlf

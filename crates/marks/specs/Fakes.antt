@@ -2,6 +2,7 @@
 use mathlib.Core.Bool.{Bool, true, false, cond}
 use mathlib.Core.List.{List, [], _∷_}
 use Prim.Native.Nat.{ℕ, suc}
+use Rattle.refusals.specs.Numbers.{payloadTooLongNo, badStateNo}
 use Rattle.encoder.specs.Encode.{encodeTo, length-is, afterEncode}
 use Rattle.encoder.specs.Encode as E
 use Rattle.encoder.specs.Encoder.{finished}
@@ -27,7 +28,7 @@ retold f =
 
 -- refuses everything, as if every record were a bad one (4)
 abbrev pub refuses : Machine Decoder
-refuses = record { new = ours .new; act = λ d m o. record { answer = refusal 4 []; decoder = d; memory = m }; payloadOf = λ d m. [] }
+refuses = record { new = ours .new; act = λ d m o. record { answer = refusal badStateNo []; decoder = d; memory = m }; payloadOf = λ d m. [] }
 
 -- what it answers: at each payload the one byte 2a
 abbrev pub constantly : Answer → Answer
@@ -99,7 +100,7 @@ writesNothing P output = afterEncode (length-is 0) output
 
 -- an encode that refuses every payload, as if it were too long (1)
 abbrev pub refusesToEncode : Encode
-refusesToEncode P output = afterEncode (E.noFrame 1) output
+refusesToEncode P output = afterEncode (E.noFrame payloadTooLongNo) output
 
 -- an Encoder that does nothing: finished at once; what it keeps never matters
 abbrev pub finishedAtOnce : Caller Bool

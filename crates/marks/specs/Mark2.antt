@@ -5,7 +5,7 @@ use mathlib.Core.List.{List, [], _∷_, _++_, map}
 use Prim.Native.Nat.{ℕ, _+_, _≤_, _<_}
 use lib.ListN.{length, replicate}
 use lib.Dec.{eqb}
-use Rattle.refusals.specs.Numbers.{limit}
+use Rattle.refusals.specs.Numbers.{decoderOutOfMemoryNo, discardedBytesNo, limit}
 use Rattle.frame.specs.Frame.{Sound}
 use Rattle.decoder.specs.Record.{Answer, nothing, payload, refusal, setup, badDecoder, wrongBuffer}
 use Rattle.decoder.specs.Run.{Op, push, finalize, reset}
@@ -47,13 +47,13 @@ Soundness {S} M =
 
 -- the eighth byte of a frame answers DiscardedBytes(noise) if noise is over 0, else no event
 abbrev pub eighth : ℕ → Answer
-eighth noise = cond (eqb noise 0) nothing (refusal 6 (noise ∷ []))
+eighth noise = cond (eqb noise 0) nothing (refusal discardedBytesNo (noise ∷ []))
 
 -- the first event behind the eighth byte is 3
 pub record NoRoom (noise : ℕ) (heard : List Answer) : Type 0 where
   pub quiet : ℕ
   pub rest : List Answer
-  pub is : heard ≡ replicate 7 nothing ++ eighth noise ∷ (replicate quiet nothing ++ refusal 3 [] ∷ rest)
+  pub is : heard ≡ replicate 7 nothing ++ eighth noise ∷ (replicate quiet nothing ++ refusal decoderOutOfMemoryNo [] ∷ rest)
 
 -- From any search with nothing matched (`Searching C d m noise`: the decoder d, with the memory m, is one, with this noise), every sound frame, pads of any value. Its data D fits where D's length plus 4 is at most the capacity: then the
 -- eighth byte answers for the noise, the last with the payload, and every other nothing. Where it doesn't fit, the first event behind the eighth byte is 3

@@ -3,7 +3,7 @@ use mathlib.Core.Path.{_≡_}
 use mathlib.Core.List.{List, [], _∷_, _++_, map}
 use Prim.Native.Nat.{ℕ, _+_, _≤_}
 use lib.ListN.{length, take, replicate}
-use Rattle.refusals.specs.Numbers.{limit}
+use Rattle.refusals.specs.Numbers.{discardedBytesNo, limit}
 use Rattle.frame.specs.Frame.{frameOf, missing}
 use Rattle.encoder.specs.Encode.{AfterEncode, length-is}
 use Rattle.encoder.specs.Encode as E
@@ -67,4 +67,4 @@ Mark3 M encode =
     → let os : List Op = before ++ replicate (C .capacity + 5) (push 0x00) in
     let heard : List Answer = answers M (M .new C) m os in
     answers M (M .new C) m (os ++ map push (framesFor encode (j ∷ js)))
-    ≡ heard ++ (frameSays (refusal 6 (stopped (countSince os heard) ∷ [])) (wroteFor encode j) (j .payload) ++ restSays encode js)
+    ≡ heard ++ (frameSays (refusal discardedBytesNo (stopped (countSince os heard) ∷ [])) (wroteFor encode j) (j .payload) ++ restSays encode js)

@@ -39,6 +39,7 @@ pub enum ListStartRead {
     Refused(Fault),
 }
 
+// The last of GetListResponseStart's fields, the head of its entries, so that no function is longer than a page.
 fn list_start_rest(
     input: &[u8],
     at: usize,
@@ -74,6 +75,7 @@ fn list_start_rest(
     }
 }
 
+// GetListResponseStart of streaming.rs: seven elements, of which the start reads up to the entries' head.
 pub fn parse_list_start(input: &[u8], at: usize) -> ListStartRead
     ensures { λ r. ⌜ listStartRead r ≡ listStartAt (now (input .entry)) at ⌝ }
 {
@@ -126,6 +128,7 @@ pub enum ListEndRead {
     Refused(Fault),
 }
 
+// GetListResponseEnd of streaming.rs: signature and gateway time, behind the entries.
 pub fn parse_list_end(input: &[u8], at: usize) -> ListEndRead
     ensures { λ r. ⌜ listEndRead r ≡ listEndAt (now (input .entry)) at ⌝ }
 {
@@ -201,6 +204,7 @@ fn parse_content(input: &[u8], place: usize, tag: u32, at: usize) -> BodyRead
     })
 }
 
+// MessageBody of streaming.rs: a list of tag and content.
 pub fn parse_message_body(input: &[u8], at: usize) -> BodyRead
     ensures { λ r. ⌜ bodyRead r ≡ bodyAt (now (input .entry)) at ⌝ }
 {
@@ -227,6 +231,7 @@ pub enum StartRead {
     Refused(Fault),
 }
 
+// MessageStart of streaming.rs: a message up to its trailer, of a list response up to its entries.
 pub fn parse_message_start(input: &[u8], at: usize) -> StartRead
     ensures { λ r. ⌜ startRead r ≡ startAt (now (input .entry)) at ⌝ }
 {

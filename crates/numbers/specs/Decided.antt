@@ -1,4 +1,4 @@
--- check: mark 1 of crate num. Its contracts allow one outcome for each input, and its views lose nothing. Each crate has such a file.
+-- check: mark 1 of crate numbers. Its contracts allow one outcome for each input, and its views lose nothing. Each crate has such a file.
 use mathlib.Core.Path.{_≡_}
 use mathlib.Core.List.{List}
 use Prim.Native.Nat.{ℕ}

@@ -21,6 +21,7 @@ enum RawRead {
     Refused(Fault),
 }
 
+// A byte as a number of 64 bits: as a call, the index alone has to be proved.
 fn wide(x: u8) -> u64
     ensures { λ r. ⌜ r ≡ x ⌝ }
 {
@@ -41,6 +42,7 @@ fn from_be_bytes(input: &[u8], at: usize, n: usize) -> u64
     value
 }
 
+// The first test of check_tlf: Integer where the number is signed, else Unsigned.
 fn is_number(signed: bool, ty: Ty) -> bool
     ensures { λ r. ⌜ r ≡ isNumber signed ty ⌝ }
 {
@@ -53,6 +55,7 @@ fn is_number(signed: bool, ty: Ty) -> bool
     }
 }
 
+// check_tlf of impl_num: the type, at least one byte and at most as many as the number has.
 fn check_tlf(tlf: TypeLengthField, signed: bool, size: u32) -> bool
     ensures { λ r. ⌜ r ≡ fitsWidth signed size tlf ⌝ }
 {
@@ -165,6 +168,7 @@ pub enum U64Read {
     Refused(Fault),
 }
 
+// parse_num of num.rs, without a sign: the bytes missing in front are zero.
 fn parse_unsigned(input: &[u8], at: usize, size: u32) -> U64Read
     requires { ⌜ size ≤ 8 ⌝ }
     ensures { λ r. ⌜ u64Read r ≡ unsignedAt size (now (input .entry)) at ⌝ }
@@ -184,6 +188,7 @@ pub enum I64Read {
     Refused(Fault),
 }
 
+// parse_num of num.rs, with a sign: the bytes missing in front are those of the sign.
 fn parse_integer(input: &[u8], at: usize, size: u32) -> I64Read
     requires { ⌜ size ≤ 8 ⌝ }
     ensures { λ r. ⌜ i64Read r ≡ signedAt size (now (input .entry)) at ⌝ }
@@ -215,6 +220,7 @@ pub enum U8Read {
     Refused(Fault),
 }
 
+// u8 of impl_num. One length byte and one byte is by far the most frequent form, and goes by a short way.
 pub fn parse_u8(input: &[u8], at: usize) -> U8Read
     ensures { λ r. ⌜ u8Read r ≡ unsignedAt 1 (now (input .entry)) at ⌝ }
 {
@@ -238,6 +244,7 @@ pub enum U16Read {
     Refused(Fault),
 }
 
+// u16 of impl_num.
 pub fn parse_u16(input: &[u8], at: usize) -> U16Read
     ensures { λ r. ⌜ u16Read r ≡ unsignedAt 2 (now (input .entry)) at ⌝ }
 {
@@ -255,6 +262,7 @@ pub enum U32Read {
     Refused(Fault),
 }
 
+// u32 of impl_num.
 pub fn parse_u32(input: &[u8], at: usize) -> U32Read
     ensures { λ r. ⌜ u32Read r ≡ unsignedAt 4 (now (input .entry)) at ⌝ }
 {
@@ -267,6 +275,7 @@ pub fn parse_u32(input: &[u8], at: usize) -> U32Read
     }
 }
 
+// u64 of impl_num.
 pub fn parse_u64(input: &[u8], at: usize) -> U64Read
     ensures { λ r. ⌜ u64Read r ≡ unsignedAt 8 (now (input .entry)) at ⌝ }
 {
@@ -289,6 +298,7 @@ pub enum I8Read {
     Refused(Fault),
 }
 
+// i8 of impl_num.
 pub fn parse_i8(input: &[u8], at: usize) -> I8Read
     ensures { λ r. ⌜ i8Read r ≡ signedAt 1 (now (input .entry)) at ⌝ }
 {
@@ -313,6 +323,7 @@ pub enum I16Read {
     Refused(Fault),
 }
 
+// i16 of impl_num.
 pub fn parse_i16(input: &[u8], at: usize) -> I16Read
     ensures { λ r. ⌜ i16Read r ≡ signedAt 2 (now (input .entry)) at ⌝ }
 {
@@ -330,6 +341,7 @@ pub enum I32Read {
     Refused(Fault),
 }
 
+// i32 of impl_num.
 pub fn parse_i32(input: &[u8], at: usize) -> I32Read
     ensures { λ r. ⌜ i32Read r ≡ signedAt 4 (now (input .entry)) at ⌝ }
 {
@@ -342,6 +354,7 @@ pub fn parse_i32(input: &[u8], at: usize) -> I32Read
     }
 }
 
+// i64 of impl_num.
 pub fn parse_i64(input: &[u8], at: usize) -> I64Read
     ensures { λ r. ⌜ i64Read r ≡ signedAt 8 (now (input .entry)) at ⌝ }
 {
@@ -353,6 +366,7 @@ pub enum BoolRead {
     Refused(Fault),
 }
 
+// check_tlf of bool: type Boolean, one byte.
 fn is_bool(tlf: TypeLengthField) -> bool
     ensures { λ r. ⌜ r ≡ (isBoolean (tlf .ty) && eqb (tlf .len) 1) ⌝ }
 {
@@ -360,6 +374,7 @@ fn is_bool(tlf: TypeLengthField) -> bool
     ty.is_boolean() && tlf.len == 1
 }
 
+// parse_with_tlf of bool: every byte over 0 is true.
 fn take_bool(input: &[u8], at: usize) -> BoolRead
     ensures { λ r. ⌜ boolRead r ≡ boolFrom (now (input .entry)) at ⌝ }
 {
@@ -372,6 +387,7 @@ fn take_bool(input: &[u8], at: usize) -> BoolRead
     }
 }
 
+// bool of num.rs.
 pub fn parse_bool(input: &[u8], at: usize) -> BoolRead
     ensures { λ r. ⌜ boolRead r ≡ boolAt (now (input .entry)) at ⌝ }
 {

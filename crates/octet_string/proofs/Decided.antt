@@ -11,7 +11,7 @@ use Rattle.octet_string.specs.declared.OptSpanRead.the-variants as OptSp
 use Rattle.octet_string.specs.declared.OptSpan.{OptSpan}
 use Rattle.decided.proofs.Laws.{oneOutcome, injective, undone}
 use Rattle.refusals.proofs.Undone.{itIs, itLost, reads, fieldFrom}
-use Rattle.tlf.proofs.Decided.{views as tlfViews}
+use Rattle.refusals.proofs.Decided.{views as refusalViews}
 use Rattle.octet_string.specs.Decided.{Views, Decided}
 
 checkFrom : Option ℕ → SpanCheck
@@ -40,7 +40,7 @@ views =
 pub decided : Decided
 decided =
     record {
-      parse-octet-str = λ input at. injective spanRead (tlfViews .span) _;
+      parse-octet-str = λ input at. injective spanRead (refusalViews .span) _;
       octet-str = λ input span. oneOutcome _;
       check-span = λ input span. injective spanCheck (views .check) _;
       is-absent = λ input at. oneOutcome _;

@@ -14,6 +14,7 @@ use tlf::TlfRead;
 use tlf::Ty;
 use tlf::TypeLengthField;
 
+// check_tlf of OctetStr: the type alone.
 fn check_tlf(tlf: TypeLengthField) -> bool
     ensures { λ r. ⌜ r ≡ isOctets (tlf .ty) ⌝ }
 {
@@ -44,6 +45,7 @@ fn short_string(input: &[u8], at: usize) -> usize
     own
 }
 
+// OctetStr of octet_string.rs: where the string stands, by a short way behind one length byte.
 pub fn parse_octet_str(input: &[u8], at: usize) -> SpanRead
     ensures { λ r. ⌜ spanRead r ≡ octetsAt (now (input .entry)) at ⌝ }
 {
@@ -72,6 +74,7 @@ pub fn parse_octet_str(input: &[u8], at: usize) -> SpanRead
     }
 }
 
+// Whether a span lies within the input; start plus length is never formed, since it could wrap.
 fn is_within(input: &[u8], span: Span) -> bool
     ensures { λ r. ⌜ r ≡ isWithin (now (input .entry)) span ⌝ }
 {
@@ -102,6 +105,7 @@ pub enum SpanCheck {
     BadSpan,
 }
 
+// The separate question behind an empty part: refusal 16 for a span outside the input.
 pub fn check_span(input: &[u8], span: Span) -> SpanCheck
     ensures { λ r. ⌜ spanCheck r ≡ spanRefusal (now (input .entry)) span ⌝ }
 {
@@ -133,6 +137,7 @@ pub enum OptSpanRead {
     Refused(Fault),
 }
 
+// Option<OctetStr>: absent is the one byte 01.
 pub fn parse_opt_octet_str(input: &[u8], at: usize) -> OptSpanRead
     ensures { λ r. ⌜ optSpanRead r ≡ optional octetsAt (now (input .entry)) at ⌝ }
 {

@@ -15,6 +15,7 @@ pub struct Parser<'i> {
 }
 
 impl<'i> Parser<'i> {
+    // Parser::new of streaming.rs: nothing of the input is read yet.
     pub fn new(input: &'i [u8]) -> Parser<'i>
         ensures { λ r. ⌜ r ≡ readerOf (input .entry) ⌝ }
     {

@@ -46,6 +46,7 @@ pub enum SpanRead {
     Refused(Fault),
 }
 
+// take_byte of parser/mod.rs.
 pub fn take_byte(input: &[u8], at: usize) -> ByteRead
     ensures { λ r. ⌜ byteRead r ≡ byteAt (now (input .entry)) at ⌝ }
 {
@@ -62,6 +63,7 @@ pub fn take_byte(input: &[u8], at: usize) -> ByteRead
     }
 }
 
+// take_n of parser/mod.rs: the count is tested against what is left, so that no sum wraps.
 pub fn take_n(input: &[u8], at: usize, n: usize) -> SpanRead
     ensures { λ r. ⌜ spanRead r ≡ spanAt (now (input .entry)) at n ⌝ }
 {

@@ -15,7 +15,7 @@ use Rattle.since.specs.Since.{sinceFrom, frameHead, ReadSince}
 use Rattle.since.proofs.Lists.{matched-long}
 use Rattle.since.proofs.Kept.{reads-behind}
 
--- the counts of a state, n bytes behind the begin of its search or frame
+-- the counts of a state, n bytes behind the beginning of its search or frame
 abbrev pub Counted : State → ℕ → Type 0
 Counted (search k noise raw) n = (k ≤ n) × (k ≤ 7) × (noise ≡ stopped (n - k)) × (raw ≡ stopped n)
 Counted (body r m) n = (8 ≤ n) × (m .raw ≡ stopped n)

@@ -20,7 +20,7 @@ use Rattle.decoder.specs.declared.Setup.{Setup}
 use Rattle.decoder.proofs.Saw.{saw}
 use Rattle.decoder.proofs.Search.{noise-grows}
 use Rattle.decoder.proofs.Split.{cases}
-use Rattle.since.specs.Since.{grownSince, grownSinceOp, sinceFrom, frameHead, Misses, nonePassed, InSearch, InBody, Opens, tidy, earlyEnd, InEscape, ReadSince, EventSays, goesOn, startFound, startInside, noRoom, noEscape, noMessage, handedOut}
+use Rattle.since.specs.Since.{grownSince, grownSinceOp, sinceFrom, frameHead, Misses, nonePassed, InSearch, InBody, Opens, tidy, earlyEnd, InEscape, ReadSince, EventSays, goesOn, startFound, startInside, noRoom, noEscape, noMessage, frameEnds}
 use Rattle.since.proofs.Lists.{last-four, computed-is, trimmed, three, empty, starts-is, matched-eight, misses-snoc, matched-long, bytes-back, head-none, head-other, run-back, head-escSeq, head-shift}
 
 pub record KeptSince (C : Setup) (h : List ℕ) (b : ℕ) (o : Out) : Type 0 where
@@ -164,7 +164,7 @@ module _ (C : Setup) (h D : List ℕ) (m : Mem) (w x y z : ℕ) (here : h ++ z �
   stored-long : length (m .stored) ≡ length D + 4
   stored-long = simp length-append at (ap length has)
 
-  -- with 1b first, the data behind ends no runBehind
+  -- where the first of the four is 1b, the data ends no run of 1b
   tidied : w ≡ 0x1b → runBehind 0 D ≡ 0
   tidied e = elim opens [ tidy f ↦ f | earlyEnd k f ↦ absurd (let g : w ≡ 0x1a = ap (λ (l : List ℕ). getD l 0 0) f in omega arith) ]
 
@@ -199,7 +199,7 @@ module _ (C : Setup) (h D : List ℕ) (m : Mem) (w x y z : ℕ) (here : h ++ z �
   kept-good : w ≡ 0x1a → Passed m x (y + 256 * z) → let P : List ℕ = take (length (m .stored) - 4 - x) (m .stored) in KeptSince C h z (says (done P) (paysOut P))
   kept-good e ok = record {
     reads = (refl, simp length-take (omega arith));
-    told = handedOut _ (λ bs.
+    told = frameEnds _ (λ bs.
         let fine : y < 256 = ((bytes-back (frameHead D ++ escSeq) four (rw here at bs)) .1 .1 .0) in
         let X : ℕ = crcOf (frameHead D ++ escSeq ++ 0x1a ∷ x ∷ []) in
         let read : y + 256 * z ≡ X = ok .0 ∙ computed-all e in

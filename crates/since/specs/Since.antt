@@ -5,6 +5,7 @@ use mathlib.Core.List.{List, [], _∷_, _++_}
 use Prim.Native.Nat.{ℕ, _-_, _≤_, _<_}
 use lib.ListN.{length, take, drop, replicate}
 use lib.Dec.{eqb}
+use Rattle.refusals.specs.Numbers.{discardedBytesNo}
 use Rattle.crc_x25.specs.Crc.{start, register}
 use Rattle.frame.specs.Frame.{startSeq, escSeq, escaped, Sound, runBehind}
 use Rattle.decoder.specs.Push.{Mem, State, search, body, escape, done, PushEvent, silent, discarded, paysOut, memory, badEscape, badMessage, stopped, starts}
@@ -19,7 +20,7 @@ abbrev pub grownSince : Answer → List ℕ → ℕ → List ℕ
 grownSince nothing h b = h ++ b ∷ []
 grownSince (payload bytes) h b = []
 grownSince (count k) h b = []
-grownSince (refusal k values) h b = cond (eqb k 6) startSeq []
+grownSince (refusal k values) h b = cond (eqb k discardedBytesNo) startSeq []
 
 abbrev pub grownSinceOp : Op → Answer → List ℕ → List ℕ
 grownSinceOp (push b) a h = grownSince a h b
@@ -52,7 +53,7 @@ pub record InSearch (h : List ℕ) (n noise raw : ℕ) : Type 0 where
   pub dropped : noise ≡ stopped (length passed)
   pub long : raw ≡ stopped (length h)
 
--- a frame's data: the stored bytes, which end no run of 1b, and r 1b that wait; the register, taken on over the stored bytes that it has not gone over, is that of all bytes but the waiting ones
+-- a frame's data: the stored bytes, behind which no 1b of a run but whole fours stand, and r 1b that wait; the register, taken on over the stored bytes that it has not gone over, is that of all bytes but the waiting ones
 pub record InBody (C : Setup) (h : List ℕ) (r : ℕ) (m : Mem) : Type 0 where
   pub here : h ≡ frameHead (m .stored) ++ replicate r 0x1b
   pub few : r ≤ 3
@@ -62,7 +63,7 @@ pub record InBody (C : Setup) (h : List ℕ) (r : ℕ) (m : Mem) : Type 0 where
   pub index : m .idx ≤ length (m .stored)
   pub sum : register (m .reg) (drop (m .idx) (m .stored)) ≡ register start (frameHead (m .stored))
 
--- the data ends no run of 1b, or an end sequence was found early, behind 1 to 3 of the 1b that belong to the data
+-- the data ends no run of 1b but whole fours, or what follows the escape begins with 1a: an end sequence that was found early has 1 to 3 of the data's 1b before it
 pub data Opens (D l : List ℕ) : Type 0 where
   tidy : runBehind 0 D ≡ 0 → Opens D l
   earlyEnd : (k : List ℕ) → l ≡ 0x1a ∷ k → Opens D l
@@ -87,7 +88,7 @@ ReadSince C h (body r m) = InBody C h r m
 ReadSince C h (escape k m) = InEscape C h k m
 ReadSince C h (done P) = (h ≡ []) × (length P ≤ C .capacity)
 
--- ---- what an event says of w, the bytes since the search or frame began with the one that brought it
+-- ---- what an event says of w, the bytes since the search or frame began with the one that brought it. Of no event and of the refusals 3, 7 and 8 nothing is said here
 
 -- all bytes
 abbrev pub AllBytes : List ℕ → Type 0
@@ -103,5 +104,5 @@ pub data EventSays (w : List ℕ) : PushEvent → Type 0 where
   noRoom : EventSays w memory
   noEscape : {a b c d : ℕ} → EventSays w (badEscape a b c d)
   noMessage : {read computed : ℕ} {mis : Bool} {p : ℕ} → EventSays w (badMessage read computed mis p)
-  -- the last byte of a sound frame
-  handedOut : (P : List ℕ) → (AllBytes w → Sound w P) → EventSays w (paysOut P)
+  -- the last byte of a sound frame, where all that was pushed are bytes
+  frameEnds : (P : List ℕ) → (AllBytes w → Sound w P) → EventSays w (paysOut P)

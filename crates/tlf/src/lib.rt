@@ -24,6 +24,7 @@ pub enum TyRead {
 }
 
 impl Ty {
+    // Ty::from_byte of tlf.rs.
     fn from_byte(bits: u8) -> TyRead
         ensures { λ r. ⌜ tyRead r ≡ tyOf bits ⌝ }
     {
@@ -37,6 +38,7 @@ impl Ty {
         }
     }
 
+    // The test `ty == Ty::ListOf` of tlf.rs.
     pub fn is_list(self) -> bool
         ensures { λ r. ⌜ r ≡ isList self ⌝ }
     {
@@ -49,6 +51,7 @@ impl Ty {
         }
     }
 
+    // The test `ty == Ty::Boolean` of tlf.rs.
     pub fn is_boolean(self) -> bool
         ensures { λ r. ⌜ r ≡ isBoolean self ⌝ }
     {

@@ -29,6 +29,7 @@ pub fn parse_message_end(input: &[u8], at: usize) -> PlaceRead
     }
 }
 
+// u16::swap_bytes of the Rust: the CRC stands high byte first in a message.
 fn swap_bytes(x: u16) -> u16
     ensures { λ r. ⌜ r ≡ swapped x ⌝ }
 {

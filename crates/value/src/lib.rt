@@ -48,6 +48,7 @@ fn is_bare_time(tlf: TypeLengthField) -> bool
     }
 }
 
+// Time::SecIndex: the number that was read, as a time.
 fn sec_index(read: U32Read) -> TimeRead
     ensures { λ r. ⌜ timeRead r ≡ u32Read read ⌝ }
 {
@@ -60,6 +61,7 @@ fn sec_index(read: U32Read) -> TimeRead
     }
 }
 
+// Time of common.rs: a list of two with tag 1, or a bare unsigned number of four bytes.
 pub fn parse_time(input: &[u8], at: usize) -> TimeRead
     ensures { λ r. ⌜ timeRead r ≡ timeAt (now (input .entry)) at ⌝ }
 {
@@ -167,6 +169,7 @@ fn status_of(input: &[u8], at: usize, len: u32) -> StatusRead
     }
 }
 
+// Status of common.rs: an unsigned number at the narrowest width that holds its length.
 pub fn parse_status(input: &[u8], at: usize) -> StatusRead
     ensures { λ r. ⌜ statusRead r ≡ statusAt (now (input .entry)) at ⌝ }
 {
@@ -200,6 +203,7 @@ pub enum ValueRead {
     Refused(Fault),
 }
 
+// The arm bool of Value's parse_with_tlf.
 fn bool_value(input: &[u8], at: usize) -> ValueRead
     ensures { λ r. ⌜ valueRead r ≡ valueOf Ty.Boolean 0 (now (input .entry)) at ⌝ }
 {
@@ -212,6 +216,7 @@ fn bool_value(input: &[u8], at: usize) -> ValueRead
     }
 }
 
+// The arm OctetStr of Value's parse_with_tlf.
 fn bytes_value(input: &[u8], at: usize) -> ValueRead
     ensures { λ r. ⌜ valueRead r ≡ valueOf Ty.OctetString 0 (now (input .entry)) at ⌝ }
 {
@@ -296,12 +301,14 @@ fn unsigned_value(input: &[u8], at: usize, len: u32) -> ValueRead
     }
 }
 
+// A list value is a time: as a call, its view computes in the caller's proof.
 fn list_value(time: Time) -> Value
     ensures { λ r. ⌜ value r ≡ listTime (seconds time) ⌝ }
 {
     Value::List(ListType { time })
 }
 
+// ListType of common.rs: a list of two, tag 1 and a time.
 fn parse_list_type(input: &[u8], at: usize) -> ValueRead
     ensures { λ r. ⌜ valueRead r ≡ listTypeAt (now (input .entry)) at ⌝ }
 {
@@ -333,6 +340,7 @@ fn parse_list_type(input: &[u8], at: usize) -> ValueRead
     }
 }
 
+// Value of common.rs: by its type, and a number at the narrowest width that holds its length.
 pub fn parse_value(input: &[u8], at: usize) -> ValueRead
     ensures { λ r. ⌜ valueRead r ≡ valueAt (now (input .entry)) at ⌝ }
 {
@@ -361,6 +369,7 @@ pub enum OptU8Read {
     Refused(Fault),
 }
 
+// Option<u8>: absent is the one byte 01.
 pub fn parse_opt_u8(input: &[u8], at: usize) -> OptU8Read
     ensures { λ r. ⌜ optU8Read r ≡ optional (unsignedAt 1) (now (input .entry)) at ⌝ }
 {
@@ -389,6 +398,7 @@ pub enum OptI8Read {
     Refused(Fault),
 }
 
+// Option<i8>.
 pub fn parse_opt_i8(input: &[u8], at: usize) -> OptI8Read
     ensures { λ r. ⌜ optI8Read r ≡ optional (signedAt 1) (now (input .entry)) at ⌝ }
 {
@@ -417,6 +427,7 @@ pub enum OptTimeRead {
     Refused(Fault),
 }
 
+// Option<Time>.
 pub fn parse_opt_time(input: &[u8], at: usize) -> OptTimeRead
     ensures { λ r. ⌜ optTimeRead r ≡ optional timeAt (now (input .entry)) at ⌝ }
 {
@@ -445,6 +456,7 @@ pub enum OptStatusRead {
     Refused(Fault),
 }
 
+// Option<Status>.
 pub fn parse_opt_status(input: &[u8], at: usize) -> OptStatusRead
     ensures { λ r. ⌜ optStatusRead r ≡ optional statusAt (now (input .entry)) at ⌝ }
 {

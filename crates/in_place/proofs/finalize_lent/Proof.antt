@@ -1,4 +1,4 @@
--- `transport::finalize_lent` meets its contract: a walk of its MIR, by hand. The decoder is stored in a local, the local is lent to `finalize` for a lifetime of the call, and comes back; it is given back with the event.
+-- `in_place::finalize_lent` meets its contract: a walk of its MIR, by hand. The decoder is stored in a local, the local is lent to `finalize` for a lifetime of the call, and comes back; it is given back with the event.
 -- All that the proof knows of `finalize` is that it meets its contract. Assumes nothing.
 use mathlib.Core.Path.{_≡_, refl, ap}
 use Prim.Native.Nat.{ℕ}
@@ -151,4 +151,4 @@ finalize-lent-spec 𝓤 H 𝓜 𝓖 𝓡 =
     entered 𝓤 H (tripleOf 𝓤 H (𝓖 .A) self.signature (self.spec 𝓤 H (𝓖 .A) (𝓜 .mem) (𝓡 .run)))
     (tables 𝓤 H 𝓜 𝓡 code.env .C) (tables 𝓤 H 𝓜 𝓡 code.env .Λ) #transport·finalize-lent code.function (code.unfolded 𝓤 H 𝓜 𝓡)
     (self-meets 𝓤 H (𝓖 .A) (givenOf 𝓤 H 𝓜 𝓖) (𝓜 .mem) (𝓡 .run) (tablesOf 𝓤 H 𝓜 (tables 𝓤 H 𝓜 𝓡 code.env))
-    (cited 𝓤 H (Callee 𝓤 H (𝓖 .A) (𝓜 .mem) (𝓡 .run)) 𝓜 𝓡 code.env #transport·finalize callee-def.routine code.calls-transport·finalize (callee-thm.met 𝓤 H 𝓜 𝓖 𝓡)))
+    (cited 𝓤 H (Callee 𝓤 H (𝓖 .A) (𝓜 .mem) (𝓡 .run)) 𝓜 𝓡 code.env #transport·finalize callee-def.routine code.calls-in-place·finalize (callee-thm.met 𝓤 H 𝓜 𝓖 𝓡)))

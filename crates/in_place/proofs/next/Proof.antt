@@ -1,4 +1,4 @@
--- `transport::next` meets its contract: a walk of its MIR, by hand. The borrow is opened, the whole Encoder is copied out, `next` by value is called on the copy and on the payload, the Encoder that it gives is stored over the old one, and the borrow is closed there.
+-- `in_place::next` meets its contract: a walk of its MIR, by hand. The borrow is opened, the whole Encoder is copied out, `next` by value is called on the copy and on the payload, the Encoder that it gives is stored over the old one, and the borrow is closed there.
 -- Assumes nothing.
 use mathlib.Core.Path.{_≡_, refl, ap}
 use Prim.Native.Nat.{ℕ}

@@ -1,4 +1,4 @@
--- `slice_in_place::push_slice_lent` meets its contract: a walk of its MIR, by hand. The decoder is stored in a local, the local is lent to `push_slice` for a lifetime of the call, and comes back; the buffer is given up for good at its own lifetime, share and name, and a copy of the chunk goes to the call. The decoder is given back with the event and the number of bytes.
+-- `in_place::push_slice_lent` meets its contract: a walk of its MIR, by hand. The decoder is stored in a local, the local is lent to `push_slice` for a lifetime of the call, and comes back; the buffer is given up for good at its own lifetime, share and name, and a copy of the chunk goes to the call. The decoder is given back with the event and the number of bytes.
 -- All that the proof knows of `push_slice` is that it meets its contract. Assumes nothing.
 use mathlib.Core.Path.{_≡_, refl, ap}
 use Prim.Native.Nat.{ℕ}
@@ -182,4 +182,4 @@ push-slice-lent-spec 𝓤 H 𝓜 𝓖 𝓡 =
     entered 𝓤 H (tripleOf 𝓤 H (𝓖 .A) self.signature (self.spec 𝓤 H (𝓖 .A) (𝓜 .mem) (𝓡 .run)))
     (tables 𝓤 H 𝓜 𝓡 code.env .C) (tables 𝓤 H 𝓜 𝓡 code.env .Λ) #slice-in-place·push-slice-lent code.function (code.unfolded 𝓤 H 𝓜 𝓡)
     (self-meets 𝓤 H (𝓖 .A) (givenOf 𝓤 H 𝓜 𝓖) (𝓜 .mem) (𝓡 .run) (tablesOf 𝓤 H 𝓜 (tables 𝓤 H 𝓜 𝓡 code.env))
-    (cited 𝓤 H (Callee 𝓤 H (𝓖 .A) (𝓜 .mem) (𝓡 .run)) 𝓜 𝓡 code.env #slice-in-place·push-slice callee-def.routine code.calls-slice-in-place·push-slice (callee-thm.met 𝓤 H 𝓜 𝓖 𝓡)))
+    (cited 𝓤 H (Callee 𝓤 H (𝓖 .A) (𝓜 .mem) (𝓡 .run)) 𝓜 𝓡 code.env #slice-in-place·push-slice callee-def.routine code.calls-in-place·push-slice (callee-thm.met 𝓤 H 𝓜 𝓖 𝓡)))

@@ -1,0 +1,19 @@
+-- What the contracts rule out: each wrong reading of docs/WRONG-READINGS.md that is told here is an outcome that the definition does not allow.
+use mathlib.Core.Path.{_≡_, ap, _∙_}
+use mathlib.Core.List.{List}
+use Prim.Native.Nat.{ℕ, _<_}
+use native.Mathlib.Omega.{arith}
+use lib.ListN.{length}
+use Rattle.refusals.specs.Numbers.{limit, encodeOutOfMemoryNo}
+use Rattle.encoder.specs.Encode.{EncodeAnswer, length-is, noFrame, AfterEncode, afterEncode, encodeTo}
+use Rattle.encoder.proofs.Encodes.{encode-long}
+
+-- the number of a refusal
+numberOf : EncodeAnswer → ℕ
+numberOf (length-is n) = 0
+numberOf (noFrame k) = k
+
+-- where the payload is too long, 1 is answered, whatever the output is
+room-before-length : (P out : List ℕ) → limit < length P → encodeTo P out ≡ afterEncode (noFrame encodeOutOfMemoryNo) out → ⊥
+unfolding numberOf
+room-before-length P out long h = let n : _≡_ {A = ℕ} 1 2 = ap (λ (a : AfterEncode). numberOf (a .answer)) (encode-long P out long ∙ h) in omega (arith, n)

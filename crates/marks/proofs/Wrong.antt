@@ -1,0 +1,36 @@
+-- What the claims rule out: each fake of docs/WRONG-READINGS.md falls, by one of the parts of Fall.
+use Rattle.encoder.specs.Encode.{encodeTo}
+use Rattle.marks.specs.Decoders.{ours}
+use Rattle.marks.specs.Mark2.{Soundness}
+use Rattle.marks.specs.Mark3.{Mark3}
+use Rattle.marks.specs.Encoders.{SameBytes}
+use Rattle.marks.specs.Events.{ReaderGives, ListsEntries}
+use Rattle.marks.specs.Fakes.{refuses, constant, idle, invents, once, writesNothing, finishedAtOnce, withoutEvents, noEntries}
+use Rattle.marks.proofs.Fakes.{fall}
+
+fake-refuses-everything : Mark3 refuses encodeTo → ⊥
+fake-refuses-everything = fall .refuses-mark3
+
+fake-push-does-nothing : Mark3 idle encodeTo → ⊥
+fake-push-does-nothing = fall .idle-mark3
+
+fake-one-constant-payload : Soundness constant → ⊥
+fake-one-constant-payload = fall .constant-mark2
+
+fake-empty-after-the-first-frame : Mark3 once encodeTo → ⊥
+fake-empty-after-the-first-frame = fall .once-mark3
+
+fake-invented-discard-count : Mark3 invents encodeTo → ⊥
+fake-invented-discard-count = fall .invents-mark3
+
+fake-encode-writes-nothing : Mark3 ours writesNothing → ⊥
+fake-encode-writes-nothing = fall .writes-nothing-mark3
+
+fake-encoder-does-nothing : SameBytes finishedAtOnce encodeTo → ⊥
+fake-encoder-does-nothing = fall .finished-at-once
+
+fake-reader-without-events : ReaderGives withoutEvents → ⊥
+fake-reader-without-events = fall .silent-events
+
+fake-list-start-and-no-entries : ListsEntries noEntries → ⊥
+fake-list-start-and-no-entries = fall .no-entries-lists
