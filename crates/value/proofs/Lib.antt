@@ -1,4 +1,5 @@
 pub mod Values
 pub mod Ranges
+pub mod Narrow
 pub mod Gets
 pub mod Decided

@@ -1,18 +1,17 @@
 // Ports Time, Status and Value of parser/common.rs, and Option of parser/mod.rs for all but strings.
 ghost use mathlib.Core.Path.{_≡_};
+ghost use Prim.Native.Nat.{_/_, _^_, _<_};
+ghost use lib.Signed.{mag};
 ghost use Rattle.tlf.specs.declared.Ty.{Ty};
 ghost use Rattle.numbers.specs.Numbers.{unsignedAt, signedAt};
 ghost use Rattle.numbers.specs.Answers.{u32Read};
 ghost use Rattle.octet_string.specs.Optional.{optional};
-ghost use Rattle.value.specs.Values.{isBareTime, timeAt, narrowest, statusOf, statusAt, signedValue, unsignedValue, listTypeAt, valueOf, valueAt, listTime};
-ghost use Rattle.value.specs.Answers.{widthBytes, seconds, value, timeRead, statusRead, valueRead, optU8Read, optI8Read, optTimeRead, optStatusRead};
+ghost use Rattle.value.specs.Values.{isBareTime, timeAt, narrowest, statusOf, statusAt, signed, unsigned, signedValue, unsignedValue, listTypeAt, valueOf, valueAt, listTime};
+ghost use Rattle.value.specs.Answers.{widthBytes, seconds, status, value, timeRead, statusRead, valueRead, optU8Read, optI8Read, optTimeRead, optStatusRead};
 use numbers::BoolRead;
 use numbers::I8Read;
-use numbers::I16Read;
-use numbers::I32Read;
 use numbers::I64Read;
 use numbers::U8Read;
-use numbers::U16Read;
 use numbers::U32Read;
 use numbers::U64Read;
 use refusals::Fault;
@@ -133,39 +132,30 @@ pub enum StatusRead {
     Refused(Fault),
 }
 
-// The status of an element of so many bytes, at the narrowest width.
+// A number that such a width holds, as a status.
+fn status_with(width: Width, number: u64) -> Status
+    requires { ⌜ number < 256 ^ widthBytes width ⌝ }
+    ensures { λ r. ⌜ status r ≡ record { width = widthBytes width; number = number } ⌝ }
+{
+    match width {
+        Width::One => Status::Status8(number as u8),
+        Width::Two => Status::Status16(number as u16),
+        Width::Four => Status::Status32(number as u32),
+        Width::Eight => Status::Status64(number),
+    }
+}
+
+// The status of an element of so many bytes: read at the widest, which finds what the narrowest finds, and given at the narrowest.
 fn status_of(input: &[u8], at: usize, len: u32) -> StatusRead
+    requires { ⌜ unsignedAt 8 (now input) at ≡ unsignedAt (narrowest len) (now input) at ⌝ }
     ensures { λ r. ⌜ statusRead r ≡ statusOf (narrowest len) (now (input .entry)) at ⌝ }
 {
-    match width_of(len) {
-        Width::One => match numbers::parse_u8(input, at) {
-            U8Read::Is { value, next } => StatusRead::Is {
-                status: Status::Status8(value),
-                next,
-            },
-            U8Read::Refused(f) => StatusRead::Refused(f),
+    match numbers::parse_u64(input, at) {
+        U64Read::Is { value, next } => StatusRead::Is {
+            status: status_with(width_of(len), value),
+            next,
         },
-        Width::Two => match numbers::parse_u16(input, at) {
-            U16Read::Is { value, next } => StatusRead::Is {
-                status: Status::Status16(value),
-                next,
-            },
-            U16Read::Refused(f) => StatusRead::Refused(f),
-        },
-        Width::Four => match numbers::parse_u32(input, at) {
-            U32Read::Is { value, next } => StatusRead::Is {
-                status: Status::Status32(value),
-                next,
-            },
-            U32Read::Refused(f) => StatusRead::Refused(f),
-        },
-        Width::Eight => match numbers::parse_u64(input, at) {
-            U64Read::Is { value, next } => StatusRead::Is {
-                status: Status::Status64(value),
-                next,
-            },
-            U64Read::Refused(f) => StatusRead::Refused(f),
-        },
+        U64Read::Refused(f) => StatusRead::Refused(f),
     }
 }
 
@@ -229,75 +219,57 @@ fn bytes_value(input: &[u8], at: usize) -> ValueRead
     }
 }
 
+// An integer that such a width holds, as a value.
+fn signed_with(width: Width, number: i64) -> Value
+    requires { ⌜ mag number < 256 ^ widthBytes width / 2 ⌝ }
+    ensures { λ r. ⌜ value r ≡ signed (widthBytes width) number ⌝ }
+{
+    match width {
+        Width::One => Value::I8(number as i8),
+        Width::Two => Value::I16(number as i16),
+        Width::Four => Value::I32(number as i32),
+        Width::Eight => Value::I64(number),
+    }
+}
+
 // The integer of an element of so many bytes, at the narrowest width.
 fn signed_value(input: &[u8], at: usize, len: u32) -> ValueRead
+    requires { ⌜ signedAt 8 (now input) at ≡ signedAt (narrowest len) (now input) at ⌝ }
     ensures { λ r. ⌜ valueRead r ≡ signedValue (narrowest len) (now (input .entry)) at ⌝ }
 {
-    match width_of(len) {
-        Width::One => match numbers::parse_i8(input, at) {
-            I8Read::Is { value, next } => ValueRead::Is {
-                value: Value::I8(value),
-                next,
-            },
-            I8Read::Refused(f) => ValueRead::Refused(f),
+    match numbers::parse_i64(input, at) {
+        I64Read::Is { value, next } => ValueRead::Is {
+            value: signed_with(width_of(len), value),
+            next,
         },
-        Width::Two => match numbers::parse_i16(input, at) {
-            I16Read::Is { value, next } => ValueRead::Is {
-                value: Value::I16(value),
-                next,
-            },
-            I16Read::Refused(f) => ValueRead::Refused(f),
-        },
-        Width::Four => match numbers::parse_i32(input, at) {
-            I32Read::Is { value, next } => ValueRead::Is {
-                value: Value::I32(value),
-                next,
-            },
-            I32Read::Refused(f) => ValueRead::Refused(f),
-        },
-        Width::Eight => match numbers::parse_i64(input, at) {
-            I64Read::Is { value, next } => ValueRead::Is {
-                value: Value::I64(value),
-                next,
-            },
-            I64Read::Refused(f) => ValueRead::Refused(f),
-        },
+        I64Read::Refused(f) => ValueRead::Refused(f),
+    }
+}
+
+// A number that such a width holds, as a value.
+fn unsigned_with(width: Width, number: u64) -> Value
+    requires { ⌜ number < 256 ^ widthBytes width ⌝ }
+    ensures { λ r. ⌜ value r ≡ unsigned (widthBytes width) number ⌝ }
+{
+    match width {
+        Width::One => Value::U8(number as u8),
+        Width::Two => Value::U16(number as u16),
+        Width::Four => Value::U32(number as u32),
+        Width::Eight => Value::U64(number),
     }
 }
 
 // The unsigned number of an element of so many bytes, at the narrowest width.
 fn unsigned_value(input: &[u8], at: usize, len: u32) -> ValueRead
+    requires { ⌜ unsignedAt 8 (now input) at ≡ unsignedAt (narrowest len) (now input) at ⌝ }
     ensures { λ r. ⌜ valueRead r ≡ unsignedValue (narrowest len) (now (input .entry)) at ⌝ }
 {
-    match width_of(len) {
-        Width::One => match numbers::parse_u8(input, at) {
-            U8Read::Is { value, next } => ValueRead::Is {
-                value: Value::U8(value),
-                next,
-            },
-            U8Read::Refused(f) => ValueRead::Refused(f),
+    match numbers::parse_u64(input, at) {
+        U64Read::Is { value, next } => ValueRead::Is {
+            value: unsigned_with(width_of(len), value),
+            next,
         },
-        Width::Two => match numbers::parse_u16(input, at) {
-            U16Read::Is { value, next } => ValueRead::Is {
-                value: Value::U16(value),
-                next,
-            },
-            U16Read::Refused(f) => ValueRead::Refused(f),
-        },
-        Width::Four => match numbers::parse_u32(input, at) {
-            U32Read::Is { value, next } => ValueRead::Is {
-                value: Value::U32(value),
-                next,
-            },
-            U32Read::Refused(f) => ValueRead::Refused(f),
-        },
-        Width::Eight => match numbers::parse_u64(input, at) {
-            U64Read::Is { value, next } => ValueRead::Is {
-                value: Value::U64(value),
-                next,
-            },
-            U64Read::Refused(f) => ValueRead::Refused(f),
-        },
+        U64Read::Refused(f) => ValueRead::Refused(f),
     }
 }
 

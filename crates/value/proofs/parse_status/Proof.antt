@@ -1,5 +1,6 @@
 use Rattle.refusals.specs.Read.{then}
 use Rattle.value.specs.Values.{statusAt}
+use Rattle.value.proofs.Narrow.{unsigned-narrow}
 use borrow.Author.Needs.{needs}
 use Rattle.value.proofs.parse_status.Statement.{statement}
 use Rattle.value.proofs.parse_status.Tie as tie
@@ -11,7 +12,9 @@ enum-known-tlf : tie.Need-enum-known-tlf
 enum-known-tlf c = search needs
 
 status-of-requires : tie.Need-status-of-requires
-status-of-requires c κs = search needs
+status-of-requires c κs =
+    let p1 = c .before .before .before in
+    unsigned-narrow _ _ (rw (c .before .tlf .given .1) at (p1 .parse .ensures))
 
 enum-known-f : tie.Need-enum-known-f
 enum-known-f c = search needs

@@ -1,5 +1,6 @@
 use Rattle.refusals.specs.Read.{then}
 use Rattle.value.specs.Values.{valueAt, valueOf}
+use Rattle.value.proofs.Narrow.{unsigned-narrow, signed-narrow}
 use borrow.Author.Needs.{needs}
 use Rattle.value.proofs.parse_value.Statement.{statement}
 use Rattle.value.proofs.parse_value.Tie as tie
@@ -26,13 +27,19 @@ enum-told-3 : tie.Need-enum-told-3
 enum-told-3 c = search needs
 
 signed-value-requires : tie.Need-signed-value-requires
-signed-value-requires c κs = search needs
+signed-value-requires c κs =
+    let p2 = c .before .before .before in
+    let p1 = p2 .before .before in
+    signed-narrow _ _ (rw (p2 .tlf .given .1) at (p1 .parse .ensures))
 
 enum-told-4 : tie.Need-enum-told-4
 enum-told-4 c = search needs
 
 unsigned-value-requires : tie.Need-unsigned-value-requires
-unsigned-value-requires c κs = search needs
+unsigned-value-requires c κs =
+    let p2 = c .before .before .before in
+    let p1 = p2 .before .before in
+    unsigned-narrow _ _ (rw (p2 .tlf .given .1) at (p1 .parse .ensures))
 
 enum-told-5 : tie.Need-enum-told-5
 enum-told-5 c = search needs
