@@ -21,8 +21,8 @@ module _ (s : List ℕ) (p start pending n m : ℕ) (a : ReaderAfter) (h : n < m
       ∙ ap (λ (x : ReaderAfter). cond (isEvent (x .said)) (suc (eventsFrom (m - (n + 1)) s (x .place) (x .start) (x .pending))) 0) (sym e)
       ∙ ap (λ (x : Bool). cond x (suc (eventsFrom (m - (n + 1)) s (a .place) (a .start) (a .pending))) 0) f
 
-  pub one-more : isEvent (a .said) ≡ true → n + 1 + eventsFrom (m - (n + 1)) s (a .place) (a .start) (a .pending) ≡ n + eventsFrom (m - n) s p start pending
-  one-more f = omega (arith, step true f)
+  pub events-more : isEvent (a .said) ≡ true → n + 1 + eventsFrom (m - (n + 1)) s (a .place) (a .start) (a .pending) ≡ n + eventsFrom (m - n) s p start pending
+  events-more f = omega (arith, step true f)
 
   pub no-more : isEvent (a .said) ≡ false → n ≡ n + eventsFrom (m - n) s p start pending
   no-more f = omega (arith, step false f)

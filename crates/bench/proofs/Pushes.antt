@@ -9,7 +9,7 @@ use native.Mathlib.Numerals.{add-one}
 use lib.ListN.{length, getD, take, drop, drop-of-length-le, length-drop}
 use lib.Seq.{take-length, drop-drop, drop-cons}
 use Rattle.decoder.specs.Record as D
-use Rattle.decoder.specs.Record.{Answer, After, after, refusal, answerOf, badDecoder, pushRecord}
+use Rattle.decoder.specs.Record.{DecoderAnswer, After, after, refusal, answerOf, badDecoder, pushRecord}
 use Rattle.decoder.specs.declared.Decoder.{Decoder}
 use Rattle.decoder.specs.declared.Pushed.{Pushed}
 use Rattle.decoder.specs.declared.Event.{Event}
@@ -67,8 +67,8 @@ module _ (n : ℕ) (d : Decoder) (m s : List ℕ) (i : ℕ) (r : Sliced) (l : Li
   taken-is : r .taken ≡ sliceRecord d m (drop i s) .taken
   taken-is = ap (λ (t : Took). t .taken) part
 
-  pub room : i + r .taken ≤ length s
-  room = omega (arith, taken-is, left, taken-le d m (drop i s))
+  pub part-room : i + r .taken ≤ length s
+  part-room = omega (arith, taken-is, left, taken-le d m (drop i s))
 
   pub slice-next : (k : ℕ) → k ≡ one (answerOf (r .event) []) → (r .taken ≡ 0 → ⊥) → payloadsFrom (n + k) (r .decoder) l (drop (i + r .taken) s) ≡ payloadsFrom n d m (drop i s)
   slice-next k c h =

@@ -101,8 +101,8 @@ module _ (e : Encoder) (payload l : List ℕ) (i t : ℕ) (g : Given) (said : st
       (λ h. omega (arith, so-far, sum-end l i (omega arith)))
 
 -- all calls were made
-pub all-given : (l : List ℕ) (i t : ℕ) → length l ≤ i → t + sum (drop i l) ≡ sum l → t ≡ sum l
-all-given l i t h e = omega (arith, e, sum-end l i h)
+pub sum-is-all : (l : List ℕ) (i t : ℕ) → length l ≤ i → t + sum (drop i l) ≡ sum l → t ≡ sum l
+sum-is-all l i t h e = omega (arith, e, sum-end l i h)
 
 pub streamed-long : (payload : List ℕ) → limit < length payload → 0 ≡ streamed payload
 streamed-long payload h = rw (lt-leb (length payload) limit h)

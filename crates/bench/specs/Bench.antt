@@ -25,7 +25,7 @@ counted n m = record { number = n; memory = m }
 
 -- ---- the payloads of single pushes
 
-abbrev pub one : D.Answer → ℕ
+abbrev pub one : D.DecoderAnswer → ℕ
 one nothing = 0
 one (payload bytes) = 1
 one (count n) = 0

@@ -45,16 +45,16 @@ pub register-done : (r : ℕ) (s : List ℕ) (i : ℕ) → length s ≤ i → re
 unfolding register
 register-done r s i h = rw drop-of-length-le
 
-either : (p : Bool) (a b : ℕ) → a < 2 ^ 16 → b < 2 ^ 16 → cond p a b < 2 ^ 16
-either true a b h k = h
-either false a b h k = k
+either-bit : (p : Bool) (a b : ℕ) → a < 2 ^ 16 → b < 2 ^ 16 → cond p a b < 2 ^ 16
+either-bit true a b h k = h
+either-bit false a b h k = k
 
 bits-fit : (n r : ℕ) → r < 2 ^ 16 → bitSteps n r < 2 ^ 16
 unfolding bitSteps bitStep
 bits-fit zero r h = h
 bits-fit (suc n) r h =
     let half : r / 2 < 2 ^ 16 = omega arith in
-    bits-fit n _ (either (eqb (r % 2) 1) _ _ (xor-lt 16 (r / 2) polynomial half (rw polynomial-is (omega arith))) half)
+    bits-fit n _ (either-bit (eqb (r % 2) 1) _ _ (xor-lt 16 (r / 2) polynomial half (rw polynomial-is (omega arith))) half)
 
 -- the register keeps to sixteen bits
 pub register-fits : (r : ℕ) (s : List ℕ) → r < 2 ^ 16 → ((i : ℕ) → getD s i 0 < 2 ^ 8) → register r s < 2 ^ 16

@@ -6,7 +6,7 @@ use Prim.Native.Nat.{ℕ}
 use lib.ListN.{getD}
 use lib.Dec.{eqb}
 use Rattle.decoder.specs.Push as P
-use Rattle.decoder.specs.Record.{Answer, numbered, nothing, payload, count, refusal, answerOf, answerAsked, After, afterPush, Left, afterFinalize, afterReset}
+use Rattle.decoder.specs.Record.{DecoderAnswer, numbered, nothing, payload, count, refusal, answerOf, answerAsked, After, afterPush, Left, afterFinalize, afterReset}
 use Rattle.decoder.specs.declared.Event.{Event}
 use Rattle.decoder.specs.declared.Event.the-variants.{Nothing, Payload, DiscardedBytes, InvalidEsc, OutOfMemory, InvalidMessage, BadState, WrongBuffer}
 use Rattle.decoder.specs.declared.Pushed.{Pushed}
@@ -16,7 +16,7 @@ use Rattle.decoder.specs.declared.Asked.{Asked}
 use Rattle.decoder.specs.declared.Asked.the-variants.{Good, BadSpan}
 
 -- the event that an answer came from
-eventOf : Answer → Event
+eventOf : DecoderAnswer → Event
 eventOf nothing = Nothing
 eventOf (payload bytes) = Payload
 eventOf (count n) = Nothing
@@ -38,23 +38,23 @@ event-back (InvalidMessage read computed false p) bytes = refl
 event-back BadState bytes = refl
 event-back WrongBuffer bytes = refl
 
-event-one : (e f : Event) (bytes more : List ℕ) → answerOf e bytes ≡ answerOf f more → e ≡ f
-event-one e f bytes more h = sym (event-back e bytes) ∙ ap eventOf h ∙ event-back f more
+one-event : (e f : Event) (bytes more : List ℕ) → answerOf e bytes ≡ answerOf f more → e ≡ f
+one-event e f bytes more h = sym (event-back e bytes) ∙ ap eventOf h ∙ event-back f more
 
 -- push: answer, record and memory
 pub one-push : (r s : Pushed) (m n : List ℕ) → afterPush r m ≡ afterPush s n → (r ≡ s) × (m ≡ n)
 one-push r s m n h =
     let d : r .decoder ≡ s .decoder = ap (λ (a : After). a .decoder) h in
-    let e : r .event ≡ s .event = event-one _ _ _ _ (ap (λ (a : After). a .answer) h) in
+    let e : r .event ≡ s .event = one-event _ _ _ _ (ap (λ (a : After). a .answer) h) in
     (λ i. record { decoder = d i; event = e i }, ap (λ (a : After). a .memory) h)
 
 pub finalize-one : (r s : Finalized) → afterFinalize r ≡ afterFinalize s → r ≡ s
 finalize-one r s h =
     let d : r .decoder ≡ s .decoder = ap (λ (a : Left). a .decoder) h in
-    let e : r .event ≡ s .event = event-one _ _ [] [] (ap (λ (a : Left). a .answer) h) in
+    let e : r .event ≡ s .event = one-event _ _ [] [] (ap (λ (a : Left). a .answer) h) in
     λ i. record { decoder = d i; event = e i }
 
-countOf : Answer → ℕ
+countOf : DecoderAnswer → ℕ
 countOf nothing = 0
 countOf (payload bytes) = 0
 countOf (count n) = n
@@ -67,7 +67,7 @@ reset-one r s h =
     let e : r .count ≡ s .count = ap (λ (a : Left). countOf (a .answer)) h in
     λ i. record { decoder = d i; count = e i }
 
-askedOf : Answer → Asked
+askedOf : DecoderAnswer → Asked
 askedOf nothing = Good
 askedOf (payload bytes) = Good
 askedOf (count n) = Good
@@ -83,7 +83,7 @@ ask-one a b h = sym (asked-back a) ∙ ap askedOf h ∙ asked-back b
 
 -- ---- and an answer says the step's event
 
-stepEvent : Answer → P.PushEvent
+stepEvent : DecoderAnswer → P.PushEvent
 stepEvent nothing = P.silent
 stepEvent (payload bytes) = P.paysOut bytes
 stepEvent (count n) = P.silent

@@ -6,18 +6,18 @@ use lib.ListN.{replicate}
 use Rattle.crc_x25.specs.Crc.{reflect, polynomial, bitStep, bitSteps, byteStep, register, finalXor}
 use Rattle.frame.specs.Frame.{startSeq, escSeq}
 use Rattle.decoder.specs.Push.{sized, searching, store, same, finish, judge, step, finalized, resetCount}
-use Rattle.decoder.specs.Record.{Answer, nothing, payload, count, refusal, wrote, badDecoder, wrongBuffer, pushed, pushRecord, finalizeRecord, resetRecord, newRecord}
+use Rattle.decoder.specs.Record.{DecoderAnswer, nothing, payload, count, refusal, wrote, badDecoder, wrongBuffer, pushed, pushRecord, finalizeRecord, resetRecord, newRecord}
 use Rattle.decoder.specs.Run.{Op, push, finalize, reset, act, run}
 
 -- what is not nothing, with the number of the operation
 pub record SaidAt : Type 0 where
   pub at : ℕ
-  pub answer : Answer
+  pub answer : DecoderAnswer
 
-abbrev pub saidAt : ℕ → Answer → SaidAt
+abbrev pub saidAt : ℕ → DecoderAnswer → SaidAt
 saidAt n a = record { at = n; answer = a }
 
-abbrev pub heard : ℕ → List Answer → List SaidAt
+abbrev pub heard : ℕ → List DecoderAnswer → List SaidAt
 heard n [] = []
 heard n (nothing ∷ more) = heard (suc n) more
 heard n (payload bytes ∷ more) = saidAt n (payload bytes) ∷ heard (suc n) more
@@ -37,26 +37,26 @@ abbrev pub decoderRow : ℕ → List Op → List SaidAt → DecoderRow
 decoderRow C os saidAt = record { capacity = C; operations = os; answers = saidAt }
 
 -- the frame of 12345678
-abbrev b1 : List ℕ
-b1 = startSeq ++ 0x12 ∷ 0x34 ∷ 0x56 ∷ 0x78 ∷ escSeq ++ 0x1a ∷ 0x00 ∷ 0xb8 ∷ 0x7b ∷ []
+abbrev sampleFrame : List ℕ
+sampleFrame = startSeq ++ 0x12 ∷ 0x34 ∷ 0x56 ∷ 0x78 ∷ escSeq ++ 0x1a ∷ 0x00 ∷ 0xb8 ∷ 0x7b ∷ []
 
-abbrev paid : Answer
+abbrev paid : DecoderAnswer
 paid = payload (0x12 ∷ 0x34 ∷ 0x56 ∷ 0x78 ∷ [])
 
-abbrev b2 : List ℕ
-b2 = startSeq ++ 0x13 ∷ 0x24 ∷ 0x35 ∷ 0x46 ∷ escSeq ++ 0x1a ∷ 0x00 ∷ 0xb1 ∷ 0xa1 ∷ []
+abbrev otherFrame : List ℕ
+otherFrame = startSeq ++ 0x13 ∷ 0x24 ∷ 0x35 ∷ 0x46 ∷ escSeq ++ 0x1a ∷ 0x00 ∷ 0xb1 ∷ 0xa1 ∷ []
 
 abbrev pub decoderRows : List DecoderRow
 decoderRows =
     -- the comments of transport.rs: one frame at a capacity of 20, two frames at 10
-    decoderRow 20 (pushes b1) (saidAt 20 paid ∷ [])
-    ∷ decoderRow 10 (pushes (b1 ++ b2)) (saidAt 20 paid ∷ saidAt 40 (payload (0x13 ∷ 0x24 ∷ 0x35 ∷ 0x46 ∷ [])) ∷ [])
+    decoderRow 20 (pushes sampleFrame) (saidAt 20 paid ∷ [])
+    ∷ decoderRow 10 (pushes (sampleFrame ++ otherFrame)) (saidAt 20 paid ∷ saidAt 40 (payload (0x13 ∷ 0x24 ∷ 0x35 ∷ 0x46 ∷ [])) ∷ [])
     -- a 1b tail isn't the escape: 010203 1b, then the end sequence
     ∷ decoderRow 8 (pushes (startSeq ++ 0x01 ∷ 0x02 ∷ 0x03 ∷ 0x1b ∷ escSeq ++ 0x1a ∷ 0x00 ∷ 0x32 ∷ 0xd4 ∷ []))
     (saidAt 20 (payload (0x01 ∷ 0x02 ∷ 0x03 ∷ 0x1b ∷ [])) ∷ [])
     -- reset, then a frame behind a stray 1b
-    ∷ decoderRow 8 (reset ∷ pushes (0x1b ∷ b1)) (saidAt 1 (count 0) ∷ saidAt 23 (refusal 6 (21 ∷ [])) ∷ [])
-    ∷ decoderRow 8 (map push (0x00 ∷ startSeq) ++ reset ∷ pushes b1) (saidAt 9 (refusal 6 (1 ∷ [])) ∷ saidAt 10 (count 8) ∷ saidAt 30 paid ∷ [])
+    ∷ decoderRow 8 (reset ∷ pushes (0x1b ∷ sampleFrame)) (saidAt 1 (count 0) ∷ saidAt 23 (refusal 6 (21 ∷ [])) ∷ [])
+    ∷ decoderRow 8 (map push (0x00 ∷ startSeq) ++ reset ∷ pushes sampleFrame) (saidAt 9 (refusal 6 (1 ∷ [])) ∷ saidAt 10 (count 8) ∷ saidAt 30 paid ∷ [])
     ∷ []
 
 pub push-examples : map (λ (r : DecoderRow). heard 1 (run (newRecord (sized (r .capacity))) (replicate (r .capacity) 0) (r .operations))) decoderRows ≡ map (λ (r : DecoderRow). r .answers) decoderRows

@@ -10,7 +10,7 @@ use borrow.Author.Tests.{eq-eqb, ne-eqb, le-leb, lt-leb}
 use Rattle.frame.proofs.Cases.{either}
 use Rattle.decoder.specs.Push.{Setup, Mem, State, search, body, escape, done, Out, padOf, step}
 use Rattle.decoder.specs.Record.{After, after, numbered, setup, stateAs, stateOf, recordOf, wrote, written, badDecoder, wrongBuffer, pushed, pushRecord}
-use Rattle.decoder.specs.Saw.{Judged, is-data, restarts, good, bad, shifts, unknown, Saw, sought, began, again, waits, opens, stores, full, reads, judges, full′}
+use Rattle.decoder.specs.Saw.{Judged, is-data, restarts, good, bad, shifts, unknown, Saw, sought, began, again, waits, opens, stores, full, collects, judges, full′}
 use Rattle.decoder.specs.declared.DecodeState.{DecodeState}
 use Rattle.decoder.specs.declared.DecodeState.the-variants.{LookingForMessageStart, ParsingNormal, ParsingEscChars, ParsingEscPayload, Done}
 use Rattle.decoder.specs.declared.Decoder.{Decoder}
@@ -45,11 +45,11 @@ setup-pack C (done P) = refl
 
 -- ---- a push keeps the state's bytes first in the buffer
 
-Part : List ℕ → Out → Type 0
-Part l o = take (length (contents (o .state))) l ≡ contents (o .state)
+KeptPart : List ℕ → Out → Type 0
+KeptPart l o = take (length (contents (o .state))) l ≡ contents (o .state)
 
-part-judged : (m : Mem) (four : List ℕ) (o : Out) → Judged m four o → Part (m .stored) o
-unfolding Part
+part-judged : (m : Mem) (four : List ℕ) (o : Out) → Judged m four o → KeptPart (m .stored) o
+unfolding KeptPart
 part-judged m four o (is-data e) = take-length (m .stored)
 part-judged m four o (restarts e) = refl
 part-judged m four o (good e h) = rw (length-take-le (length (m .stored) - 4 - padOf four) (m .stored) (omega arith))
@@ -57,26 +57,26 @@ part-judged m four o (bad e h) = refl
 part-judged m four o (shifts a e lo hi t) = take-length (m .stored)
 part-judged m four o (unknown a b c d) = refl
 
-part : (C : Setup) (s : State) (b : ℕ) (o : Out) → Saw C s b o → Part (contents s ++ wrote C s b) o
-unfolding Part wrote
-part C s b o (sought k e ne) = refl
-part C s b o (began e) = refl
-part C s b o (again (sought k e ne)) = refl
-part C s b o (again (began e)) = refl
-part C s b o (waits {m = m} e ne) = rw (eq-eqb _ _ e, append-nil (m .stored)) (take-length (m .stored))
-part C s b o (opens {m = m} e f) = rw (eq-eqb _ _ e, append-nil (m .stored)) (take-length (m .stored))
-part C s b o (stores ne fit) = rw (ne-eqb _ _ ne, le-leb _ _ fit) (take-length _)
-part C s b o (full ne h) = refl
-part C s b o (reads fit lt) = rw (le-leb _ _ fit) (take-length _)
-part C s b o (judges fit ge j) = rw (le-leb _ _ fit) (part-judged _ _ o j)
-part C s b o (full′ h) = refl
+kept-part : (C : Setup) (s : State) (b : ℕ) (o : Out) → Saw C s b o → KeptPart (contents s ++ wrote C s b) o
+unfolding KeptPart wrote
+kept-part C s b o (sought k e ne) = refl
+kept-part C s b o (began e) = refl
+kept-part C s b o (again (sought k e ne)) = refl
+kept-part C s b o (again (began e)) = refl
+kept-part C s b o (waits {m = m} e ne) = rw (eq-eqb _ _ e, append-nil (m .stored)) (take-length (m .stored))
+kept-part C s b o (opens {m = m} e f) = rw (eq-eqb _ _ e, append-nil (m .stored)) (take-length (m .stored))
+kept-part C s b o (stores ne fit) = rw (ne-eqb _ _ ne, le-leb _ _ fit) (take-length _)
+kept-part C s b o (full ne h) = refl
+kept-part C s b o (collects fit lt) = rw (le-leb _ _ fit) (take-length _)
+kept-part C s b o (judges fit ge j) = rw (le-leb _ _ fit) (part-judged _ _ o j)
+kept-part C s b o (full′ h) = refl
 
 pub kept-first : (C : Setup) (s : State) (b : ℕ) (m : List ℕ) → HeldIn s m → HeldIn ((step C s b) .state) (written m (length (contents s)) (wrote C s b))
-unfolding HeldIn Part
+unfolding HeldIn KeptPart
 kept-first C s b m h =
     let w : List ℕ = wrote C s b in
     let t : State = (step C s b) .state in
-    let q : take (length (contents t)) (contents s ++ w) ≡ contents t = part C s b (step C s b) (saw C s b) in
+    let q : take (length (contents t)) (contents s ++ w) ≡ contents t = kept-part C s b (step C s b) (saw C s b) in
     let le : length (contents t) ≤ length (contents s ++ w) = omega (arith, sym (length-take (length (contents t)) (contents s ++ w)) ∙ ap length q) in
     rw (h, ← append-assoc (contents s) w) (take-append-le (length (contents t)) (contents s ++ w) _ le ∙ q)
 

@@ -6,8 +6,8 @@ use Prim.Native.Nat.{ℕ}
 use lib.ListN.{length}
 use Rattle.frame.proofs.Cases.{by-eq, by-test}
 use Rattle.decoder.specs.Push.{Setup, Mem, State, done, PushEvent, paysOut, Out, noticed, fresh, step}
-use Rattle.decoder.specs.Record.{Answer, nothing, payload, count, refusal, After, numbered, setup, stateOf, recordWith, recordOf, badDecoder, wrongBuffer, pushed, pushRecord}
-use Rattle.decoder.specs.Saw.{Judged, is-data, restarts, good, bad, shifts, unknown, Saw, sought, began, again, waits, opens, stores, full, reads, judges, full′}
+use Rattle.decoder.specs.Record.{DecoderAnswer, nothing, payload, count, refusal, After, numbered, setup, stateOf, recordWith, recordOf, badDecoder, wrongBuffer, pushed, pushRecord}
+use Rattle.decoder.specs.Saw.{Judged, is-data, restarts, good, bad, shifts, unknown, Saw, sought, began, again, waits, opens, stores, full, collects, judges, full′}
 use Rattle.decoder.specs.declared.DecodeState.the-variants.{Done}
 use Rattle.decoder.specs.declared.Decoder.{Decoder}
 use Rattle.decoder.proofs.Saw.{saw}
@@ -25,7 +25,7 @@ paid-judged m four o (bad e p) bytes h = cc
 paid-judged m four o (shifts a e lo hi t) bytes h = cc
 paid-judged m four o (unknown a b c d) bytes h = cc
 
-no-payload : Answer → Bool
+no-payload : DecoderAnswer → Bool
 no-payload nothing = true
 no-payload (payload bytes) = false
 no-payload (count n) = true
@@ -36,18 +36,18 @@ unfolding no-payload
 noticed-not noise bytes =
     by-eq (λ (v : PushEvent). numbered v ≡ payload bytes → ⊥) noise 0 _ _ (λ e h. false≢true (sym (ap no-payload h))) (λ e h. false≢true (sym (ap no-payload h)))
 
-paid : (C : Setup) (s : State) (b : ℕ) (o : Out) → Saw C s b o → Paid o
+paid-out : (C : Setup) (s : State) (b : ℕ) (o : Out) → Saw C s b o → Paid o
 unfolding Paid
-paid C s b o (sought k e ne) bytes h = cc
-paid C s b o (began {noise = noise} e) bytes h = absurd (noticed-not noise bytes h)
-paid C s b o (again w) bytes h = paid C fresh b o w bytes h
-paid C s b o (waits e ne) bytes h = cc
-paid C s b o (opens e f) bytes h = cc
-paid C s b o (stores ne fit) bytes h = cc
-paid C s b o (full ne f) bytes h = cc
-paid C s b o (reads fit lt) bytes h = cc
-paid C s b o (judges fit ge j) bytes h = paid-judged _ _ o j bytes h
-paid C s b o (full′ f) bytes h = cc
+paid-out C s b o (sought k e ne) bytes h = cc
+paid-out C s b o (began {noise = noise} e) bytes h = absurd (noticed-not noise bytes h)
+paid-out C s b o (again w) bytes h = paid-out C fresh b o w bytes h
+paid-out C s b o (waits e ne) bytes h = cc
+paid-out C s b o (opens e f) bytes h = cc
+paid-out C s b o (stores ne fit) bytes h = cc
+paid-out C s b o (full ne f) bytes h = cc
+paid-out C s b o (collects fit lt) bytes h = cc
+paid-out C s b o (judges fit ge j) bytes h = paid-judged _ _ o j bytes h
+paid-out C s b o (full′ f) bytes h = cc
 
 -- the record behind a payload: its fill is the payload's length, CRC index and raw length are 0, the CRC register ffff
 pub payload-leaves : (d : Decoder) (m : List ℕ) (b : ℕ) (bytes : List ℕ) → pushRecord d m b .answer ≡ payload bytes
@@ -56,8 +56,8 @@ unfolding pushRecord pushed Paid
 payload-leaves d m b bytes =
     by-test (λ (a : After). a .answer ≡ payload bytes → a .decoder ≡ recordOf (setup d) (done bytes)) (badDecoder d) _ _ (λ t h. cc) (λ f.
     by-test (λ (a : After). a .answer ≡ payload bytes → a .decoder ≡ recordOf (setup d) (done bytes)) (wrongBuffer (d .capacity) (length m)) _ _ (λ t h. cc) (λ g h.
-    ap (recordOf (setup d)) (paid (setup d) (stateOf d m) b (step (setup d) (stateOf d m) b) (saw (setup d) (stateOf d m) b) bytes h)))
+    ap (recordOf (setup d)) (paid-out (setup d) (stateOf d m) b (step (setup d) (stateOf d m) b) (saw (setup d) (stateOf d m) b) bytes h)))
 
 pub got-done : (C : Setup) (s : State) (b : ℕ) (bytes : List ℕ) → (step C s b) .event ≡ paysOut bytes → (step C s b) .state ≡ done bytes
 unfolding Paid
-got-done C s b bytes h = paid C s b (step C s b) (saw C s b) bytes (ap numbered h)
+got-done C s b bytes h = paid-out C s b (step C s b) (saw C s b) bytes (ap numbered h)

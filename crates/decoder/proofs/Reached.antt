@@ -48,18 +48,18 @@ reset-setup d = refl
 
 -- the records that a new one of setup C comes to, with any buffers lent
 pub data Reached (C : Setup) : Decoder → Type 0 where
-  new : Reached C (newRecord C)
-  push : {d : Decoder} (m : List ℕ) (b : ℕ) → Reached C d → Reached C (pushRecord d m b .decoder)
-  finalize : {d : Decoder} → Reached C d → Reached C (finalizeRecord d .decoder)
-  reset : {d : Decoder} → Reached C d → Reached C (resetRecord d .decoder)
+  byNew : Reached C (newRecord C)
+  byPush : {d : Decoder} (m : List ℕ) (b : ℕ) → Reached C d → Reached C (pushRecord d m b .decoder)
+  byFinalize : {d : Decoder} → Reached C d → Reached C (finalizeRecord d .decoder)
+  byReset : {d : Decoder} → Reached C d → Reached C (resetRecord d .decoder)
 
 pub reached-good : (C : Setup) (d : Decoder) → Reached C d → (badDecoder d ≡ false) × (setup d ≡ C)
 unfolding resetRecord
-reached-good C d new = (fresh-good C, refl)
-reached-good C d (push {d = e} m b r) =
+reached-good C d byNew = (fresh-good C, refl)
+reached-good C d (byPush {d = e} m b r) =
     let h = reached-good C e r in
     (push-good-stays e m b (h .0), push-setup e m b ∙ h .1)
-reached-good C d (finalize {d = e} r) =
+reached-good C d (byFinalize {d = e} r) =
     let h = reached-good C e r in
     (finalize-good-stays e (h .0), finalize-setup e ∙ h .1)
-reached-good C d (reset {d = e} r) = (reset-good e, reached-good C e r .1)
+reached-good C d (byReset {d = e} r) = (reset-good e, reached-good C e r .1)

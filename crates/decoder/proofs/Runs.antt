@@ -7,7 +7,7 @@ use native.Mathlib.Omega.{arith}
 use lib.ListN.{length}
 use borrow.Author.Tests.{eq-eqb, le-ltb}
 use Rattle.decoder.specs.Push.{Setup, fresh, finalized, resetCount}
-use Rattle.decoder.specs.Record.{Answer, nothing, count, After, after, numbered, setup, stateAs, stateOf, badDecoder, wrongBuffer, finalizeRecord, resetRecord, newRecord}
+use Rattle.decoder.specs.Record.{DecoderAnswer, nothing, count, After, after, numbered, setup, stateAs, stateOf, badDecoder, wrongBuffer, finalizeRecord, resetRecord, newRecord}
 use Rattle.decoder.specs.Run.{Op, push, finalize, reset, act, run, behind}
 use Rattle.decoder.proofs.States.{actState, answerState, runState, stateBehind}
 use Rattle.decoder.specs.declared.DecodeState.{DecodeState}
@@ -59,7 +59,7 @@ unfolding run runState
 run-is [] d m f = refl
 run-is (o ∷ os) d m f =
     let a = acts d m o f in
-    rw (a .answer) (ap (λ (l : List Answer). answerState (setup d) (stateOf d m) o ∷ l)
+    rw (a .answer) (ap (λ (l : List DecoderAnswer). answerState (setup d) (stateOf d m) o ∷ l)
     (run-is os (act d m o .decoder) (act d m o .memory) (a .fit) ∙ rw (a .setup′, a .view′)))
 
 -- where they lead

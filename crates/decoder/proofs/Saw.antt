@@ -9,7 +9,7 @@ use borrow.Author.Tests.{leb-true, eq-eqb, le-leb}
 use Rattle.frame.specs.Frame.{missing, escSeq, restartSeq}
 use Rattle.frame.proofs.Cases.{by-test, by-eq, by-le, by-lt}
 use Rattle.decoder.specs.Push.{Setup, Mem, State, search, body, escape, done, searching, store, same, matchedBehind, early, sound?, computed, padOf, crcRead, judge, finish, step}
-use Rattle.decoder.specs.Saw.{Passed, Judged, is-data, restarts, good, bad, shifts, unknown, Saw, sought, began, again, waits, opens, stores, full, reads, judges, full′}
+use Rattle.decoder.specs.Saw.{Passed, Judged, is-data, restarts, good, bad, shifts, unknown, Saw, sought, began, again, waits, opens, stores, full, collects, judges, full′}
 
 -- two lists that `same` finds equal are equal, and the other way round
 pub same-true : (a b : List ℕ) → same a b ≡ true → a ≡ b
@@ -40,9 +40,9 @@ passed m p read =
 pub passes : (m : Mem) (p read : ℕ) → Passed m p read → sound? m p read ≡ true
 passes m p read h = rw (eq-eqb _ _ (h .0), eq-eqb _ _ (h .1), le-leb _ _ (h .2), le-leb _ _ (h .3))
 
-finished : (m : Mem) (four : List ℕ) → getD four 0 0 ≡ 0x1a → Judged m four (finish m (padOf four) (crcRead four))
+saw-finished : (m : Mem) (four : List ℕ) → getD four 0 0 ≡ 0x1a → Judged m four (finish m (padOf four) (crcRead four))
 unfolding finish
-finished m four e =
+saw-finished m four e =
     by-test (Judged m four) (sound? m (padOf four) (crcRead four)) _ _
     (λ t. good e (passed m _ _ t)) (λ f. bad e (λ h. false≢true (sym f ∙ passes m _ _ h)))
 
@@ -56,7 +56,7 @@ unfolding judge
 judged m four =
     by-test (Judged m four) (same four escSeq) _ _ (λ t. is-data (same-true four escSeq t)) (λ f₁.
     by-test (Judged m four) (same four restartSeq) _ _ (λ t. restarts (same-true four restartSeq t)) (λ f₂.
-    by-eq (Judged m four) (getD four 0 0) 0x1a _ _ (λ e. finished m four e) (λ f₃.
+    by-eq (Judged m four) (getD four 0 0) 0x1a _ _ (λ e. saw-finished m four e) (λ f₃.
     by-test (Judged m four) (early (missing (length (m .stored))) four) _ _
     (λ t. let e = early-is (missing (length (m .stored))) four t in shifts (missing (length (m .stored))) refl (e .0) (omega arith) (e .1))
     (λ f₄. unknown (same-false four escSeq f₁) (same-false four restartSeq f₂) f₃ f₄))))
@@ -74,4 +74,4 @@ saw C (body n m) b =
     by-eq (Saw C (body n m) b) b 0x1b _ _ (λ e. by-eq (Saw C (body n m) b) n 3 _ _ (opens e) (waits e))
     (λ ne. by-le (Saw C (body n m) b) _ (C .capacity) _ _ (stores ne) (full ne))
 saw C (escape k m) b =
-    by-le (Saw C (escape k m) b) _ (C .capacity) _ _ (λ fit. by-lt (Saw C (escape k m) b) k 3 _ _ (reads fit) (λ ge. judges fit ge (judged _ _))) full′
+    by-le (Saw C (escape k m) b) _ (C .capacity) _ _ (λ fit. by-lt (Saw C (escape k m) b) k 3 _ _ (collects fit) (λ ge. judges fit ge (judged _ _))) full′

@@ -15,7 +15,7 @@ use Rattle.frame.specs.Frame.{missing, escSeq, restartSeq}
 use Rattle.frame.proofs.Cases.{either}
 use Rattle.decoder.specs.Push as P
 use Rattle.decoder.specs.Push.{Setup, Mem, State, body, escape, done, silent, discarded, badEscape, says, put, searching, store, judge, finish, begun, fresh, early, same, sound?, computed, padOf, crcRead, step}
-use Rattle.decoder.specs.Record.{after, answerOf, numbered, setup, memOf, stateAs, stateOf, waiting, recordWith, recounted, recordOf, wrote, written, badDecoder, wrongBuffer, pushed, pushRecord, Answer, payload}
+use Rattle.decoder.specs.Record.{after, answerOf, numbered, setup, memOf, stateAs, stateOf, waiting, recordWith, recounted, recordOf, wrote, written, badDecoder, wrongBuffer, pushed, pushRecord, DecoderAnswer, payload}
 use Rattle.decoder.specs.Cut.{codeEvent, code, Cut, cut, toldCut, storedOn, freshWith, storeStep, normalStep, escapeAt, waitStep, four, judgedAt, sound, verdict, computedCrc, endStep, otherStep, judgeStep, escapeStep, stepCut}
 use Rattle.decoder.specs.declared.DecodeState.{DecodeState}
 use Rattle.decoder.specs.declared.DecodeState.the-variants.{LookingForMessageStart, ParsingNormal, ParsingEscChars, ParsingEscPayload, Done}
@@ -212,17 +212,17 @@ told-event P.memory bytes h = refl
 told-event (P.badEscape a b c d) bytes h = refl
 told-event (P.badMessage read c mis p) bytes h = refl
 
-held : (C : Setup) (s : State) (m l : List ℕ) → s ≡ done l → HeldIn s m → take (recordOf C s .fill) m ≡ l
+held-tied : (C : Setup) (s : State) (m l : List ℕ) → s ≡ done l → HeldIn s m → take (recordOf C s .fill) m ≡ l
 unfolding HeldIn
-held C s m l e h =
+held-tied C s m l e h =
     let k : HeldIn (done l) m = rw e at h in
     rw e k
 
 told-coded : (C : Setup) (m : List ℕ) (s : State) (b : ℕ) → HeldIn s m
     → toldCut (coded C m s b) ≡ after (numbered ((step C s b) .event)) (recordOf C ((step C s b) .state)) (written m (length (contents s)) (wrote C s b))
 told-coded C m s b h =
-    ap (λ (a : Answer). after a (recordOf C ((step C s b) .state)) (written m (length (contents s)) (wrote C s b)))
-    (told-event ((step C s b) .event) _ (λ l e. held C ((step C s b) .state) _ l (got-done C s b l e) (kept-first C s b m h)))
+    ap (λ (a : DecoderAnswer). after a (recordOf C ((step C s b) .state)) (written m (length (contents s)) (wrote C s b)))
+    (told-event ((step C s b) .event) _ (λ l e. held-tied C ((step C s b) .state) _ l (got-done C s b l e) (kept-first C s b m h)))
 
 -- the law
 pub tied : (d : Decoder) (m : List ℕ) (b : ℕ) → Fit d m → toldCut (stepCut (d .state) d m b) ≡ pushRecord d m b

@@ -10,7 +10,7 @@ use lib.Dec.{eqb, ltb}
 use borrow.Author.Tests.{ltb-false, eqb-true, eqb-false, le-ltb, ne-eqb}
 use Rattle.decoder.specs.Push.{Setup, Mem, State, search, body, escape, done, Out, fresh, step, put}
 use Rattle.decoder.specs.Record.{setup, stateAs, stateOf, recordOf, badIn, badDecoder, wrongBuffer}
-use Rattle.decoder.specs.Saw.{Judged, is-data, restarts, good, bad, shifts, unknown, Saw, sought, began, again, waits, opens, stores, full, reads, judges, full′}
+use Rattle.decoder.specs.Saw.{Judged, is-data, restarts, good, bad, shifts, unknown, Saw, sought, began, again, waits, opens, stores, full, collects, judges, full′}
 use Rattle.decoder.specs.declared.DecodeState.{DecodeState}
 use Rattle.decoder.specs.declared.DecodeState.the-variants.{LookingForMessageStart, ParsingNormal, ParsingEscChars, ParsingEscPayload, Done}
 use Rattle.decoder.specs.declared.Decoder.{Decoder}
@@ -40,7 +40,7 @@ valid-saw C s b o v (waits e ne) = omega arith
 valid-saw C s b o v (opens e f) = omega arith
 valid-saw C s b o v (stores ne fit) = simp length-append (omega (arith, simp length-append at fit))
 valid-saw C s b o v (full ne h) = omega arith
-valid-saw C s b o v (reads fit lt) = simp length-append (omega arith)
+valid-saw C s b o v (collects fit lt) = simp length-append (omega arith)
 valid-saw C s b o v (judges {m = m} fit ge j) =
     valid-judged C (put m (b ∷ [])) _ o (simp length-append (omega arith)) (simp length-append (omega arith)) (omega arith) j
 valid-saw C s b o v (full′ h) = omega arith

@@ -5,7 +5,7 @@ use Prim.Native.Nat.{ℕ}
 use native.Mathlib.Omega.{arith}
 use lib.ListN.{replicate, getD}
 use Rattle.decoder.specs.Push.{sized, search, escape, done, searching, step, finalized}
-use Rattle.decoder.specs.Record.{Answer, nothing, payload, count, refusal, After, Left, afterPush, afterFinalize, answerAsked, wrote, badDecoder, wrongBuffer, newRecord, recordOf, pushed, pushRecord, finalizeRecord, hasPayload, askRecord}
+use Rattle.decoder.specs.Record.{DecoderAnswer, nothing, payload, count, refusal, After, Left, afterPush, afterFinalize, answerAsked, wrote, badDecoder, wrongBuffer, newRecord, recordOf, pushed, pushRecord, finalizeRecord, hasPayload, askRecord}
 use Rattle.decoder.specs.declared.DecodeState.{DecodeState}
 use Rattle.decoder.specs.declared.DecodeState.the-variants.{LookingForMessageStart, ParsingNormal, ParsingEscChars, ParsingEscPayload, Done}
 use Rattle.decoder.specs.declared.Decoder.{Decoder}
@@ -13,17 +13,17 @@ use Rattle.decoder.specs.declared.Event.{Event}
 use Rattle.decoder.specs.declared.Event.the-variants.{DiscardedBytes}
 
 -- the number of a refusal, and its first value
-numberOf : Answer → ℕ
+numberOf : DecoderAnswer → ℕ
 numberOf nothing = 0
 numberOf (payload bytes) = 0
 numberOf (count n) = 0
 numberOf (refusal k values) = k
 
-valueOf : Answer → ℕ
-valueOf nothing = 0
-valueOf (payload bytes) = 0
-valueOf (count n) = n
-valueOf (refusal k values) = getD values 0 0
+firstValue : DecoderAnswer → ℕ
+firstValue nothing = 0
+firstValue (payload bytes) = 0
+firstValue (count n) = n
+firstValue (refusal k values) = getD values 0 0
 
 noiseOf : DecodeState → ℕ
 noiseOf (LookingForMessageStart n noise) = noise
@@ -52,8 +52,8 @@ fresh-with-noise h = let n : _≡_ {A = ℕ} 1 0 = ap (λ (d : Decoder). noiseOf
 
 -- a byte of noise and a matched one, then finalize: 2, and no other number
 finalize-wrong-count : (k : ℕ) (d : Decoder) → (k ≡ 2 → ⊥) → afterFinalize (record { decoder = d; event = DiscardedBytes k }) ≡ finalizeRecord (recordOf (sized 8) (search 1 1 2)) → ⊥
-unfolding finalizeRecord badDecoder finalized valueOf
-finalize-wrong-count k d other h = other (ap (λ (l : Left). valueOf (l .answer)) h)
+unfolding finalizeRecord badDecoder finalized firstValue
+finalize-wrong-count k d other h = other (ap (λ (l : Left). firstValue (l .answer)) h)
 
 -- 1b is matched, and 00 follows: both are noise
 noise-without-matched : (e : Event) (m : List ℕ) → afterPush (record { decoder = recordOf (sized 8) (search 0 1 2); event = e }) m ≡ pushRecord (recordOf (sized 8) (search 1 0 1)) (replicate 8 0) 0x00 → ⊥

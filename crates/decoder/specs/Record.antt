@@ -21,18 +21,18 @@ use Rattle.decoder.specs.declared.Asked.the-variants.{Good, BadSpan}
 
 -- ---- answers, with document 01's numbers and values
 
-pub data Answer : Type 0 where
-  nothing : Answer
-  payload : List ℕ → Answer  -- the payload's bytes
-  count : ℕ → Answer  -- what reset gives
-  refusal : ℕ → List ℕ → Answer  -- document 01's number, and the values
+pub data DecoderAnswer : Type 0 where
+  nothing : DecoderAnswer
+  payload : List ℕ → DecoderAnswer  -- the payload's bytes
+  count : ℕ → DecoderAnswer  -- what reset gives
+  refusal : ℕ → List ℕ → DecoderAnswer  -- document 01's number, and the values
 
 -- misaligned 1, aligned 0
 abbrev pub flag : Bool → ℕ
 flag true = 1
 flag false = 0
 
-abbrev pub numbered : P.PushEvent → Answer
+abbrev pub numbered : P.PushEvent → DecoderAnswer
 numbered P.silent = nothing
 numbered (P.paysOut bytes) = payload bytes
 numbered P.memory = refusal decoderOutOfMemoryNo []
@@ -41,7 +41,7 @@ numbered (P.badEscape a b c d) = refusal invalidEscNo (a ∷ b ∷ c ∷ d ∷ [
 numbered (P.badMessage read computed misaligned p) = refusal invalidMessageNo (read ∷ computed ∷ flag misaligned ∷ p ∷ [])
 
 -- the code's event; `bytes` are those of a payload
-abbrev pub answerOf : Event → List ℕ → Answer
+abbrev pub answerOf : Event → List ℕ → DecoderAnswer
 answerOf Nothing bytes = nothing
 answerOf Payload bytes = payload bytes
 answerOf OutOfMemory bytes = refusal decoderOutOfMemoryNo []
@@ -53,11 +53,11 @@ answerOf (InvalidMessage read computed misaligned p) bytes = refusal invalidMess
 
 -- an answer, with the record and the lent memory as they are then
 pub record After : Type 0 where
-  pub answer : Answer
+  pub answer : DecoderAnswer
   pub decoder : Decoder
   pub memory : List ℕ
 
-abbrev pub after : Answer → Decoder → List ℕ → After
+abbrev pub after : DecoderAnswer → Decoder → List ℕ → After
 after a d m = record { answer = a; decoder = d; memory = m }
 
 -- what a push gave; a payload is the first bytes of the lent memory m
@@ -66,10 +66,10 @@ afterPush r m = after (answerOf (r .event) (take (r .decoder .fill) m)) (r .deco
 
 -- an answer, with the record as it is then
 pub record Left : Type 0 where
-  pub answer : Answer
+  pub answer : DecoderAnswer
   pub decoder : Decoder
 
-abbrev pub left : Answer → Decoder → Left
+abbrev pub left : DecoderAnswer → Decoder → Left
 left a d = record { answer = a; decoder = d }
 
 abbrev pub afterFinalize : Finalized → Left
@@ -78,7 +78,7 @@ afterFinalize r = left (answerOf (r .event) []) (r .decoder)
 abbrev pub afterReset : AfterReset → Left
 afterReset r = left (count (r .count)) (r .decoder)
 
-abbrev pub answerAsked : Asked → Answer
+abbrev pub answerAsked : Asked → DecoderAnswer
 answerAsked Good = nothing
 answerAsked BadSpan = refusal badSpanNo []
 
@@ -191,5 +191,5 @@ unfoldable pub payloadRecord : Decoder → List ℕ → List ℕ
 payloadRecord d m = cond (hasPayload d m) (take (d .fill) m) []
 
 -- the question behind an empty part: 16 if no payload stands there
-unfoldable pub askRecord : Decoder → List ℕ → Answer
+unfoldable pub askRecord : Decoder → List ℕ → DecoderAnswer
 askRecord d m = cond (hasPayload d m) nothing (refusal badSpanNo [])

@@ -1,7 +1,7 @@
 -- claim: a decoder in use. Pushes, finalize and reset one after another, by the definitions that the functions' contracts cite, and what they answer.
 use mathlib.Core.List.{List, [], _∷_}
 use Prim.Native.Nat.{ℕ}
-use Rattle.decoder.specs.Record.{Answer, After, after, pushRecord, finalizeRecord, resetRecord}
+use Rattle.decoder.specs.Record.{DecoderAnswer, After, after, pushRecord, finalizeRecord, resetRecord}
 use Rattle.decoder.specs.declared.Decoder.{Decoder}
 
 pub data Op : Type 0 where
@@ -15,7 +15,7 @@ act d m finalize = after (finalizeRecord d .answer) (finalizeRecord d .decoder) 
 act d m reset = after (resetRecord d .answer) (resetRecord d .decoder) m
 
 -- an answer for each operation
-unfoldable pub run : Decoder → List ℕ → List Op → List Answer
+unfoldable pub run : Decoder → List ℕ → List Op → List DecoderAnswer
 run d m [] = []
 run d m (o ∷ os) =
     let a : After = act d m o in

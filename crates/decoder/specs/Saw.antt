@@ -34,7 +34,7 @@ pub data Saw (C : Setup) : State → ℕ → Out → Type 0 where
       → Saw C (body n m) b (says (body 0 (put m (replicate n 0x1b ++ b ∷ []))) silent)
   full : {n b : ℕ} {m : Mem} → (b ≡ 0x1b → ⊥) → C .capacity < length (m .stored) + length (replicate n 0x1b ++ b ∷ [])
       → Saw C (body n m) b (says fresh memory)
-  reads : {k b : ℕ} {m : Mem} → length (m .stored) + 1 ≤ C .capacity → k < 3 → Saw C (escape k m) b (says (escape (suc k) (put m (b ∷ []))) silent)
+  collects : {k b : ℕ} {m : Mem} → length (m .stored) + 1 ≤ C .capacity → k < 3 → Saw C (escape k m) b (says (escape (suc k) (put m (b ∷ []))) silent)
   judges : {k b : ℕ} {m : Mem} {o : Out} → length (m .stored) + 1 ≤ C .capacity → 3 ≤ k
       → Judged (put m (b ∷ [])) (drop (length (m .stored ++ b ∷ []) - 4) (m .stored ++ b ∷ [])) o → Saw C (escape k m) b o
   full′ : {k b : ℕ} {m : Mem} → C .capacity < length (m .stored) + 1 → Saw C (escape k m) b (says fresh memory)

@@ -88,7 +88,7 @@ impl Decoder {
     pub fn new(capacity: usize) -> Decoder
         ensures { λ r. ⌜ r ≡ newRecord (sized capacity) ⌝ }
     {
-        fresh(Setup { capacity: capacity })
+        new_record(Setup { capacity: capacity })
     }
 }
 
@@ -123,7 +123,7 @@ fn made(
 }
 
 // A search that has seen nothing.
-fn fresh(c: Setup) -> Decoder
+fn new_record(c: Setup) -> Decoder
     ensures { λ r. ⌜ r ≡ newRecord c ⌝ }
 {
     made(
@@ -167,7 +167,7 @@ fn more_noise(noise: u32, n: u8, k: u8) -> u32
 }
 
 // No event.
-fn quietly(d: Decoder) -> Pushed
+fn quiet(d: Decoder) -> Pushed
     ensures { λ r. ⌜ r ≡ quiet d ⌝ }
 {
     Pushed {
@@ -181,7 +181,7 @@ fn fresh_with(c: Setup, e: Event) -> Pushed
     ensures { λ r. ⌜ r ≡ freshWith c e ⌝ }
 {
     Pushed {
-        decoder: fresh(c),
+        decoder: new_record(c),
         event: e,
     }
 }
@@ -257,14 +257,14 @@ fn looking_for_message_start(d: Decoder, noise: u32, n: u8, b: u8) -> Pushed
     if k == 8 {
         let begun = begun_frame(setup_of(d));
         if noise == 0 {
-            return quietly(begun);
+            return quiet(begun);
         }
         return Pushed {
             decoder: begun,
             event: Event::DiscardedBytes(noise),
         };
     }
-    quietly(looking(d, more_noise(noise, n, k), k))
+    quiet(looking(d, more_noise(noise, n, k), k))
 }
 
 // The arm ParsingNormal: a byte of the frame, or the first 1b of a run.
@@ -272,12 +272,12 @@ fn parsing_normal(d: Decoder, buf: &mut [u8], b: u8) -> Pushed
     ensures { λ r. ⌜ cut r (now (buf .exit)) ≡ normalStep d (now (buf .entry)) b ⌝ }
 {
     if b == Decoder::ESC {
-        return quietly(pushed_on(d, DecodeState::ParsingEscChars(1)));
+        return quiet(pushed_on(d, DecodeState::ParsingEscChars(1)));
     }
     let at = d.fill;
     if at < buf.len() {
         buf[at] = b;
-        return quietly(stored_on(d, 1, DecodeState::ParsingNormal));
+        return quiet(stored_on(d, 1, DecodeState::ParsingNormal));
     }
     fresh_with(setup_of(d), Event::OutOfMemory)
 }
@@ -304,7 +304,7 @@ fn put_run_and(buf: &mut [u8], at: usize, n: usize, b: u8)
 }
 
 // The fourth 1b: the CRC goes over what it hasn't, and over the four, which aren't stored.
-fn opened(d: Decoder, buf: &[u8]) -> Decoder
+fn escape_at(d: Decoder, buf: &[u8]) -> Decoder
     requires { ⌜ (d .fill ≤ length (now buf)) × (d .«crc_idx» ≤ d .fill) ⌝ }
     ensures { λ r. ⌜ r ≡ escapeAt d (now (buf .entry)) ⌝ }
 {
@@ -329,15 +329,15 @@ fn parsing_esc_chars(d: Decoder, buf: &mut [u8], n: u8, b: u8) -> Pushed
 {
     if b == Decoder::ESC {
         if n == 3 {
-            return quietly(opened(d, &buf[..]));
+            return quiet(escape_at(d, &buf[..]));
         }
-        return quietly(pushed_on(d, DecodeState::ParsingEscChars(n + 1)));
+        return quiet(pushed_on(d, DecodeState::ParsingEscChars(n + 1)));
     }
     let at = d.fill;
     let k = n as usize;
     if k < buf.len() - at {
         put_run_and(buf, at, k, b);
-        return quietly(stored_on(d, k + 1, DecodeState::ParsingNormal));
+        return quiet(stored_on(d, k + 1, DecodeState::ParsingNormal));
     }
     fresh_with(setup_of(d), Event::OutOfMemory)
 }
@@ -445,7 +445,7 @@ fn other_escape(d: Decoder, buf: &[u8]) -> Pushed
     let bytes_until_alignment = (4 - fill % 4) % 4;
     if is_cut_end(bytes_until_alignment, &buf[at..at + 4]) {
         let read = (4 - bytes_until_alignment) as u8;
-        return quietly(in_state(d, DecodeState::ParsingEscPayload(read)));
+        return quiet(in_state(d, DecodeState::ParsingEscPayload(read)));
     }
     fresh_with(
         setup_of(d),
@@ -454,13 +454,13 @@ fn other_escape(d: Decoder, buf: &[u8]) -> Pushed
 }
 
 // The four bytes behind an escape, the last of which has been stored.
-fn judge(d: Decoder, buf: &[u8]) -> Pushed
+fn judge_step(d: Decoder, buf: &[u8]) -> Pushed
     requires { ⌜ (4 ≤ d .fill) × (d .fill ≤ length (now buf)) × (d .«crc_idx» + 4 ≤ d .fill) × (8 ≤ d .«raw_msg_len») ⌝ }
     ensures { λ r. ⌜ r ≡ judgeStep d (now (buf .entry)) ⌝ }
 {
     let at = d.fill - Decoder::ESC_PAYLOAD_LEN;
     if same_bytes(&buf[at..at + 4], &frame::ESCAPE) {
-        return quietly(in_state(d, DecodeState::ParsingNormal));
+        return quiet(in_state(d, DecodeState::ParsingNormal));
     }
     if same_bytes(&buf[at..at + 4], &frame::RESTART) {
         let ignored_bytes = d.raw_msg_len - Decoder::START_LEN;
@@ -484,9 +484,9 @@ fn parsing_esc_payload(d: Decoder, buf: &mut [u8], n: u8, b: u8) -> Pushed
     if last < buf.len() {
         buf[last] = b;
         if n < 3 {
-            return quietly(stored_on(d, 1, DecodeState::ParsingEscPayload(n + 1)));
+            return quiet(stored_on(d, 1, DecodeState::ParsingEscPayload(n + 1)));
         }
-        return judge(stored_on(d, 1, DecodeState::ParsingEscPayload(3)), &buf[..]);
+        return judge_step(stored_on(d, 1, DecodeState::ParsingEscPayload(3)), &buf[..]);
     }
     fresh_with(setup_of(d), Event::OutOfMemory)
 }
@@ -611,7 +611,7 @@ pub fn push_any(d: Decoder, buf: &mut [u8], b: u8) -> Pushed
         DecodeState::ParsingNormal => parsing_normal(d, buf, b),
         DecodeState::ParsingEscChars(n) => parsing_esc_chars(d, buf, n, b),
         DecodeState::ParsingEscPayload(n) => parsing_esc_payload(d, buf, n, b),
-        DecodeState::Done => looking_for_message_start(fresh(setup_of(d)), 0, 0, b),
+        DecodeState::Done => looking_for_message_start(new_record(setup_of(d)), 0, 0, b),
     }
 }
 
@@ -662,7 +662,7 @@ impl Decoder {
         let s = self.state;
         if is_plain(self, buf.len(), b) {
             buf[at] = b;
-            return quietly(stored_on(self, 1, DecodeState::ParsingNormal));
+            return quiet(stored_on(self, 1, DecodeState::ParsingNormal));
         }
         let p = push_any(in_state(self, s), buf, b);
         let d = p.decoder;
@@ -684,7 +684,7 @@ impl Decoder {
                 event: Event::BadState,
             };
         }
-        let f = fresh(setup_of(self));
+        let f = new_record(setup_of(self));
         let s = self.state;
         if is_fresh(s) {
             return Finalized {
@@ -708,7 +708,7 @@ impl Decoder {
     pub fn reset(self) -> AfterReset
         ensures { λ r. ⌜ afterReset r ≡ resetRecord self ⌝ }
     {
-        let f = fresh(setup_of(self));
+        let f = new_record(setup_of(self));
         let s = self.state;
         if is_done(s) {
             return AfterReset {
@@ -726,7 +726,7 @@ impl Decoder {
     pub fn ask_payload(self, buf: &[u8]) -> Asked
         ensures { λ r. ⌜ answerAsked r ≡ askRecord self (now (buf .entry)) ⌝ }
     {
-        if has_payload(self, buf.len()) {
+        if payload_in(self, buf.len()) {
             return Asked::Good;
         }
         Asked::BadSpan
@@ -737,7 +737,7 @@ impl Decoder {
         ensures { λ r. ⌜ now r ≡ payloadRecord self (now (buf .entry)) ⌝ }
     {
         let at = self.fill;
-        if has_payload(self, buf.len()) {
+        if payload_in(self, buf.len()) {
             return &buf[..at];
         }
         &buf[..0]
@@ -745,7 +745,7 @@ impl Decoder {
 }
 
 // A payload stands in a buffer of this length.
-fn has_payload(d: Decoder, lent: usize) -> bool
+fn payload_in(d: Decoder, lent: usize) -> bool
     ensures { λ r. ⌜ r ≡ payloadIn d lent ⌝ }
 {
     if bad_decoder(d) {

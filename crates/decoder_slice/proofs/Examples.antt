@@ -6,35 +6,35 @@ use lib.ListN.{replicate}
 use Rattle.crc_x25.specs.Crc.{reflect, polynomial, bitStep, bitSteps, byteStep, register, finalXor}
 use Rattle.frame.specs.Frame.{startSeq, escSeq}
 use Rattle.decoder.specs.Push.{sized, searching, store, same, finish, judge, step}
-use Rattle.decoder.specs.Record.{Answer, nothing, payload, refusal, wrote, badDecoder, wrongBuffer, pushed, pushRecord, newRecord}
+use Rattle.decoder.specs.Record.{DecoderAnswer, nothing, payload, refusal, wrote, badDecoder, wrongBuffer, pushed, pushRecord, newRecord}
 use Rattle.decoder_slice.specs.Slice.{Took, pushesFrom, sliceRecord}
 
 pub record SliceRow : Type 0 where
   pub recorded : ℕ
   pub lent : ℕ
   pub bytes : List ℕ
-  pub answer : Answer
+  pub answer : DecoderAnswer
   pub taken : ℕ
 
-abbrev row : ℕ → ℕ → List ℕ → Answer → ℕ → SliceRow
-row C L bs a n = record { recorded = C; lent = L; bytes = bs; answer = a; taken = n }
+abbrev sliceRow : ℕ → ℕ → List ℕ → DecoderAnswer → ℕ → SliceRow
+sliceRow C L bs a n = record { recorded = C; lent = L; bytes = bs; answer = a; taken = n }
 
-abbrev b1 : List ℕ
-b1 = startSeq ++ 0x12 ∷ 0x34 ∷ 0x56 ∷ 0x78 ∷ escSeq ++ 0x1a ∷ 0x00 ∷ 0xb8 ∷ 0x7b ∷ []
+abbrev sampleFrame : List ℕ
+sampleFrame = startSeq ++ 0x12 ∷ 0x34 ∷ 0x56 ∷ 0x78 ∷ escSeq ++ 0x1a ∷ 0x00 ∷ 0xb8 ∷ 0x7b ∷ []
 
 abbrev pub sliceRows : List SliceRow
 sliceRows =
     -- a byte behind a frame isn't taken
-    row 8 8 (b1 ++ 0x55 ∷ []) (payload (0x12 ∷ 0x34 ∷ 0x56 ∷ 0x78 ∷ [])) 20
+    sliceRow 8 8 (sampleFrame ++ 0x55 ∷ []) (payload (0x12 ∷ 0x34 ∷ 0x56 ∷ 0x78 ∷ [])) 20
     -- no byte, and a buffer that isn't the recorded one
-    ∷ row 8 8 [] nothing 0
-    ∷ row 8 7 b1 (refusal 5 []) 0
-    ∷ row 8 7 [] (refusal 5 []) 0
+    ∷ sliceRow 8 8 [] nothing 0
+    ∷ sliceRow 8 7 sampleFrame (refusal 5 []) 0
+    ∷ sliceRow 8 7 [] (refusal 5 []) 0
     ∷ []
 
-abbrev said : Took → SliceRow → SliceRow
-said t r = row (r .recorded) (r .lent) (r .bytes) (t .answer) (t .taken)
+abbrev sliceSaid : Took → SliceRow → SliceRow
+sliceSaid t r = sliceRow (r .recorded) (r .lent) (r .bytes) (t .answer) (t .taken)
 
-pub slice-examples : map (λ (r : SliceRow). said (sliceRecord (newRecord (sized (r .recorded))) (replicate (r .lent) 0) (r .bytes)) r) sliceRows ≡ sliceRows
+pub slice-examples : map (λ (r : SliceRow). sliceSaid (sliceRecord (newRecord (sized (r .recorded))) (replicate (r .lent) 0) (r .bytes)) r) sliceRows ≡ sliceRows
 unfolding sliceRecord pushesFrom pushRecord pushed badDecoder wrongBuffer wrote step searching store same judge finish reflect polynomial bitStep bitSteps byteStep register finalXor
 slice-examples = refl

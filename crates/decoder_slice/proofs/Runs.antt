@@ -28,10 +28,10 @@ use Rattle.decoder.proofs.Valid.{right-buffer}
 use Rattle.decoder_slice.specs.Slice.{Took, took, saysNothing, pushesFrom}
 use Rattle.decoder_slice.specs.Stretch.{Goes}
 
-quietly : (u : ℕ) (d : Decoder) (m : List ℕ) (b : ℕ) (bs : List ℕ) (d′ : Decoder) (m′ : List ℕ) → pushRecord d m b ≡ after nothing d′ m′
+runs-quietly : (u : ℕ) (d : Decoder) (m : List ℕ) (b : ℕ) (bs : List ℕ) (d′ : Decoder) (m′ : List ℕ) → pushRecord d m b ≡ after nothing d′ m′
     → pushesFrom (u + 1) d′ m′ bs ≡ pushesFrom u d m (b ∷ bs)
 unfolding pushesFrom
-quietly u d m b bs d′ m′ e = rw (add-one u, e)
+runs-quietly u d m b bs d′ m′ e = rw (add-one u, e)
 
 loud : (u : ℕ) (d : Decoder) (m : List ℕ) (b : ℕ) (bs : List ℕ) (a : After) → pushRecord d m b ≡ a → saysNothing (a .answer) ≡ false
     → took (a .answer) (a .decoder) (u + 1) (a .memory) ≡ pushesFrom u d m (b ∷ bs)
@@ -48,7 +48,7 @@ at s i h = rw (add-one, drop-cons s i 0)
 
 quiet-next : (u : ℕ) (d : Decoder) (m s : List ℕ) (i : ℕ) (d′ : Decoder) (m′ : List ℕ) → i < length s → pushRecord d m (getD s i 0) ≡ after nothing d′ m′
     → pushesFrom (u + 1) d′ m′ (drop (i + 1) s) ≡ pushesFrom u d m (drop i s)
-quiet-next u d m s i d′ m′ h e = quietly u d m (getD s i 0) (drop (i + 1) s) d′ m′ e ∙ ap (pushesFrom u d m) (sym (at s i h))
+quiet-next u d m s i d′ m′ h e = runs-quietly u d m (getD s i 0) (drop (i + 1) s) d′ m′ e ∙ ap (pushesFrom u d m) (sym (at s i h))
 
 -- what an event says doesn't hang on a payload's bytes
 same-said : (e : Event) (bytes : List ℕ) → saysNothing (answerOf e []) ≡ saysNothing (answerOf e bytes)
@@ -93,11 +93,11 @@ at-first d s h =
     rw (add-zero, e)
 
 -- one byte more of a stretch, in states t and t′
-more : (d : Decoder) (j j′ k : ℕ) (t t′ : DecodeState) (m m′ s : List ℕ) (i : ℕ) → i + k < length s
+runs-more : (d : Decoder) (j j′ k : ℕ) (t t′ : DecodeState) (m m′ s : List ℕ) (i : ℕ) → i + k < length s
     → pushRecord (movedBy d j k t) m (getD s (i + k) 0)
     ≡ after nothing (pushedOn (movedBy d j′ k t) t′) m′
     → pushesFrom (i + (k + 1)) (movedBy d j′ (k + 1) t′) m′ (drop (i + (k + 1)) s) ≡ pushesFrom (i + k) (movedBy d j k t) m (drop (i + k) s)
-more d j j′ k t t′ m m′ s i hs p =
+runs-more d j j′ k t t′ m m′ s i hs p =
     let e : i + k + 1 ≡ i + (k + 1) = omega arith in
     let r : stopped (suc (stopped (d .«raw_msg_len» + k))) ≡ stopped (d .«raw_msg_len» + (k + 1)) = omega arith in
     rw (← e, ← r) (quiet-next (i + k) (movedBy d j k t) m s (i + k) _ _ hs p)
@@ -118,7 +118,7 @@ plain-next d m s i k ix raw l small h hs n =
     let b : ltb (stopped (d .«raw_msg_len» + k)) 8 ≡ false = le-ltb (stopped (d .«raw_msg_len» + k)) 8 (omega arith) in
     let p = sym (tied g m (getD s (i + k) 0) (fit g m (omega arith) (omega arith) l small b))
     ∙ plain-byte g (d .fill + k) m (getD s (i + k) 0) refl (omega arith) n in
-    more d k (k + 1) k ParsingNormal ParsingNormal m _ s i hs (rw (← f) p)
+    runs-more d k (k + 1) k ParsingNormal ParsingNormal m _ s i hs (rw (← f) p)
 
 pub first-goes : (d : Decoder) (t : DecodeState) (m s : List ℕ) (i : ℕ) → d .«raw_msg_len» ≤ 4294967295 → Goes (movedBy d 0 0 t) (i + 0) m i (inState d t) m s
 first-goes d t m s i h = rw (add-zero i) (ap (λ (x : Decoder). pushesFrom i x m (drop i s)) (at-first d t h))
@@ -149,7 +149,7 @@ search-next d noise n q q′ s i k f x ff small hs h g e ne =
       λ m l.
           ap (λ (v : ℕ). pushesFrom (i + (k + 1)) (movedBy d 0 (k + 1) (LookingForMessageStart q′ v)) m (drop (i + (k + 1)) s)) (ap stopped (sym all) ∙ sym grows)
           ∙ ap (λ (v : ℕ). pushesFrom (i + (k + 1)) (movedBy d 0 (k + 1) (LookingForMessageStart v (moreNoise y q v))) m (drop (i + (k + 1)) s)) e
-          ∙ more d 0 0 k (LookingForMessageStart q y) _ m m s i hs
+          ∙ runs-more d 0 0 k (LookingForMessageStart q y) _ m m s i hs
           (sym (tied now m b (fit now m (omega arith) (omega arith) l small bad)) ∙ search-byte now y q m b z x ff (λ w. ne (e ∙ w))),
     )
 
@@ -182,7 +182,7 @@ wait-next d q m s i k ix f raw l small hs h1 h3 e n =
     let g : Decoder = movedBy d 0 k (ParsingEscChars q) in
     let z : q ≡ 0 → ⊥ = λ w. omega arith in
     let b : badIn (d .fill + 0) (d .«crc_idx») (stopped (d .«raw_msg_len» + k)) (ParsingEscChars q) ≡ false = simp (le-ltb (stopped (d .«raw_msg_len» + k)) 8 (omega arith), ne-eqb q 0 z, le-ltb 3 q h3) in
-    more d 0 0 k (ParsingEscChars q) _ m m s i hs
+    runs-more d 0 0 k (ParsingEscChars q) _ m m s i hs
     (sym (tied g m (getD s (i + k) 0) (fit g m (omega arith) (omega arith) l small b)) ∙ wait-byte g q m (getD s (i + k) 0) e n)
 
 -- one of the first three behind an escape
@@ -203,7 +203,7 @@ judged-next d n m s i k ix raw l small h hs h3 =
     simp (le-ltb (stopped (d .«raw_msg_len» + k)) 8 (omega arith), le-ltb 3 (n + k) (omega arith), le-ltb (d .fill + k) (d .«crc_idx» + (n + k)) (omega arith)) in
     let p = sym (tied g m (getD s (i + k) 0) (fit g m (omega arith) (omega arith) l small b))
     ∙ judged-byte g (n + k) (d .fill + k) m (getD s (i + k) 0) refl (omega arith) h3 in
-    more d k (k + 1) k (ParsingEscPayload (n + k)) (ParsingEscPayload (n + (k + 1))) m _ s i hs (rw (← f, ← q) p)
+    runs-more d k (k + 1) k (ParsingEscPayload (n + k)) (ParsingEscPayload (n + (k + 1))) m _ s i hs (rw (← f, ← q) p)
 
 pub same-state : (d : Decoder) (s : DecodeState) → d .state ≡ s → inState d s ≡ d
 same-state d s e = ap (inState d) (sym e)

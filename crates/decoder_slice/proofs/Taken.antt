@@ -7,7 +7,7 @@ use native.Mathlib.Omega.{arith}
 use native.Mathlib.Nat.{sub-zero}
 use lib.ListN.{length, drop}
 use Rattle.decoder.specs.declared.Decoder.{Decoder}
-use Rattle.decoder.specs.Record.{Answer, nothing, payload, count, refusal, After, after, pushRecord, badDecoder, wrongBuffer}
+use Rattle.decoder.specs.Record.{DecoderAnswer, nothing, payload, count, refusal, After, after, pushRecord, badDecoder, wrongBuffer}
 use Rattle.decoder.proofs.Split.{cases}
 use Rattle.decoder_slice.specs.Slice.{Took, took, saysNothing, pushesFrom, sliceRecord}
 
@@ -67,14 +67,14 @@ none-taken d m (c ∷ cs) h z b =
 
 -- ---- the rest goes on from there
 
-is-nothing : (a : Answer) → saysNothing a ≡ true → a ≡ nothing
+is-nothing : (a : DecoderAnswer) → saysNothing a ≡ true → a ≡ nothing
 is-nothing nothing e = refl
 is-nothing (payload bytes) e = cc
 is-nothing (count n) e = cc
 is-nothing (refusal n v) e = cc
 
 -- F takes all bytes, G those behind a push and what it answered; a push that says nothing is one of F's
-module _ {X : Type 0} (F : Decoder → List ℕ → List ℕ → X) (G : Answer → Decoder → List ℕ → List ℕ → X)
+module _ {X : Type 0} (F : Decoder → List ℕ → List ℕ → X) (G : DecoderAnswer → Decoder → List ℕ → List ℕ → X)
     (one : (d : Decoder) (m : List ℕ) (b : ℕ) (bs : List ℕ) → G (pushRecord d m b .answer) (pushRecord d m b .decoder) (pushRecord d m b .memory) bs ≡ F d m (b ∷ bs))
     (none : (d : Decoder) (m bs : List ℕ) → G nothing d m bs ≡ F d m bs) where
   abbrev behind : Took → List ℕ → X
@@ -92,7 +92,7 @@ module _ {X : Type 0} (F : Decoder → List ℕ → List ℕ → X) (G : Answer 
       let z : suc n - n ≡ 1 = omega arith in
       cases (saysNothing (a .answer))
       (λ e. rw (e, k) (goes-from bs (suc n) (a .decoder) (a .memory) ∙ sym (none (a .decoder) (a .memory) bs)
-      ∙ ap (λ (x : Answer). G x (a .decoder) (a .memory) bs) (sym (is-nothing (a .answer) e)) ∙ one d m b bs))
+      ∙ ap (λ (x : DecoderAnswer). G x (a .decoder) (a .memory) bs) (sym (is-nothing (a .answer) e)) ∙ one d m b bs))
       (λ e. rw (e, z) (one d m b bs))
 
   pub goes-on : (d : Decoder) (m bs : List ℕ) → (sliceRecord d m bs .taken ≡ 0 → ⊥) → behind (sliceRecord d m bs) (drop (sliceRecord d m bs .taken) bs) ≡ F d m bs

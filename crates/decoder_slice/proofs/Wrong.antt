@@ -5,13 +5,13 @@ use Prim.Native.Nat.{ℕ}
 use native.Mathlib.Omega.{arith}
 use lib.ListN.{replicate}
 use Rattle.decoder.specs.Push.{sized}
-use Rattle.decoder.specs.Record.{Answer, nothing, payload, count, refusal, badDecoder, wrongBuffer, newRecord}
+use Rattle.decoder.specs.Record.{DecoderAnswer, nothing, payload, count, refusal, badDecoder, wrongBuffer, newRecord}
 use Rattle.decoder.specs.declared.Decoder.{Decoder}
 use Rattle.decoder.specs.declared.Event.the-variants.{BadState}
 use Rattle.decoder_slice.specs.Slice.{Took, afterSlice, sliceRecord}
 
 -- the number of a refusal
-numberOf : Answer → ℕ
+numberOf : DecoderAnswer → ℕ
 numberOf nothing = 0
 numberOf (payload bytes) = 0
 numberOf (count n) = 0

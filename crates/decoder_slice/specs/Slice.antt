@@ -4,25 +4,25 @@ use mathlib.Core.List.{List, [], _∷_}
 use Prim.Native.Nat.{ℕ, suc}
 use lib.ListN.{length, take}
 use Rattle.refusals.specs.Numbers.{badStateNo, wrongBufferNo}
-use Rattle.decoder.specs.Record.{Answer, nothing, payload, count, refusal, answerOf, After, pushRecord, badDecoder, wrongBuffer}
+use Rattle.decoder.specs.Record.{DecoderAnswer, nothing, payload, count, refusal, answerOf, After, pushRecord, badDecoder, wrongBuffer}
 use Rattle.decoder.specs.declared.Decoder.{Decoder}
 use Rattle.decoder_slice.specs.declared.Sliced.{Sliced}
 
 -- an answer and how many bytes were taken, with the record and the lent memory as they are then
 pub record Took : Type 0 where
-  pub answer : Answer
+  pub answer : DecoderAnswer
   pub decoder : Decoder
   pub taken : ℕ
   pub memory : List ℕ
 
-abbrev pub took : Answer → Decoder → ℕ → List ℕ → Took
+abbrev pub took : DecoderAnswer → Decoder → ℕ → List ℕ → Took
 took a d n m = record { answer = a; decoder = d; taken = n; memory = m }
 
 -- what a push of a slice gave; a payload is the first bytes of the lent memory m
 abbrev pub afterSlice : Sliced → List ℕ → Took
 afterSlice r m = took (answerOf (r .event) (take (r .decoder .fill) m)) (r .decoder) (r .taken) m
 
-abbrev pub saysNothing : Answer → Bool
+abbrev pub saysNothing : DecoderAnswer → Bool
 saysNothing nothing = true
 saysNothing (payload bytes) = false
 saysNothing (count n) = false

@@ -50,7 +50,7 @@ coming (End n) place reg P = endFrom n (missing place) reg
 data Gives (P : List ℕ) (l : List ℕ) : Step → Type 0 where
   gives : (b : ℕ) (s : EncoderState) (place reg : ℕ) → l ≡ b ∷ coming s place reg P → badCount s ≡ false → place ≤ length P
       → Gives P l (stepTo (byte b) (encoderAt s place reg))
-  gave : (s : EncoderState) (place reg : ℕ) → l ≡ [] → coming s place reg P ≡ [] → badCount s ≡ false → place ≤ length P
+  gaveAll : (s : EncoderState) (place reg : ℕ) → l ≡ [] → coming s place reg P ≡ [] → badCount s ≡ false → place ≤ length P
       → Gives P l (stepTo finished (encoderAt s place reg))
 
 gives-end : (P : List ℕ) (n : ℤ) (place reg : ℕ) → lastEnd n ≡ false → badEnd n ≡ false → place ≤ length P → Gives P (endFrom n (missing place) reg) (ended n place reg)
@@ -96,9 +96,9 @@ gives-byte P n place reg b le d h =
     (rw (lt-ltb (suc n) 4 (omega arith)) (comes-plain n (suc n) place reg 0x1b P (rw e at d) (escaped-wait n (drop (suc place) P) ne))) (le-ltb 4 (suc n) (omega arith)) h)))
     (λ ne. rw (ne-eqb b 0x1b ne) (gives b (LookingForEscape 0) (suc place) (byteStep reg b) (comes-plain n 0 place reg b P d (escaped-other n b (drop (suc place) P) ne)) refl h))
 
-not-bad : (n : ℕ) → n ≤ 3 → badEnd (negℤ (pos n)) ≡ false
-not-bad zero h = refl
-not-bad (suc n) h = le-ltb 2 n (omega arith)
+not-bad-encoder : (n : ℕ) → n ≤ 3 → badEnd (negℤ (pos n)) ≡ false
+not-bad-encoder zero h = refl
+not-bad-encoder (suc n) h = le-ltb 2 n (omega arith)
 
 gives-looked : (P : List ℕ) (n place reg : ℕ) → n ≤ 3 → place ≤ length P → Gives P (comes n place reg P) (looked n place reg P)
 unfolding looked
@@ -107,7 +107,7 @@ gives-looked P n place reg le h =
     (λ lt. gives-byte P n place reg (getD P place 0) le (drop-cons P place 0 lt) lt)
     (λ ge.
     subst (λ (l : List ℕ). Gives P l (ended (negℤ (pos (missing place))) place (register reg (endOf (missing place))))) (sym (comes-done n place reg P (omega arith)))
-    (gives-end P (negℤ (pos (missing place))) place (register reg (endOf (missing place))) (not-last (missing place)) (not-bad (missing place) (omega arith)) h))
+    (gives-end P (negℤ (pos (missing place))) place (register reg (endOf (missing place))) (not-last (missing place)) (not-bad-encoder (missing place) (omega arith)) h))
 
 gives-step : (P : List ℕ) (s : EncoderState) (place reg : ℕ) → badCount s ≡ false → place ≤ length P → Gives P (coming s place reg P) (stepFrom s place reg P)
 unfolding stepFrom coming tailOf endFrom
@@ -125,7 +125,7 @@ gives-step P (HandlingEscape n) place reg b h =
     (λ ge. (let e : n ≡ 4 = omega (arith, ltb-false 4 n b) in rw e (gives-looked P 0 place reg (omega arith) h)))
 gives-step P (End n) place reg b h =
     by-test (Gives P (endFrom n (missing place) reg)) (lastEnd n) _ _
-    (λ t. (let e = given-all n t in gave (End n) place reg e e b h))
+    (λ t. (let e = given-all n t in gaveAll (End n) place reg e e b h))
     (λ f. gives-end P n place reg f b h)
   where
     given-all : (n : ℤ) → lastEnd n ≡ true → endFrom n (missing place) reg ≡ []
@@ -152,11 +152,11 @@ module _ (P : List ℕ) (lim : length P ≤ limit) where
       let f : b ≡ b′ = cc in
       let k : coming s place reg P ≡ l = cc in
       rw f (ap (λ (q : List NextAnswer). byte b′ ∷ q) (ih s place reg k g h))
-  call more b l x ih (gave s place reg e k g h) = let z : _≡_ {A = ℕ} 0 1 = cc in absurd (omega arith)
+  call more b l x ih (gaveAll s place reg e k g h) = let z : _≡_ {A = ℕ} 0 1 = cc in absurd (omega arith)
 
   over : (more : ℕ) (x : Step) → All more [] → Gives P [] x → x .answer ∷ calls (0 + more) (x .encoder) P ≡ finished ∷ replicate more finished
   over more x ih (gives b s place reg e g h) = let z : _≡_ {A = ℕ} 0 1 = cc in absurd (omega arith)
-  over more x ih (gave s place reg e k g h) = ap (λ (q : List NextAnswer). finished ∷ q) (ih s place reg k g h)
+  over more x ih (gaveAll s place reg e k g h) = ap (λ (q : List NextAnswer). finished ∷ q) (ih s place reg k g h)
 
   calls-suc : (n : ℕ) (e : Encoder) → calls (suc n) e P ≡ nextStep e P .answer ∷ calls n (nextStep e P .encoder) P
   unfolding calls

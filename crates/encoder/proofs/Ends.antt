@@ -38,8 +38,8 @@ module _ (n : ℤ) (f : SFits w8 n) (e : lastEnd n ≡ false) where
   pub next-fits : SFits w8 (toZ w8 (ofZ w8 n) +ℤ pos 1)
   next-fits = rw is-suc (suc-fits n f e)
 
-  pub next-is : toZ w8 (ofZ w8 (toZ w8 (ofZ w8 n) +ℤ pos 1)) ≡ sucℤ n
-  next-is = ap (λ (z : ℤ). toZ w8 (ofZ w8 z)) is-suc ∙ toZ-ofZ w8 (sucℤ n) (suc-fits n f e)
+  pub end-next-is : toZ w8 (ofZ w8 (toZ w8 (ofZ w8 n) +ℤ pos 1)) ≡ sucℤ n
+  end-next-is = ap (λ (z : ℤ). toZ w8 (ofZ w8 z)) is-suc ∙ toZ-ofZ w8 (sucℤ n) (suc-fits n f e)
 
 pub first-fits : (pad : ℕ) → pad ≤ 3 → SFits w8 (pos 0 -ℤ toZ w8 pad)
 first-fits zero h = record { sfits = omega arith }
@@ -56,19 +56,19 @@ first-is (suc (suc (suc zero))) h = refl
 first-is (suc (suc (suc (suc n)))) h = absurd (omega arith)
 
 module _ (n : ℤ) (f : SFits w8 n) where
-  pub read-back : toZ w8 (ofZ w8 n) ≡ n
-  read-back = toZ-ofZ w8 n f
+  pub end-read-back : toZ w8 (ofZ w8 n) ≡ n
+  end-read-back = toZ-ofZ w8 n f
 
   -- an End count that is not negative is a place
   pub index-is : ltZ n (pos 0) ≡ false → n ≡ pos (natAbs (toZ w8 (ofZ w8 n)))
-  index-is e = index n e ∙ ap (λ (z : ℤ). pos (natAbs z)) (sym read-back)
+  index-is e = index n e ∙ ap (λ (z : ℤ). pos (natAbs z)) (sym end-read-back)
     where
       index : (n : ℤ) → ltZ n (pos 0) ≡ false → n ≡ pos (natAbs n)
       index (pos n) e = refl
       index (negsuc n) e = let z : _≡_ {A = ℕ} 0 1 = cc in absurd (omega arith)
 
   pub index-fits : ltZ n (pos 0) ≡ false → T (nonNeg (toZ w8 (ofZ w8 n))) × Fits w8 (natAbs (toZ w8 (ofZ w8 n)))
-  index-fits e = rw read-back (fits n f e)
+  index-fits e = rw end-read-back (fits n f e)
     where
       fits : (n : ℤ) → SFits w8 n → ltZ n (pos 0) ≡ false → T (nonNeg n) × Fits w8 (natAbs n)
       fits (pos n) f e = (tt, record { fits = omega (arith, f .sfits) })

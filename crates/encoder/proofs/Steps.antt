@@ -55,9 +55,9 @@ module _ (place reg : ℕ) (p : List ℕ) where
   unfolding stepFrom
   behind-start s n q h = rw (q, le-ltb n 8 h)
 
-  pub looking : (s : EncoderState) (n : ℕ) → s ≡ LookingForEscape n → n < 4 → looked n place reg p ≡ stepFrom s place reg p
+  pub step-looks : (s : EncoderState) (n : ℕ) → s ≡ LookingForEscape n → n < 4 → looked n place reg p ≡ stepFrom s place reg p
   unfolding stepFrom
-  looking s n q h = rw (q, lt-ltb n 4 h)
+  step-looks s n q h = rw (q, lt-ltb n 4 h)
 
   pub fourth : (s : EncoderState) (n x : ℕ) → s ≡ LookingForEscape n → 4 ≤ n → x ≡ register reg escSeq → stepTo (byte 0x1b) (encoderAt (HandlingEscape 1) place x) ≡ stepFrom s place reg p
   unfolding stepFrom

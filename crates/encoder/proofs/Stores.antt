@@ -65,14 +65,14 @@ plain-more m m₀ p o k n i h ne w =
     (one-more m (o + k) b (escaped 0 (drop (i + k + 1) p)) ∙ ap (sets m (o + k)) (sym t) ∙ w .0, omega (arith, l, w .1))
 
 -- a byte with what follows it
-opened : (n : ℕ) (p : List ℕ) (i : ℕ) → i < length p → escaped n (drop i p) ≡ (getD p i 0 ∷ fourMore n (getD p i 0)) ++ escaped (runWith n (getD p i 0)) (drop (i + 1) p)
-opened n p i h = ap (escaped n) (at p i h) ∙ escaped-cons n (getD p i 0) (drop (i + 1) p)
+escaped-on : (n : ℕ) (p : List ℕ) (i : ℕ) → i < length p → escaped n (drop i p) ≡ (getD p i 0 ∷ fourMore n (getD p i 0)) ++ escaped (runWith n (getD p i 0)) (drop (i + 1) p)
+escaped-on n p i h = ap (escaped n) (at p i h) ∙ escaped-cons n (getD p i 0) (drop (i + 1) p)
 
 pub byte-room : (p : List ℕ) (o n i N : ℕ) → i < length p → o + length (escaped n (drop i p)) ≤ N → o + length (getD p i 0 ∷ fourMore n (getD p i 0)) ≤ N
 byte-room p o n i N h w =
     let b = getD p i 0 in
     let rest = escaped (runWith n b) (drop (i + 1) p) in
-    let l : length (escaped n (drop i p)) ≡ length (b ∷ fourMore n b) + length rest = ap length (opened n p i h) ∙ length-append (b ∷ fourMore n b) rest in
+    let l : length (escaped n (drop i p)) ≡ length (b ∷ fourMore n b) + length rest = ap length (escaped-on n p i h) ∙ length-append (b ∷ fourMore n b) rest in
     omega (arith, l)
 
 pub byte-more : (m m₀ p : List ℕ) (o n i o₀ n₀ i₀ : ℕ) → i < length p → Writes m o n i m₀ o₀ n₀ i₀ p
@@ -80,7 +80,7 @@ pub byte-more : (m m₀ p : List ℕ) (o n i o₀ n₀ i₀ : ℕ) → i < lengt
 byte-more m m₀ p o n i o₀ n₀ i₀ h w =
     let b = getD p i 0 in
     let rest = escaped (runWith n b) (drop (i + 1) p) in
-    let t : escaped n (drop i p) ≡ (b ∷ fourMore n b) ++ rest = opened n p i h in
+    let t : escaped n (drop i p) ≡ (b ∷ fourMore n b) ++ rest = escaped-on n p i h in
     let l : length (escaped n (drop i p)) ≡ length (b ∷ fourMore n b) + length rest = ap length t ∙ length-append (b ∷ fourMore n b) rest in
     (sym (sets-append m o (b ∷ fourMore n b) rest) ∙ ap (sets m o) (sym t) ∙ w .0, omega (arith, l, w .1))
 
@@ -174,7 +174,7 @@ pub counted-more : (p : List ℕ) (len n i k n′ : ℕ) → i < length p → k 
 counted-more p len n i k n′ h e f =
     let b = getD p i 0 in
     let rest = escaped (runWith n b) (drop (i + 1) p) in
-    let l : length (escaped n (drop i p)) ≡ length (b ∷ fourMore n b) + length rest = ap length (opened n p i h) ∙ length-append (b ∷ fourMore n b) rest in
+    let l : length (escaped n (drop i p)) ≡ length (b ∷ fourMore n b) + length rest = ap length (escaped-on n p i h) ∙ length-append (b ∷ fourMore n b) rest in
     rw f (omega (arith, l, e))
 
 pub counted-room : (p : List ℕ) (len n i k : ℕ) → i < length p → k ≡ length (getD p i 0 ∷ fourMore n (getD p i 0)) → len + k ≤ len + length (escaped n (drop i p))

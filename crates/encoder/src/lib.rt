@@ -193,7 +193,7 @@ fn bad_count(state: EncoderState) -> bool
 }
 
 // The next byte. Behind the start, and behind an escape, the payload's next one comes in the same call.
-fn step(state: EncoderState, place: usize, crc: u16, payload: &[u8]) -> Given
+fn next_from_state(state: EncoderState, place: usize, crc: u16, payload: &[u8]) -> Given
     ensures { λ r. ⌜ stepOf r ≡ stepFrom state place crc (now (payload .entry)) ⌝ }
 {
     let run = match state {
@@ -264,7 +264,7 @@ impl Encoder {
             return answered(Item::BadState, self);
         }
         let state = self.state;
-        step(state, self.place, self.crc, payload)
+        next_from_state(state, self.place, self.crc, payload)
     }
 }
 

@@ -14,11 +14,11 @@ use Rattle.refusals.proofs.Read.{Ok, ok-at}
 use Rattle.refusals.proofs.Found.{Found}
 use Rattle.common.specs.Fields.{ListEntry, entryAt}
 use Rattle.common.proofs.Fields.{EntryWithin, entry-found}
-use Rattle.message.specs.Messages.{ListStart, ListEnd, Body, opened, closed, listed, MessageStart, startAt, listEndAt}
+use Rattle.message.specs.Messages.{ListStart, ListEnd, Body, openBody, closeBody, listBody, MessageStart, startAt, listEndAt}
 use Rattle.message.proofs.Messages.{ListStartWithin, BodyWithin, StartWithin, start-found, list-end-found}
 use Rattle.trailer.specs.Trailer.{trailerAt}
 use Rattle.trailer.proofs.Trailer.{trailer-found}
-use Rattle.streaming.specs.Next.{MessageEvent, starts, entry, ends, Said, event, noEvent, failed, alone, ReaderAfter, onward, pendingOf, beginAt, trailerNext, endNext, entryNext, stepAt, nextAt}
+use Rattle.streaming.specs.Next.{MessageEvent, startEvent, entryEvent, endEvent, Said, event, noEvent, failed, alone, ReaderAfter, onward, pendingOf, beginAt, trailerNext, endNext, entryNext, stepAt, nextAt}
 use Rattle.events.specs.Events.{Answers, nth, answer, saysFirst, noMore, atStart, inside, entriesFrom, contentFrom, messagesFrom, eventsOf}
 use Rattle.events.specs.Calls.{call}
 use Rattle.common.proofs.Ends.{entry-end}
@@ -39,12 +39,12 @@ sound-next s at start pending h =
     rw (le-ltb limit (length s) (h .short), le-leb at (length s) (h .inside-input), le-leb start at (h .begun), le-leb pending 4294967297 (h .few))
 
 -- every call answers as `a` says
-pub record Gives (s : List ℕ) (at start pending : ℕ) (a : Answers) : Type 0 where
+pub record CallGives (s : List ℕ) (at start pending : ℕ) (a : Answers) : Type 0 where
   pub gives : (k : ℕ) → call k s at start pending ≡ answer a k
 
 gives-event : {s : List ℕ} {at start pending : ℕ} (e : MessageEvent Span) (place start′ pending′ : ℕ) (a : Answers)
     → nextAt s at start pending ≡ record { said = event e; place = place; start = start′; pending = pending′ }
-    → Gives s place start′ pending′ a → Gives s at start pending (saysFirst e a)
+    → CallGives s place start′ pending′ a → CallGives s at start pending (saysFirst e a)
 unfolding call answer nth saysFirst
 gives-event {s} {at} {start} {pending} e place start′ pending′ a h g = record { gives = by }
   where
@@ -54,7 +54,7 @@ gives-event {s} {at} {start} {pending} e place start′ pending′ a h g = recor
 
 -- the same answer for ever
 gives-ever : {s : List ℕ} {at start pending : ℕ} (x : Said) → nextAt s at start pending ≡ record { said = x; place = at; start = start; pending = pending }
-    → Gives s at start pending (record { first = []; later = x })
+    → CallGives s at start pending (record { first = []; later = x })
 unfolding call answer nth
 gives-ever {s} {at} {start} {pending} x h = record { gives = by }
   where
@@ -66,11 +66,11 @@ gives-ever {s} {at} {start} {pending} x h = record { gives = by }
 gives-then : {s : List ℕ} {at start pending : ℕ} (x y : Said) (place start′ pending′ : ℕ)
     → nextAt s at start pending ≡ record { said = x; place = place; start = start′; pending = pending′ }
     → nextAt s place start′ pending′ ≡ record { said = y; place = place; start = start′; pending = pending′ }
-    → Gives s at start pending (record { first = x ∷ []; later = y })
+    → CallGives s at start pending (record { first = x ∷ []; later = y })
 unfolding call answer nth
 gives-then {s} {at} {start} {pending} x y place start′ pending′ h g = record { gives = by }
   where
-    ever : Gives s place start′ pending′ (record { first = []; later = y })
+    ever : CallGives s place start′ pending′ (record { first = []; later = y })
     ever = gives-ever y g
 
     by : (k : ℕ) → call k s at start pending ≡ answer (record { first = x ∷ []; later = y }) k
@@ -79,7 +79,7 @@ gives-then {s} {at} {start} {pending} x y place start′ pending′ h g = record
 
 -- two readers that answer alike go on alike
 gives-same : {s : List ℕ} {at start pending place start′ pending′ : ℕ} {a : Answers} → nextAt s at start pending ≡ nextAt s place start′ pending′
-    → Gives s place start′ pending′ a → Gives s at start pending a
+    → CallGives s place start′ pending′ a → CallGives s at start pending a
 unfolding call
 gives-same {s} {at} {start} {pending} {place} {start′} {pending′} {a} h g = record { gives = by }
   where
@@ -105,8 +105,8 @@ begin-ever s at start h p = rw (sound-next s at start 0 h, le-leb (length s) at 
 inside-gives : {A : Type 0} {P : A → Type 0} {s : List ℕ} {at start pending : ℕ} (r : Read A) (k : A → ℕ → ReaderAfter) (a : A → ℕ → Answers) → Ok (Found P s at) r
     → SoundReader s at start pending → 1 ≤ pending
     → nextAt s at start pending ≡ onward (length s) start pending r k
-    → ((x : A) (n : ℕ) → P x → at < n → n ≤ length s → nextAt s at start pending ≡ k x n → Gives s at start pending (a x n))
-    → Gives s at start pending (inside (length s) r a)
+    → ((x : A) (n : ℕ) → P x → at < n → n ≤ length s → nextAt s at start pending ≡ k x n → CallGives s at start pending (a x n))
+    → CallGives s at start pending (inside (length s) r a)
 unfolding onward inside
 inside-gives (got x n) k a o h p e f = let w = o .holds in let v = w .1 in f x n (w .0) (v .ahead) (v .within) e
 inside-gives {s = s} {at = at} {start = start} {pending = pending} (refused x) k a o h p e f =
@@ -116,26 +116,26 @@ inside-gives {s = s} {at = at} {start = start} {pending = pending} (refused x) k
     (end-ever s start pending (record { short = h .short; inside-input = omega arith; begun = omega arith; few = h .few }) p)
 
 entries-give : (n : ℕ) {s : List ℕ} {at start : ℕ} (k : ℕ → Answers) → SoundReader s at start (suc (suc n))
-    → ((m : ℕ) → at ≤ m → m ≤ length s → Gives s m start (suc (suc zero)) (k m)) → Gives s at start (suc (suc n)) (entriesFrom n s at k)
+    → ((m : ℕ) → at ≤ m → m ≤ length s → CallGives s m start (suc (suc zero)) (k m)) → CallGives s at start (suc (suc n)) (entriesFrom n s at k)
 unfolding entriesFrom stepAt entryNext
 entries-give zero {s} {at} {start} k h g = g at (omega arith) (h .inside-input)
 entries-give (suc n) {s} {at} {start} k h g =
     inside-gives (entryAt s at) _ _ (entry-found s at) h (omega arith) (sound-next s at start (suc (suc (suc n))) h)
     (λ e m w p q x. let b = h .begun in let f = h .few in
-    gives-event (entry e) m start (suc (suc n)) _ x
+    gives-event (entryEvent e) m start (suc (suc n)) _ x
     (entries-give n k (record { short = h .short; inside-input = q; begun = omega arith; few = omega arith }) (λ i j l. g i (omega arith) l)))
 
 list-end-gives : {s : List ℕ} {at start : ℕ} (k : ℕ → Answers) → SoundReader s at start (suc (suc zero))
-    → ((m : ℕ) → at ≤ m → m ≤ length s → Gives s m start (suc zero) (k m))
-    → Gives s at start (suc (suc zero)) (inside (length s) (listEndAt s at) λ e m. saysFirst (ends e) (k m))
+    → ((m : ℕ) → at ≤ m → m ≤ length s → CallGives s m start (suc zero) (k m))
+    → CallGives s at start (suc (suc zero)) (inside (length s) (listEndAt s at) λ e m. saysFirst (endEvent e) (k m))
 unfolding stepAt endNext
 list-end-gives {s} {at} {start} k h g =
     inside-gives (listEndAt s at) _ _ (list-end-found s at) h (omega arith) (sound-next s at start (suc (suc zero)) h)
-    (λ e m w p q x. gives-event (ends e) m start (suc zero) _ x (g m (omega arith) q))
+    (λ e m w p q x. gives-event (endEvent e) m start (suc zero) _ x (g m (omega arith) q))
 
 trailer-gives : {s : List ℕ} {at start : ℕ} (k : ℕ → Answers) → SoundReader s at start (suc zero)
-    → ((m : ℕ) → at < m → m ≤ length s → Gives s m start zero (k m))
-    → Gives s at start (suc zero) (inside (length s) (trailerAt s start at) λ trailer m. k m)
+    → ((m : ℕ) → at < m → m ≤ length s → CallGives s m start zero (k m))
+    → CallGives s at start (suc zero) (inside (length s) (trailerAt s start at) λ trailer m. k m)
 unfolding stepAt trailerNext
 trailer-gives {s} {at} {start} k h g =
     inside-gives (trailerAt s start at) _ _ (trailer-found s start at) h (omega arith) (sound-next s at start (suc zero) h)
@@ -143,11 +143,11 @@ trailer-gives {s} {at} {start} k h g =
     gives-same (x ∙ sym (sound-next s m start zero (record { short = h .short; inside-input = q; begun = omega arith; few = omega arith }))) (g m p q))
 
 content-gives : (b : Body Span) {s : List ℕ} {at start : ℕ} (k : ℕ → Answers) → length s ≤ limit → at ≤ length s → start ≤ at → BodyWithin s b
-    → ((m : ℕ) → at ≤ m → m ≤ length s → Gives s m start (suc zero) (k m)) → Gives s at start (pendingOf b) (contentFrom b s at k)
+    → ((m : ℕ) → at ≤ m → m ≤ length s → CallGives s m start (suc zero) (k m)) → CallGives s at start (pendingOf b) (contentFrom b s at k)
 unfolding contentFrom
-content-gives (opened b) k l p q w g = g _ (omega arith) p
-content-gives (closed b) k l p q w g = g _ (omega arith) p
-content-gives (listed b) {s} {at} {start} k l p q w g =
+content-gives (openBody b) k l p q w g = g _ (omega arith) p
+content-gives (closeBody b) k l p q w g = g _ (omega arith) p
+content-gives (listBody b) {s} {at} {start} k l p q w g =
     let c = w .count in
     let e : b .count + 2 ≡ suc (suc (b .count)) = omega arith in
     rw e
@@ -155,22 +155,22 @@ content-gives (listed b) {s} {at} {start} k l p q w g =
     (λ m i j. list-end-gives _ (record { short = l; inside-input = j; begun = omega arith; few = omega arith }) (λ m′ i′ j′. g m′ (omega arith) j′)))
 
 start-gives : {s : List ℕ} {at start : ℕ} (r : Read (MessageStart Span)) (a : MessageStart Span → ℕ → Answers) → Ok (Found (StartWithin s) s at) r → SoundReader s at start 0
-    → nextAt s at start 0 ≡ (onward (length s) at 0 r λ m n. record { said = event (starts m); place = n; start = at; pending = pendingOf (m .body) })
-    → ((m : MessageStart Span) (n : ℕ) → StartWithin s m → at < n → n ≤ length s → Gives s n at (pendingOf (m .body)) (a m n))
-    → Gives s at start 0 (atStart r λ m n. saysFirst (starts m) (a m n))
+    → nextAt s at start 0 ≡ (onward (length s) at 0 r λ m n. record { said = event (startEvent m); place = n; start = at; pending = pendingOf (m .body) })
+    → ((m : MessageStart Span) (n : ℕ) → StartWithin s m → at < n → n ≤ length s → CallGives s n at (pendingOf (m .body)) (a m n))
+    → CallGives s at start 0 (atStart r λ m n. saysFirst (startEvent m) (a m n))
 unfolding onward atStart
-start-gives (got m n) a o h e f = let w = o .holds in let v = w .1 in gives-event (starts m) n _ _ (a m n) e (f m n (w .0) (v .ahead) (v .within))
+start-gives (got m n) a o h e f = let w = o .holds in let v = w .1 in gives-event (startEvent m) n _ _ (a m n) e (f m n (w .0) (v .ahead) (v .within))
 start-gives {s} {at} {start} (refused x) a o h e f =
     gives-then (failed x) noEvent (length s) at 0 e
     (begin-ever s (length s) at (record { short = h .short; inside-input = omega arith; begun = h .inside-input; few = omega arith }) (omega arith))
 
-pub messages-give : (many : ℕ) {s : List ℕ} (at start : ℕ) → SoundReader s at start 0 → length s - at < many → Gives s at start 0 (messagesFrom many s at)
+pub messages-give : (many : ℕ) {s : List ℕ} (at start : ℕ) → SoundReader s at start 0 → length s - at < many → CallGives s at start 0 (messagesFrom many s at)
 unfolding messagesFrom stepAt beginAt
 messages-give zero at start h m = absurd (omega arith)
 messages-give (suc many) {s} at start h m = by (leb (length s) at) refl (λ n₃ g l. messages-give many n₃ at g l)
   where
-    by : (t : Bool) → leb (length s) at ≡ t → ((n : ℕ) → SoundReader s n at 0 → length s - n < many → Gives s n at 0 (messagesFrom many s n))
-        → Gives s at start 0 (messagesFrom (suc many) s at)
+    by : (t : Bool) → leb (length s) at ≡ t → ((n : ℕ) → SoundReader s n at 0 → length s - n < many → CallGives s n at 0 (messagesFrom many s n))
+        → CallGives s at start 0 (messagesFrom (suc many) s at)
     by true e next = rw e (gives-ever noEvent (begin-ever s at start h (leb-true (length s) at e)))
     by false e next =
         rw e
@@ -188,7 +188,7 @@ calls-are-events s k = by (ltb limit (length s)) refl
     by : (t : Bool) → ltb limit (length s) ≡ t → call k s 0 0 0 ≡ answer (eventsOf s) k
     by true e = rw e (too-long e .gives k)
       where
-        too-long : ltb limit (length s) ≡ true → Gives s 0 0 0 (record { first = []; later = alone inputTooLongNo })
+        too-long : ltb limit (length s) ≡ true → CallGives s 0 0 0 (record { first = []; later = alone inputTooLongNo })
         too-long i = gives-ever (alone inputTooLongNo) (rw i)
     by false e =
         rw e (messages-give (suc (length s)) {s = s} 0 0 (record { short = ltb-false limit (length s) e; inside-input = omega arith; begun = omega arith; few = omega arith }) (omega arith) .gives k)

@@ -9,7 +9,7 @@ use Rattle.refusals.specs.declared.Span.{Span}
 use Rattle.refusals.proofs.Rest.{Rest, Gets, Reads, Is, Made, gets-then, gets-is, gets-got}
 use Rattle.numbers.specs.Numbers.{unsignedAt}
 use Rattle.common.specs.Fields.{OpenResponse, CloseResponse, ListEntry}
-use Rattle.message.specs.Messages.{ListStart, ListEnd, Body, opened, closed, listed, MessageStart, startAt, listEndAt}
+use Rattle.message.specs.Messages.{ListStart, ListEnd, Body, openBody, closeBody, listBody, MessageStart, startAt, listEndAt}
 use Rattle.message.proofs.Gets.{ListStartHas}
 use Rattle.trailer.specs.Trailer.{messageEndAt, swapped, trailerAt}
 use Rattle.trailer.proofs.Gets.{trailer-reads}
@@ -20,11 +20,11 @@ pub record ContentHas (P : List ℕ → List (ListEntry Span) → Type 0) (Q : L
   pub end : Q s (x .end)
 
 -- behind the start of an open or a close response nothing stands before the trailer
-pub open-rest-reads : (b : OpenResponse Span) → Reads (contentOf (opened b)) (ContentHas (Is []) (Is none)) []
+pub open-rest-reads : (b : OpenResponse Span) → Reads (contentOf (openBody b)) (ContentHas (Is []) (Is none)) []
 unfolding contentOf
 open-rest-reads b = record { reads = λ l h. gets-got (record { entries = refl; end = refl }) h }
 
-pub close-rest-reads : (b : CloseResponse Span) → Reads (contentOf (closed b)) (ContentHas (Is []) (Is none)) []
+pub close-rest-reads : (b : CloseResponse Span) → Reads (contentOf (closeBody b)) (ContentHas (Is []) (Is none)) []
 unfolding contentOf
 close-rest-reads b = record { reads = λ l h. gets-got (record { entries = refl; end = refl }) h }
 
@@ -32,7 +32,7 @@ close-rest-reads b = record { reads = λ l h. gets-got (record { entries = refl;
 pub list-rest-reads : {P : List ℕ → List (ListEntry Span) → Type 0} {Q : List ℕ → ListEnd Span → Type 0} (b : ListStart Span) {b₁ b₂ : List ℕ}
     → Reads (entriesAt (b .count)) P b₁
     → Reads listEndAt Q b₂
-    → Reads (contentOf (listed b)) (ContentHas P (Made some Q)) (b₁ ++ b₂)
+    → Reads (contentOf (listBody b)) (ContentHas P (Made some Q)) (b₁ ++ b₂)
 unfolding contentOf
 list-rest-reads b r₁ r₂ =
     record {
@@ -43,15 +43,15 @@ list-rest-reads b r₁ r₂ =
     }
 
 -- the same, by what the start says of its body
-pub open-body-rest : {P : List ℕ → OpenResponse Span → Type 0} {s : List ℕ} {x : Body Span} → Made opened P s x → Reads (contentOf x) (ContentHas (Is []) (Is none)) []
+pub open-body-rest : {P : List ℕ → OpenResponse Span → Type 0} {s : List ℕ} {x : Body Span} → Made openBody P s x → Reads (contentOf x) (ContentHas (Is []) (Is none)) []
 open-body-rest m = rw (m .is) (open-rest-reads (m .of))
 
-pub close-body-rest : {P : List ℕ → CloseResponse Span → Type 0} {s : List ℕ} {x : Body Span} → Made closed P s x → Reads (contentOf x) (ContentHas (Is []) (Is none)) []
+pub close-body-rest : {P : List ℕ → CloseResponse Span → Type 0} {s : List ℕ} {x : Body Span} → Made closeBody P s x → Reads (contentOf x) (ContentHas (Is []) (Is none)) []
 close-body-rest m = rw (m .is) (close-rest-reads (m .of))
 
 pub list-body-rest : {P₁ : List ℕ → Option Span → Type 0} {P₂ : List ℕ → Span → Type 0} {P₃ : List ℕ → Option Span → Type 0} {P₄ : List ℕ → Option ℕ → Type 0} {n : ℕ}
     {P : List ℕ → List (ListEntry Span) → Type 0} {Q : List ℕ → ListEnd Span → Type 0} {s : List ℕ} {x : Body Span} {b₁ b₂ : List ℕ}
-    → Made listed (ListStartHas P₁ P₂ P₃ P₄ n) s x
+    → Made listBody (ListStartHas P₁ P₂ P₃ P₄ n) s x
     → Reads (entriesAt n) P b₁
     → Reads listEndAt Q b₂
     → Reads (contentOf x) (ContentHas P (Made some Q)) (b₁ ++ b₂)

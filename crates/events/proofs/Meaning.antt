@@ -11,8 +11,8 @@ use Rattle.octet_string.specs.Strings.{partOf}
 use Rattle.octet_string.proofs.Gets.{Part}
 use Rattle.value.specs.Values.{Status, Value, truth, bytes, signed, unsigned, listTime}
 use Rattle.common.specs.Fields.{OpenResponse, CloseResponse, ListEntry}
-use Rattle.message.specs.Messages.{ListStart, ListEnd, Body, opened, closed, listed, MessageStart}
-use Rattle.streaming.specs.Next.{MessageEvent, starts, entry, ends}
+use Rattle.message.specs.Messages.{ListStart, ListEnd, Body, openBody, closeBody, listBody, MessageStart}
+use Rattle.streaming.specs.Next.{MessageEvent, startEvent, entryEvent, endEvent}
 use Rattle.events.specs.Meaning.{each, statusMeans, valueMeans, entryMeans, openMeans, closeMeans, listStartMeans, listEndMeans, bodyMeans, startMeans, meaning}
 
 -- any width will do
@@ -84,40 +84,40 @@ entry-alike s t x y e =
       signature = ap (λ (a : ListEntry (List ℕ)). a .signature) e;
     }
 
-entry-one : (s t : List ℕ) (x y : ListEntry Span) → EntryAlike s t x y → entryMeans s x ≡ entryMeans t y
-entry-one s t x y h =
+same-entry : (s t : List ℕ) (x y : ListEntry Span) → EntryAlike s t x y → entryMeans s x ≡ entryMeans t y
+same-entry s t x y h =
     let st : each statusMeans (x .status) ≡ each statusMeans (y .status) = sym (status-wide (x .status)) ∙ ap (each (λ (n : ℕ). record { width = 8; number = n })) (h .status) ∙ status-wide (y .status) in
     rw (h .name, st, h .time, h .unit, h .scaler, value-means s t (x .value) (y .value) (h .value), h .signature)
 
 -- two bodies alike: of one kind, with the same fields
 abbrev pub BodyAlike : List ℕ → List ℕ → Body Span → Body Span → Type 0
-BodyAlike s t (opened a) y = Made opened (λ u b. openMeans u b ≡ openMeans s a) t y
-BodyAlike s t (closed a) y = Made closed (λ u b. closeMeans u b ≡ closeMeans s a) t y
-BodyAlike s t (listed a) y = Made listed (λ u b. listStartMeans u b ≡ listStartMeans s a) t y
+BodyAlike s t (openBody a) y = Made openBody (λ u b. openMeans u b ≡ openMeans s a) t y
+BodyAlike s t (closeBody a) y = Made closeBody (λ u b. closeMeans u b ≡ closeMeans s a) t y
+BodyAlike s t (listBody a) y = Made listBody (λ u b. listStartMeans u b ≡ listStartMeans s a) t y
 
 -- the bodies of an input that have a meaning
 abbrev BodySays : List ℕ → Body (List ℕ) → Body Span → Type 0
-BodySays t (opened m) y = Made opened (λ u b. openMeans u b ≡ m) t y
-BodySays t (closed m) y = Made closed (λ u b. closeMeans u b ≡ m) t y
-BodySays t (listed m) y = Made listed (λ u b. listStartMeans u b ≡ m) t y
+BodySays t (openBody m) y = Made openBody (λ u b. openMeans u b ≡ m) t y
+BodySays t (closeBody m) y = Made closeBody (λ u b. closeMeans u b ≡ m) t y
+BodySays t (listBody m) y = Made listBody (λ u b. listStartMeans u b ≡ m) t y
 
 body-own : (t : List ℕ) (y : Body Span) → BodySays t (bodyMeans t y) y
-body-own t (opened b) = record { of = b; is = refl; has = refl }
-body-own t (closed b) = record { of = b; is = refl; has = refl }
-body-own t (listed b) = record { of = b; is = refl; has = refl }
+body-own t (openBody b) = record { of = b; is = refl; has = refl }
+body-own t (closeBody b) = record { of = b; is = refl; has = refl }
+body-own t (listBody b) = record { of = b; is = refl; has = refl }
 
 body-says : (s t : List ℕ) (x y : Body Span) → BodySays t (bodyMeans s x) y → BodyAlike s t x y
-body-says s t (opened a) y h = h
-body-says s t (closed a) y h = h
-body-says s t (listed a) y h = h
+body-says s t (openBody a) y h = h
+body-says s t (closeBody a) y h = h
+body-says s t (listBody a) y h = h
 
 body-alike : (s t : List ℕ) (x y : Body Span) → bodyMeans s x ≡ bodyMeans t y → BodyAlike s t x y
 body-alike s t x y e = body-says s t x y (rw e (body-own t y))
 
-body-one : (s t : List ℕ) (x y : Body Span) → BodyAlike s t x y → bodyMeans s x ≡ bodyMeans t y
-body-one s t (opened a) y h = ap opened (sym (h .has)) ∙ ap (bodyMeans t) (sym (h .is))
-body-one s t (closed a) y h = ap closed (sym (h .has)) ∙ ap (bodyMeans t) (sym (h .is))
-body-one s t (listed a) y h = ap listed (sym (h .has)) ∙ ap (bodyMeans t) (sym (h .is))
+same-body : (s t : List ℕ) (x y : Body Span) → BodyAlike s t x y → bodyMeans s x ≡ bodyMeans t y
+same-body s t (openBody a) y h = ap openBody (sym (h .has)) ∙ ap (bodyMeans t) (sym (h .is))
+same-body s t (closeBody a) y h = ap closeBody (sym (h .has)) ∙ ap (bodyMeans t) (sym (h .is))
+same-body s t (listBody a) y h = ap listBody (sym (h .has)) ∙ ap (bodyMeans t) (sym (h .is))
 
 pub record StartAlike (s t : List ℕ) (x y : MessageStart Span) : Type 0 where
   pub transactionId : partOf s (x .transactionId) ≡ partOf t (y .transactionId)
@@ -134,8 +134,8 @@ start-alike s t x y e =
       body = body-alike s t (x .body) (y .body) (ap (λ (a : MessageStart (List ℕ)). a .body) e);
     }
 
-start-one : (s t : List ℕ) (x y : MessageStart Span) → StartAlike s t x y → startMeans s x ≡ startMeans t y
-start-one s t x y h = rw (h .transactionId, h .groupNo, h .abortOnError, body-one s t (x .body) (y .body) (h .body))
+same-start : (s t : List ℕ) (x y : MessageStart Span) → StartAlike s t x y → startMeans s x ≡ startMeans t y
+same-start s t x y h = rw (h .transactionId, h .groupNo, h .abortOnError, same-body s t (x .body) (y .body) (h .body))
 
 pub record EndAlike (s t : List ℕ) (x y : ListEnd Span) : Type 0 where
   pub signature : each (partOf s) (x .signature) ≡ each (partOf t) (y .signature)
@@ -149,27 +149,27 @@ end-one s t x y h = rw (h .signature, h .time)
 
 -- two events alike: of one kind, and alike field by field
 abbrev pub EventAlike : List ℕ → List ℕ → MessageEvent Span → MessageEvent Span → Type 0
-EventAlike s t (starts a) y = Made starts (λ u b. StartAlike s u a b) t y
-EventAlike s t (entry a) y = Made entry (λ u b. EntryAlike s u a b) t y
-EventAlike s t (ends a) y = Made ends (λ u b. EndAlike s u a b) t y
+EventAlike s t (startEvent a) y = Made startEvent (λ u b. StartAlike s u a b) t y
+EventAlike s t (entryEvent a) y = Made entryEvent (λ u b. EntryAlike s u a b) t y
+EventAlike s t (endEvent a) y = Made endEvent (λ u b. EndAlike s u a b) t y
 
 -- the events of an input that have a meaning
-abbrev EventSays : List ℕ → MessageEvent (List ℕ) → MessageEvent Span → Type 0
-EventSays t (starts m) y = Made starts (λ u a. startMeans u a ≡ m) t y
-EventSays t (entry m) y = Made entry (λ u a. entryMeans u a ≡ m) t y
-EventSays t (ends m) y = Made ends (λ u a. listEndMeans u a ≡ m) t y
+abbrev EventMade : List ℕ → MessageEvent (List ℕ) → MessageEvent Span → Type 0
+EventMade t (startEvent m) y = Made startEvent (λ u a. startMeans u a ≡ m) t y
+EventMade t (entryEvent m) y = Made entryEvent (λ u a. entryMeans u a ≡ m) t y
+EventMade t (endEvent m) y = Made endEvent (λ u a. listEndMeans u a ≡ m) t y
 
-event-own : (t : List ℕ) (y : MessageEvent Span) → EventSays t (meaning t y) y
+event-own : (t : List ℕ) (y : MessageEvent Span) → EventMade t (meaning t y) y
 unfolding meaning
-event-own t (starts a) = record { of = a; is = refl; has = refl }
-event-own t (entry a) = record { of = a; is = refl; has = refl }
-event-own t (ends a) = record { of = a; is = refl; has = refl }
+event-own t (startEvent a) = record { of = a; is = refl; has = refl }
+event-own t (entryEvent a) = record { of = a; is = refl; has = refl }
+event-own t (endEvent a) = record { of = a; is = refl; has = refl }
 
-event-says : (s t : List ℕ) (x y : MessageEvent Span) → EventSays t (meaning s x) y → EventAlike s t x y
+event-says : (s t : List ℕ) (x y : MessageEvent Span) → EventMade t (meaning s x) y → EventAlike s t x y
 unfolding meaning
-event-says s t (starts a) y h = record { of = h .of; is = h .is; has = start-alike s t a (h .of) (sym (h .has)) }
-event-says s t (entry a) y h = record { of = h .of; is = h .is; has = entry-alike s t a (h .of) (sym (h .has)) }
-event-says s t (ends a) y h = record { of = h .of; is = h .is; has = end-alike s t a (h .of) (sym (h .has)) }
+event-says s t (startEvent a) y h = record { of = h .of; is = h .is; has = start-alike s t a (h .of) (sym (h .has)) }
+event-says s t (entryEvent a) y h = record { of = h .of; is = h .is; has = entry-alike s t a (h .of) (sym (h .has)) }
+event-says s t (endEvent a) y h = record { of = h .of; is = h .is; has = end-alike s t a (h .of) (sym (h .has)) }
 
 -- two events have one meaning exactly if they are alike
 pub events-alike : (s t : List ℕ) (x y : MessageEvent Span) → meaning s x ≡ meaning t y → EventAlike s t x y
@@ -177,6 +177,6 @@ events-alike s t x y e = event-says s t x y (rw e (event-own t y))
 
 pub events-mean : (s t : List ℕ) (x y : MessageEvent Span) → EventAlike s t x y → meaning s x ≡ meaning t y
 unfolding meaning
-events-mean s t (starts a) y h = ap starts (start-one s t a (h .of) (h .has)) ∙ ap (meaning t) (sym (h .is))
-events-mean s t (entry a) y h = ap entry (entry-one s t a (h .of) (h .has)) ∙ ap (meaning t) (sym (h .is))
-events-mean s t (ends a) y h = ap ends (end-one s t a (h .of) (h .has)) ∙ ap (meaning t) (sym (h .is))
+events-mean s t (startEvent a) y h = ap startEvent (same-start s t a (h .of) (h .has)) ∙ ap (meaning t) (sym (h .is))
+events-mean s t (entryEvent a) y h = ap entryEvent (same-entry s t a (h .of) (h .has)) ∙ ap (meaning t) (sym (h .is))
+events-mean s t (endEvent a) y h = ap endEvent (end-one s t a (h .of) (h .has)) ∙ ap (meaning t) (sym (h .is))

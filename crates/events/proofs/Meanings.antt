@@ -12,9 +12,9 @@ use Rattle.octet_string.specs.Strings.{octetsAt, isWithin, partOf}
 use Rattle.octet_string.specs.Optional.{absentAt, optional}
 use Rattle.value.specs.Values.{bytes, signed, unsigned, timeAt, statusOf, statusAt, signedValue, unsignedValue, listTypeAt, valueOf, valueAt}
 use Rattle.common.specs.Fields.{openAt, closeAt, entryAt}
-use Rattle.message.specs.Messages.{opened, closed, listed, listStartAt, listEndAt, contentAt, bodyAt, startAt}
+use Rattle.message.specs.Messages.{openBody, closeBody, listBody, listStartAt, listEndAt, contentAt, bodyAt, startAt}
 use Rattle.trailer.specs.Trailer.{messageEndAt, crcFrom, trailerAt}
-use Rattle.streaming.specs.Next.{MessageEvent, starts, entry, ends, Said, event, noEvent, failed, alone}
+use Rattle.streaming.specs.Next.{MessageEvent, startEvent, entryEvent, endEvent, Said, event, noEvent, failed, alone}
 use Rattle.events.specs.Events.{saysFirst, atStart, inside, entriesFrom, contentFrom, messagesFrom, eventsOf}
 use Rattle.events.specs.Meaning.{meaning}
 use Rattle.events.proofs.Cuts.{openMessage, listMessage, closeMessage}
@@ -32,15 +32,15 @@ meaningsOf s = meaningsIn s (eventsOf s .first)
 
 -- the meaning of the entry at an input's start
 unfoldable pub entryOf : List ℕ → Read (MessageEvent (List ℕ))
-entryOf s = then (entryAt s 0) λ e n. got (meaning s (entry e)) n
+entryOf s = then (entryAt s 0) λ e n. got (meaning s (entryEvent e)) n
 
 abbrev seven : MessageEvent (List ℕ)
-seven = entry (record { name = 9 ∷ []; status = some (record { width = 8; number = 5 }); time = none; unit = none; scaler = none; value = unsigned 8 7; signature = none })
+seven = entryEvent (record { name = 9 ∷ []; status = some (record { width = 8; number = 5 }); time = none; unit = none; scaler = none; value = unsigned 8 7; signature = none })
 
 pub record Meanings : Type 0 where
-  pub open-means : meaningsOf openMessage ≡ starts (record { transactionId = 1 ∷ []; groupNo = 1; abortOnError = 2; body = opened (record { codepage = some (10 ∷ 11 ∷ []); clientId = some (12 ∷ []); fileId = 13 ∷ 14 ∷ []; serverId = 15 ∷ []; time = some 42; version = some 1 }) }) ∷ []
-  pub list-means : meaningsOf listMessage ≡ starts (record { transactionId = 7 ∷ []; groupNo = 0; abortOnError = 0; body = listed (record { clientId = some (1 ∷ []); serverId = 2 ∷ 3 ∷ []; name = some (4 ∷ []); time = some 43; count = 2 }) }) ∷ entry (record { name = 5 ∷ []; status = some (record { width = 8; number = 384 }); time = some 256; unit = some 30; scaler = some (negsuc 0); value = bytes (6 ∷ 7 ∷ []); signature = some (8 ∷ []) }) ∷ entry (record { name = 9 ∷ []; status = some (record { width = 8; number = 5 }); time = none; unit = none; scaler = none; value = signed 8 (negsuc 65534); signature = none }) ∷ ends (record { signature = some (10 ∷ []); time = some 9 }) ∷ []
-  pub close-means : meaningsOf closeMessage ≡ starts (record { transactionId = 0xdd ∷ 0x43 ∷ []; groupNo = 0; abortOnError = 0; body = closed (record { signature = none }) }) ∷ []
+  pub open-means : meaningsOf openMessage ≡ startEvent (record { transactionId = 1 ∷ []; groupNo = 1; abortOnError = 2; body = openBody (record { codepage = some (10 ∷ 11 ∷ []); clientId = some (12 ∷ []); fileId = 13 ∷ 14 ∷ []; serverId = 15 ∷ []; time = some 42; version = some 1 }) }) ∷ []
+  pub list-means : meaningsOf listMessage ≡ startEvent (record { transactionId = 7 ∷ []; groupNo = 0; abortOnError = 0; body = listBody (record { clientId = some (1 ∷ []); serverId = 2 ∷ 3 ∷ []; name = some (4 ∷ []); time = some 43; count = 2 }) }) ∷ entryEvent (record { name = 5 ∷ []; status = some (record { width = 8; number = 384 }); time = some 256; unit = some 30; scaler = some (negsuc 0); value = bytes (6 ∷ 7 ∷ []); signature = some (8 ∷ []) }) ∷ entryEvent (record { name = 9 ∷ []; status = some (record { width = 8; number = 5 }); time = none; unit = none; scaler = none; value = signed 8 (negsuc 65534); signature = none }) ∷ endEvent (record { signature = some (10 ∷ []); time = some 9 }) ∷ []
+  pub close-means : meaningsOf closeMessage ≡ startEvent (record { transactionId = 0xdd ∷ 0x43 ∷ []; groupNo = 0; abortOnError = 0; body = closeBody (record { signature = none }) }) ∷ []
   pub short-form : entryOf (0x77 ∷ 0x02 ∷ 0x09 ∷ 0x62 ∷ 0x05 ∷ 0x01 ∷ 0x01 ∷ 0x01 ∷ 0x62 ∷ 0x07 ∷ 0x01 ∷ []) ≡ got seven 11
   pub long-form : entryOf (0x77 ∷ 0x80 ∷ 0x03 ∷ 0x09 ∷ 0x63 ∷ 0x00 ∷ 0x05 ∷ 0x01 ∷ 0x01 ∷ 0x01 ∷ 0x65 ∷ 0x00 ∷ 0x00 ∷ 0x00 ∷ 0x07 ∷ 0x01 ∷ []) ≡ got seven 16
 

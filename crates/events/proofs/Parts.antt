@@ -12,9 +12,9 @@ use Rattle.value.specs.Values.{Status, Value, truth, bytes, signed, unsigned, l
 use Rattle.value.proofs.Values.{ValueWithin}
 use Rattle.common.specs.Fields.{OpenResponse, CloseResponse, ListEntry}
 use Rattle.common.proofs.Fields.{OpenWithin, CloseWithin, EntryWithin}
-use Rattle.message.specs.Messages.{ListStart, ListEnd, Body, opened, closed, listed, MessageStart}
+use Rattle.message.specs.Messages.{ListStart, ListEnd, Body, openBody, closeBody, listBody, MessageStart}
 use Rattle.message.proofs.Messages.{ListStartWithin, ListEndWithin, BodyWithin, StartWithin}
-use Rattle.streaming.specs.Next.{MessageEvent, starts, entry, ends, Said, event, noEvent, failed, ReaderAfter, nextAt}
+use Rattle.streaming.specs.Next.{MessageEvent, startEvent, entryEvent, endEvent, Said, event, noEvent, failed, ReaderAfter, nextAt}
 use Rattle.events.specs.Meaning.{each, valueMeans, bodyMeans, meaning}
 use Rattle.events.proofs.Calls.{SoundReader}
 use Rattle.events.proofs.Places.{EventWithin, SaidWithin, Kept, next-kept}
@@ -32,15 +32,15 @@ valueStrings (unsigned w n) l = l
 valueStrings (listTime n) l = l
 
 abbrev pub bodyStrings : {T : Type 0} → Body T → List T
-bodyStrings (opened b) = opt (b .codepage) (opt (b .clientId) (b .fileId ∷ b .serverId ∷ []))
-bodyStrings (closed b) = opt (b .signature) []
-bodyStrings (listed b) = opt (b .clientId) (b .serverId ∷ opt (b .name) [])
+bodyStrings (openBody b) = opt (b .codepage) (opt (b .clientId) (b .fileId ∷ b .serverId ∷ []))
+bodyStrings (closeBody b) = opt (b .signature) []
+bodyStrings (listBody b) = opt (b .clientId) (b .serverId ∷ opt (b .name) [])
 
 -- all strings of an event, in the order of its fields
 abbrev pub stringsOf : {T : Type 0} → MessageEvent T → List T
-stringsOf (starts m) = m .transactionId ∷ bodyStrings (m .body)
-stringsOf (entry e) = e .name ∷ valueStrings (e .value) (opt (e .signature) [])
-stringsOf (ends e) = opt (e .signature) []
+stringsOf (startEvent m) = m .transactionId ∷ bodyStrings (m .body)
+stringsOf (entryEvent e) = e .name ∷ valueStrings (e .value) (opt (e .signature) [])
+stringsOf (endEvent e) = opt (e .signature) []
 
 map-opt : {A B : Type 0} (f : A → B) (m : Option A) (l : List A) → map f (opt m l) ≡ opt (each f m) (map f l)
 map-opt f (some a) l = refl
@@ -54,16 +54,16 @@ map-value s (unsigned w n) l = refl
 map-value s (listTime n) l = refl
 
 map-body : (s : List ℕ) (b : Body Span) → map (partOf s) (bodyStrings b) ≡ bodyStrings (bodyMeans s b)
-map-body s (opened b) = rw (map-opt (partOf s) (b .codepage), map-opt (partOf s) (b .clientId))
-map-body s (closed b) = map-opt (partOf s) (b .signature) []
-map-body s (listed b) = rw (map-opt (partOf s) (b .clientId), map-opt (partOf s) (b .name))
+map-body s (openBody b) = rw (map-opt (partOf s) (b .codepage), map-opt (partOf s) (b .clientId))
+map-body s (closeBody b) = map-opt (partOf s) (b .signature) []
+map-body s (listBody b) = rw (map-opt (partOf s) (b .clientId), map-opt (partOf s) (b .name))
 
 -- a meaning's strings are the parts of the event's, one for one
 pub strings-are : (s : List ℕ) (e : MessageEvent Span) → stringsOf (meaning s e) ≡ map (partOf s) (stringsOf e)
 unfolding meaning
-strings-are s (starts m) = rw (map-body s (m .body))
-strings-are s (entry e) = rw (map-value s (e .value), map-opt (partOf s) (e .signature))
-strings-are s (ends e) = rw (map-opt (partOf s) (e .signature))
+strings-are s (startEvent m) = rw (map-body s (m .body))
+strings-are s (entryEvent e) = rw (map-value s (e .value), map-opt (partOf s) (e .signature))
+strings-are s (endEvent e) = rw (map-opt (partOf s) (e .signature))
 
 -- so events of one meaning have the same strings
 pub same-strings : (s t : List ℕ) (x y : MessageEvent Span) → meaning s x ≡ meaning t y → map (partOf s) (stringsOf x) ≡ map (partOf t) (stringsOf y)
@@ -78,29 +78,29 @@ abbrev pub All : {A : Type 0} → (A → Type 0) → List A → Type 0
 All P [] = Unit {0}
 All P (a ∷ l) = P a × All P l
 
-good : {s : List ℕ} {p : Span} → Within s p → Good s p
-good {s} {p} h = record { never = never-refused s p (h .ends); part = part-is s p (h .ends) }
+is-good : {s : List ℕ} {p : Span} → Within s p → Good s p
+is-good {s} {p} h = record { never = never-refused s p (h .ends); part = part-is s p (h .ends) }
 
 all-opt : (s : List ℕ) (m : Option Span) (l : List Span) → Has (Within s) m → All (Good s) l → All (Good s) (opt m l)
-all-opt s (some p) l h k = (good h, k)
+all-opt s (some p) l h k = (is-good h, k)
 all-opt s none l h k = k
 
 all-value : (s : List ℕ) (v : Value Span) (l : List Span) → ValueWithin s v → All (Good s) l → All (Good s) (valueStrings v l)
 all-value s (truth b) l h k = k
-all-value s (bytes p) l h k = (good h, k)
+all-value s (bytes p) l h k = (is-good h, k)
 all-value s (signed w z) l h k = k
 all-value s (unsigned w n) l h k = k
 all-value s (listTime n) l h k = k
 
 all-body : (s : List ℕ) (b : Body Span) → BodyWithin s b → All (Good s) (bodyStrings b)
-all-body s (opened b) h = all-opt s (b .codepage) _ (h .codepage) (all-opt s (b .clientId) _ (h .clientId) (good (h .fileId), (good (h .serverId), tt)))
-all-body s (closed b) h = all-opt s (b .signature) [] (h .signature) tt
-all-body s (listed b) h = all-opt s (b .clientId) _ (h .clientId) (good (h .serverId), all-opt s (b .name) [] (h .name) tt)
+all-body s (openBody b) h = all-opt s (b .codepage) _ (h .codepage) (all-opt s (b .clientId) _ (h .clientId) (is-good (h .fileId), (is-good (h .serverId), tt)))
+all-body s (closeBody b) h = all-opt s (b .signature) [] (h .signature) tt
+all-body s (listBody b) h = all-opt s (b .clientId) _ (h .clientId) (is-good (h .serverId), all-opt s (b .name) [] (h .name) tt)
 
 all-event : (s : List ℕ) (e : MessageEvent Span) → EventWithin s e → All (Good s) (stringsOf e)
-all-event s (starts m) h = (good (h .transactionId), all-body s (m .body) (h .body))
-all-event s (entry e) h = (good (h .name), all-value s (e .value) _ (h .value) (all-opt s (e .signature) [] (h .signature) tt))
-all-event s (ends e) h = all-opt s (e .signature) [] (h .signature) tt
+all-event s (startEvent m) h = (is-good (h .transactionId), all-body s (m .body) (h .body))
+all-event s (entryEvent e) h = (is-good (h .name), all-value s (e .value) _ (h .value) (all-opt s (e .signature) [] (h .signature) tt))
+all-event s (endEvent e) h = all-opt s (e .signature) [] (h .signature) tt
 
 -- every string of an event that a sound reader's call answers is good
 pub next-strings : (s : List ℕ) (at start pending : ℕ) (e : MessageEvent Span) → SoundReader s at start pending → nextAt s at start pending .said ≡ event e → All (Good s) (stringsOf e)

@@ -12,18 +12,18 @@ use Rattle.refusals.proofs.Read.{Ok, Ahead}
 use Rattle.refusals.proofs.Found.{Found}
 use Rattle.common.specs.Fields.{ListEntry, entryAt}
 use Rattle.common.proofs.Fields.{EntryWithin, entry-found}
-use Rattle.message.specs.Messages.{ListStart, ListEnd, Body, opened, closed, listed, MessageStart, startAt, listEndAt}
+use Rattle.message.specs.Messages.{ListStart, ListEnd, Body, openBody, closeBody, listBody, MessageStart, startAt, listEndAt}
 use Rattle.message.proofs.Messages.{ListStartWithin, ListEndWithin, BodyWithin, StartWithin, start-found, list-end-found}
 use Rattle.trailer.specs.Trailer.{trailerAt}
 use Rattle.trailer.proofs.Trailer.{trailer-found}
-use Rattle.streaming.specs.Next.{MessageEvent, starts, entry, ends, Said, event, noEvent, failed, alone, ReaderAfter, onward, pendingOf, beginAt, trailerNext, endNext, entryNext, stepAt, nextAt}
+use Rattle.streaming.specs.Next.{MessageEvent, startEvent, entryEvent, endEvent, Said, event, noEvent, failed, alone, ReaderAfter, onward, pendingOf, beginAt, trailerNext, endNext, entryNext, stepAt, nextAt}
 use Rattle.events.proofs.Calls.{SoundReader, sound-next}
 
 -- every string of an event lies within the input
 abbrev pub EventWithin : List ℕ → MessageEvent Span → Type 0
-EventWithin s (starts m) = StartWithin s m
-EventWithin s (entry e) = EntryWithin s e
-EventWithin s (ends e) = ListEndWithin s e
+EventWithin s (startEvent m) = StartWithin s m
+EventWithin s (entryEvent e) = EntryWithin s e
+EventWithin s (endEvent e) = ListEndWithin s e
 
 -- what an answer says of the place: an event has taken at least a byte
 abbrev pub SaidWithin : List ℕ → ℕ → ℕ → Said → Type 0
@@ -41,9 +41,9 @@ pub record Kept (s : List ℕ) (at : ℕ) (r : ReaderAfter) : Type 0 where
   pub strings : SaidWithin s at (r .place) (r .said)
 
 few-pending : (s : List ℕ) (b : Body Span) → BodyWithin s b → pendingOf b ≤ 4294967297
-few-pending s (opened b) h = omega arith
-few-pending s (closed b) h = omega arith
-few-pending s (listed b) h = let c = h .count in omega arith
+few-pending s (openBody b) h = omega arith
+few-pending s (closeBody b) h = omega arith
+few-pending s (listBody b) h = let c = h .count in omega arith
 
 kept-on : {A : Type 0} {P : A → Type 0} {s : List ℕ} {at m : ℕ} (start pending : ℕ) (r : Read A) (k : A → ℕ → ReaderAfter) → Ok (Found P s m) r
     → at ≤ length s → start ≤ length s → pending ≤ 4294967297 → ((a : A) (n : ℕ) → P a → m < n → n ≤ length s → Kept s at (k a n)) → Kept s at (onward (length s) start pending r k)
@@ -56,7 +56,7 @@ unfolding beginAt
 begin-kept s old at start o p q = by (leb (length s) at)
   where
     by : (t : Bool) → Kept s old (cond t (record { said = noEvent; place = at; start = start; pending = 0 })
-        (onward (length s) at 0 (startAt s at) λ m n. record { said = event (starts m); place = n; start = at; pending = pendingOf (m .body) }))
+        (onward (length s) at 0 (startAt s at) λ m n. record { said = event (startEvent m); place = n; start = at; pending = pendingOf (m .body) }))
     by true = record { low = o; high = p; begun = q; few = omega arith; strings = tt }
     by false =
         kept-on at 0 _ _ (start-found s at) (omega arith) p (omega arith)
@@ -95,20 +95,20 @@ next-sound s at start pending h =
 
 -- at an entry: the old place is the entry's first byte, the new one is behind its last
 pub record AtEntry (s : List ℕ) (at : ℕ) (r : ReaderAfter) : Type 0 where
-  pub spans : (e : ListEntry Span) → r .said ≡ event (entry e) → entryAt s at ≡ got e (r .place)
+  pub spans : (e : ListEntry Span) → r .said ≡ event (entryEvent e) → entryAt s at ≡ got e (r .place)
 
 abbrev isEntry : Said → ℕ
-isEntry (event (starts m)) = 0
-isEntry (event (entry e)) = 1
-isEntry (event (ends e)) = 0
+isEntry (event (startEvent m)) = 0
+isEntry (event (entryEvent e)) = 1
+isEntry (event (endEvent e)) = 0
 isEntry noEvent = 0
 isEntry (failed f) = 0
 isEntry (alone n) = 0
 
 abbrev theEntry : ListEntry Span → Said → ListEntry Span
-theEntry d (event (starts m)) = d
-theEntry d (event (entry e)) = e
-theEntry d (event (ends e)) = d
+theEntry d (event (startEvent m)) = d
+theEntry d (event (entryEvent e)) = e
+theEntry d (event (endEvent e)) = d
 theEntry d noEvent = d
 theEntry d (failed f) = d
 theEntry d (alone n) = d
@@ -126,12 +126,12 @@ unfolding beginAt
 begin-no-entry s old at start = by (leb (length s) at)
   where
     by : (t : Bool) → AtEntry s old (cond t (record { said = noEvent; place = at; start = start; pending = 0 })
-        (onward (length s) at 0 (startAt s at) λ m n. record { said = event (starts m); place = n; start = at; pending = pendingOf (m .body) }))
+        (onward (length s) at 0 (startAt s at) λ m n. record { said = event (startEvent m); place = n; start = at; pending = pendingOf (m .body) }))
     by true = no-entry refl
     by false = no-entry-on _ _ _ (startAt s at) _ (λ m n. no-entry refl)
 
 entry-on : {s : List ℕ} {at : ℕ} (end start pending left : ℕ) (r : Read (ListEntry Span)) → entryAt s at ≡ r
-    → AtEntry s at (onward end start pending r λ e n. record { said = event (entry e); place = n; start = start; pending = left })
+    → AtEntry s at (onward end start pending r λ e n. record { said = event (entryEvent e); place = n; start = start; pending = left })
 unfolding onward
 entry-on end start pending left (got e n) h = record { spans = λ e′ p. h ∙ ap (λ (x : ListEntry Span). got x n) (ap (theEntry e) p) }
 entry-on end start pending left (refused f) h = no-entry refl

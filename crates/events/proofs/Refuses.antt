@@ -28,9 +28,9 @@ pub record RefusesFirst (says : ℕ → Said) (f : Refusal) : Type 0 where
   pub refuses : says k ≡ failed f
   pub before : (j : ℕ) → j < k → isRefused (says j) ≡ false
 
-one-more : (x : Said) (l : List Said) (later : Said) (f : Refusal) → isRefused x ≡ false → RefusesFirst (nth l later) f → RefusesFirst (nth (x ∷ l) later) f
+one-more-said : (x : Said) (l : List Said) (later : Said) (f : Refusal) → isRefused x ≡ false → RefusesFirst (nth l later) f → RefusesFirst (nth (x ∷ l) later) f
 unfolding nth
-one-more x l later f other r = record { k = suc (r .k); refuses = r .refuses; before = past }
+one-more-said x l later f other r = record { k = suc (r .k); refuses = r .refuses; before = past }
   where
     past : (j : ℕ) → j < suc (r .k) → isRefused (nth (x ∷ l) later j) ≡ false
     past zero h = other
@@ -39,8 +39,8 @@ one-more x l later f other r = record { k = suc (r .k); refuses = r .refuses; be
 first : (l : List Said) (later : Said) (f : Refusal) → firstRefusal l ≡ some f → RefusesFirst (nth l later) f
 unfolding firstRefusal nth
 first [] later f e = let z : _≡_ {A = ℕ} 0 1 = cc in absurd (omega arith)
-first (event x ∷ l) later f e = one-more (event x) l later f refl (first l later f e)
-first (noEvent ∷ l) later f e = one-more noEvent l later f refl (first l later f e)
+first (event x ∷ l) later f e = one-more-said (event x) l later f refl (first l later f e)
+first (noEvent ∷ l) later f e = one-more-said noEvent l later f refl (first l later f e)
 first (failed g ∷ l) later f e = let same : g ≡ f = cc in record { k = 0; refuses = ap failed same; before = λ j h. absurd (omega arith) }
 first (alone n ∷ l) later f e = let z : _≡_ {A = ℕ} 0 1 = cc in absurd (omega arith)
 

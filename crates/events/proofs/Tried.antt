@@ -25,7 +25,7 @@ use Rattle.value.specs.Values.{bytes, signed, timeAt, statusAt, valueAt}
 use Rattle.value.proofs.Gets.{time-reads, bare-time-reads, status-reads, bytes-value-reads, signed-value-reads}
 use Rattle.common.specs.Fields.{ListEntry, entryAt}
 use Rattle.common.proofs.Gets.{CloseHas, EntryHas, close-reads, entry-reads}
-use Rattle.message.specs.Messages.{MessageStart, closed, listed, bodyAt, startAt, listEndAt}
+use Rattle.message.specs.Messages.{MessageStart, closeBody, listBody, bodyAt, startAt, listEndAt}
 use Rattle.message.proofs.Gets.{ListStartHas, ListEndHas, StartHas, list-start-reads, list-end-reads, close-content-reads, list-content-reads, body-reads, start-reads}
 use Rattle.trailer.specs.Trailer.{swapped}
 use Rattle.trailer.proofs.Gets.{message-end-reads}
@@ -34,20 +34,20 @@ use Rattle.events.proofs.Cuts.{listMessage, closeMessage}
 use Rattle.events.proofs.Gets.{ContentHas, MessageHas, close-body-rest, list-body-rest, message-reads}
 
 -- one length byte
-one : (ty : Ty) (len : ℕ) → total ty len 1 < 16 → Reads tlfAt (Is (record { ty = ty; len = len })) (typed ty 1 (total ty len 1))
-one ty len h = typed-reads ty 1 len (omega arith) (omega arith) (omega arith) (λ e. refl)
+one-entry : (ty : Ty) (len : ℕ) → total ty len 1 < 16 → Reads tlfAt (Is (record { ty = ty; len = len })) (typed ty 1 (total ty len 1))
+one-entry ty len h = typed-reads ty 1 len (omega arith) (omega arith) (omega arith) (λ e. refl)
 
 list : (n : ℕ) → n < 16 → Reads (listOfAt n) (Is tt) (typed ListOf 1 n)
-list n h = list-of-reads n (one ListOf n h)
+list n h = list-of-reads n (one-entry ListOf n h)
 
 string : (x : List ℕ) → length x + 1 < 16 → Reads octetsAt (Part x) (typed OctetString 1 (length x + 1) ++ x)
-string x h = octets-reads x (one OctetString (length x) h)
+string x h = octets-reads x (one-entry OctetString (length x) h)
 
 there : (x : List ℕ) → 1 ≤ length x → length x + 1 < 16 → Reads (optional octetsAt) (Made some (Part x)) (typed OctetString 1 (length x + 1) ++ x)
 there x low h = present-reads octetsAt _ (typed-not-one OctetString 1 (length x) x (omega arith) (omega arith) (omega arith)) (string x h)
 
 unsigned-field : (w : ℕ) (x : List ℕ) → 1 ≤ length x → length x ≤ w → length x + 1 < 16 → Reads (unsignedAt w) (Is (number 0 x)) (typed Unsigned 1 (length x + 1) ++ x)
-unsigned-field w x low high h = unsigned-reads w x low high (one Unsigned (length x) h)
+unsigned-field w x low high h = unsigned-reads w x low high (one-entry Unsigned (length x) h)
 
 -- the field is there: its type is not that of a string
 field : {A : Type 0} {P : List ℕ → A → Type 0} (read : List ℕ → ℕ → Read A) (ty : Ty) (len : ℕ) (x : List ℕ) → 2 ≤ tyNumber ty → total ty len 1 < 16
@@ -58,7 +58,7 @@ abbrev closeHead : List ℕ
 closeHead = 0x76 ∷ 0x03 ∷ 0xdd ∷ 0x43 ∷ 0x62 ∷ 0x00 ∷ 0x62 ∷ 0x00 ∷ 0x72 ∷ 0x63 ∷ 0x02 ∷ 0x01 ∷ 0x71 ∷ 0x01 ∷ []
 
 abbrev pub CloseStarts : List ℕ → MessageStart Span → Type 0
-CloseStarts = StartHas (Part (0xdd ∷ 0x43 ∷ [])) (Is 0) (Is 0) (Made closed (CloseHas (Is none)))
+CloseStarts = StartHas (Part (0xdd ∷ 0x43 ∷ [])) (Is 0) (Is 0) (Made closeBody (CloseHas (Is none)))
 
 close-start : Reads startAt CloseStarts closeHead
 unfolding typed lengthBytes number
@@ -98,14 +98,14 @@ SecondEntry = EntryHas (Part (9 ∷ [])) (Made some (Made (λ v. record { width 
 
 abbrev pub ListStarts : List ℕ → MessageStart Span → Type 0
 ListStarts =
-    StartHas (Part (7 ∷ [])) (Is 0) (Is 0) (Made listed (ListStartHas (Made some (Part (1 ∷ []))) (Part (2 ∷ 3 ∷ [])) (Made some (Part (4 ∷ []))) (Made some (Is 43)) 2))
+    StartHas (Part (7 ∷ [])) (Is 0) (Is 0) (Made listBody (ListStartHas (Made some (Part (1 ∷ []))) (Part (2 ∷ 3 ∷ [])) (Made some (Part (4 ∷ []))) (Made some (Is 43)) 2))
 
 list-start : Reads startAt ListStarts listHead
 unfolding typed lengthBytes number
 list-start =
     let zero-byte = unsigned-field 1 (0x00 ∷ []) (omega arith) (omega arith) (omega arith) in
     let tag = unsigned-field 1 (0x01 ∷ []) (omega arith) (omega arith) (omega arith) in
-    let time = time-reads (one ListOf 2 (omega arith)) tag (unsigned-field 4 (0x2b ∷ []) (omega arith) (omega arith) (omega arith)) in
+    let time = time-reads (one-entry ListOf 2 (omega arith)) tag (unsigned-field 4 (0x2b ∷ []) (omega arith) (omega arith) (omega arith)) in
     start-reads
     (list 6 (omega arith))
     (string (7 ∷ []) (omega arith))
@@ -118,16 +118,16 @@ list-start =
     (string (2 ∷ 3 ∷ []) (omega arith))
     (there (4 ∷ []) (omega arith) (omega arith))
     (field timeAt ListOf 2 _ (omega arith) (omega arith) time)
-    (one ListOf 2 (omega arith)))))
+    (one-entry ListOf 2 (omega arith)))))
 
 first-entry : Reads entryAt FirstEntry (0x77 ∷ 0x02 ∷ 0x05 ∷ 0x63 ∷ 0x01 ∷ 0x80 ∷ 0x72 ∷ 0x62 ∷ 0x01 ∷ 0x65 ∷ 0x00 ∷ 0x00 ∷ 0x01 ∷ 0x00 ∷ 0x62 ∷ 0x1e ∷ 0x52 ∷ 0xff ∷ 0x03 ∷ 0x06 ∷ 0x07 ∷ 0x02 ∷ 0x08 ∷ [])
 unfolding typed lengthBytes number signedOf
 first-entry =
     let tag = unsigned-field 1 (0x01 ∷ []) (omega arith) (omega arith) (omega arith) in
-    let status = status-reads _ (0x01 ∷ 0x80 ∷ []) (one Unsigned 2 (omega arith)) (unsigned-field 2 (0x01 ∷ 0x80 ∷ []) (omega arith) (omega arith) (omega arith)) in
-    let time = time-reads (one ListOf 2 (omega arith)) tag (unsigned-field 4 (0x00 ∷ 0x00 ∷ 0x01 ∷ 0x00 ∷ []) (omega arith) (omega arith) (omega arith)) in
-    let scaler = signed-reads 1 (0xff ∷ []) (omega arith) (omega arith) (one Integer 1 (omega arith)) in
-    let value = bytes-value-reads 2 (6 ∷ 7 ∷ []) (one OctetString 2 (omega arith)) (string (6 ∷ 7 ∷ []) (omega arith)) in
+    let status = status-reads _ (0x01 ∷ 0x80 ∷ []) (one-entry Unsigned 2 (omega arith)) (unsigned-field 2 (0x01 ∷ 0x80 ∷ []) (omega arith) (omega arith) (omega arith)) in
+    let time = time-reads (one-entry ListOf 2 (omega arith)) tag (unsigned-field 4 (0x00 ∷ 0x00 ∷ 0x01 ∷ 0x00 ∷ []) (omega arith) (omega arith) (omega arith)) in
+    let scaler = signed-reads 1 (0xff ∷ []) (omega arith) (omega arith) (one-entry Integer 1 (omega arith)) in
+    let value = bytes-value-reads 2 (6 ∷ 7 ∷ []) (one-entry OctetString 2 (omega arith)) (string (6 ∷ 7 ∷ []) (omega arith)) in
     entry-reads
     (list 7 (omega arith))
     (string (5 ∷ []) (omega arith))
@@ -141,8 +141,8 @@ first-entry =
 second-entry : Reads entryAt SecondEntry (0x77 ∷ 0x02 ∷ 0x09 ∷ 0x62 ∷ 0x05 ∷ 0x01 ∷ 0x01 ∷ 0x01 ∷ 0x54 ∷ 0xff ∷ 0x00 ∷ 0x01 ∷ 0x01 ∷ [])
 unfolding typed lengthBytes number signedOf
 second-entry =
-    let status = status-reads _ (0x05 ∷ []) (one Unsigned 1 (omega arith)) (unsigned-field 1 (0x05 ∷ []) (omega arith) (omega arith) (omega arith)) in
-    let value = signed-value-reads 3 (0xff ∷ 0x00 ∷ 0x01 ∷ []) (one Integer 3 (omega arith)) (signed-reads 4 (0xff ∷ 0x00 ∷ 0x01 ∷ []) (omega arith) (omega arith) (one Integer 3 (omega arith))) in
+    let status = status-reads _ (0x05 ∷ []) (one-entry Unsigned 1 (omega arith)) (unsigned-field 1 (0x05 ∷ []) (omega arith) (omega arith) (omega arith)) in
+    let value = signed-value-reads 3 (0xff ∷ 0x00 ∷ 0x01 ∷ []) (one-entry Integer 3 (omega arith)) (signed-reads 4 (0xff ∷ 0x00 ∷ 0x01 ∷ []) (omega arith) (omega arith) (one-entry Integer 3 (omega arith))) in
     entry-reads
     (list 7 (omega arith))
     (string (9 ∷ []) (omega arith))
@@ -156,7 +156,7 @@ second-entry =
 list-end : Reads listEndAt (ListEndHas (Made some (Part (10 ∷ []))) (Made some (Is 9))) (0x02 ∷ 0x0a ∷ 0x65 ∷ 0x00 ∷ 0x00 ∷ 0x00 ∷ 0x09 ∷ [])
 unfolding typed lengthBytes number
 list-end =
-    let time = bare-time-reads (0 ∷ 0 ∷ 0 ∷ 9 ∷ []) (one Unsigned 4 (omega arith)) (unsigned-field 4 (0 ∷ 0 ∷ 0 ∷ 9 ∷ []) (omega arith) (omega arith) (omega arith)) in
+    let time = bare-time-reads (0 ∷ 0 ∷ 0 ∷ 9 ∷ []) (one-entry Unsigned 4 (omega arith)) (unsigned-field 4 (0 ∷ 0 ∷ 0 ∷ 9 ∷ []) (omega arith) (omega arith) (omega arith)) in
     list-end-reads (there (10 ∷ []) (omega arith) (omega arith)) (field timeAt Unsigned 4 _ (omega arith) (omega arith) time)
 
 list-crc : Reads (unsignedAt 2) (Is (swapped (crcOf (listHead ++ listContent)))) (0x63 ∷ 0x29 ∷ 0x11 ∷ [])

@@ -8,9 +8,9 @@ use Rattle.refusals.specs.Numbers.{inputTooLongNo, limit}
 use Rattle.refusals.specs.Read.{Read, got, refused, eof}
 use Rattle.refusals.specs.declared.Span.{Span}
 use Rattle.common.specs.Fields.{entryAt}
-use Rattle.message.specs.Messages.{MessageStart, Body, opened, closed, listed, startAt, listEndAt}
+use Rattle.message.specs.Messages.{MessageStart, Body, openBody, closeBody, listBody, startAt, listEndAt}
 use Rattle.trailer.specs.Trailer.{trailerAt}
-use Rattle.streaming.specs.Next.{MessageEvent, starts, entry, ends, Said, event, noEvent, failed, alone}
+use Rattle.streaming.specs.Next.{MessageEvent, startEvent, entryEvent, endEvent, Said, event, noEvent, failed, alone}
 
 -- the answers of the first calls, and that of every later one
 pub record Answers : Type 0 where
@@ -46,16 +46,16 @@ inside end (refused f) k = record { first = failed f ∷ []; later = failed (eof
 -- as many entries as the list's head says, each an event
 unfoldable pub entriesFrom : ℕ → List ℕ → ℕ → (ℕ → Answers) → Answers
 entriesFrom zero s at k = k at
-entriesFrom (suc left) s at k = inside (length s) (entryAt s at) λ e n. saysFirst (entry e) (entriesFrom left s n k)
+entriesFrom (suc left) s at k = inside (length s) (entryAt s at) λ e n. saysFirst (entryEvent e) (entriesFrom left s n k)
 
 -- what follows a message's start, up to the trailer
 unfoldable pub contentFrom : Body Span → List ℕ → ℕ → (ℕ → Answers) → Answers
-contentFrom (opened b) s at k = k at
-contentFrom (closed b) s at k = k at
-contentFrom (listed b) s at k =
+contentFrom (openBody b) s at k = k at
+contentFrom (closeBody b) s at k = k at
+contentFrom (listBody b) s at k =
     entriesFrom (b .count) s at λ n.
     inside (length s) (listEndAt s n) λ e m.
-    saysFirst (ends e) (k m)
+    saysFirst (endEvent e) (k m)
 
 -- at most `many` messages from a place on; the trailer has no event
 unfoldable pub messagesFrom : ℕ → List ℕ → ℕ → Answers
@@ -63,7 +63,7 @@ messagesFrom zero s at = noMore
 messagesFrom (suc many) s at =
     cond (leb (length s) at) noMore
     (atStart (startAt s at) λ m n₁.
-    saysFirst (starts m)
+    saysFirst (startEvent m)
     (contentFrom (m .body) s n₁ λ n₂.
     inside (length s) (trailerAt s at n₂) λ trailer n₃.
     messagesFrom many s n₃))

@@ -6,8 +6,8 @@ use Rattle.refusals.specs.declared.Span.{Span}
 use Rattle.octet_string.specs.Strings.{partOf}
 use Rattle.value.specs.Values.{Status, Value, truth, bytes, signed, unsigned, listTime}
 use Rattle.common.specs.Fields.{OpenResponse, CloseResponse, ListEntry}
-use Rattle.message.specs.Messages.{ListStart, ListEnd, Body, opened, closed, listed, MessageStart}
-use Rattle.streaming.specs.Next.{MessageEvent, starts, entry, ends}
+use Rattle.message.specs.Messages.{ListStart, ListEnd, Body, openBody, closeBody, listBody, MessageStart}
+use Rattle.streaming.specs.Next.{MessageEvent, startEvent, entryEvent, endEvent}
 
 abbrev pub each : {A B : Type 0} → (A → B) → Option A → Option B
 each f (some a) = some (f a)
@@ -64,9 +64,9 @@ abbrev pub listEndMeans : List ℕ → ListEnd Span → ListEnd (List ℕ)
 listEndMeans s x = record { signature = each (partOf s) (x .signature); time = x .time }
 
 abbrev pub bodyMeans : List ℕ → Body Span → Body (List ℕ)
-bodyMeans s (opened b) = opened (openMeans s b)
-bodyMeans s (closed b) = closed (closeMeans s b)
-bodyMeans s (listed b) = listed (listStartMeans s b)
+bodyMeans s (openBody b) = openBody (openMeans s b)
+bodyMeans s (closeBody b) = closeBody (closeMeans s b)
+bodyMeans s (listBody b) = listBody (listStartMeans s b)
 
 abbrev pub startMeans : List ℕ → MessageStart Span → MessageStart (List ℕ)
 startMeans s x =
@@ -79,6 +79,6 @@ startMeans s x =
 
 -- an event's strings as bytes, value and status as kind and number; `s` is the input
 unfoldable pub meaning : List ℕ → MessageEvent Span → MessageEvent (List ℕ)
-meaning s (starts m) = starts (startMeans s m)
-meaning s (entry e) = entry (entryMeans s e)
-meaning s (ends e) = ends (listEndMeans s e)
+meaning s (startEvent m) = startEvent (startMeans s m)
+meaning s (entryEvent e) = entryEvent (entryMeans s e)
+meaning s (endEvent e) = endEvent (listEndMeans s e)

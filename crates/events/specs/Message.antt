@@ -5,7 +5,7 @@ use mathlib.Core.Option.{Option, some, none}
 use Rattle.refusals.specs.Read.{Read, got, then, many}
 use Rattle.refusals.specs.declared.Span.{Span}
 use Rattle.common.specs.Fields.{ListEntry, entryAt}
-use Rattle.message.specs.Messages.{MessageStart, ListEnd, Body, opened, closed, listed, startAt, listEndAt}
+use Rattle.message.specs.Messages.{MessageStart, ListEnd, Body, openBody, closeBody, listBody, startAt, listEndAt}
 use Rattle.trailer.specs.Trailer.{trailerAt}
 
 -- what stands between a message's start and its trailer: of a list response the entries and the end
@@ -22,9 +22,9 @@ abbrev pub entriesAt : ℕ → List ℕ → ℕ → Read (List (ListEntry Span))
 entriesAt n s at = many n (entryAt s) at
 
 unfoldable pub contentOf : Body Span → List ℕ → ℕ → Read (Content Span)
-contentOf (opened b) s at = got (record { entries = []; end = none }) at
-contentOf (closed b) s at = got (record { entries = []; end = none }) at
-contentOf (listed b) s at =
+contentOf (openBody b) s at = got (record { entries = []; end = none }) at
+contentOf (closeBody b) s at = got (record { entries = []; end = none }) at
+contentOf (listBody b) s at =
     then (entriesAt (b .count) s at) λ entries n.
     then (listEndAt s n) λ end m.
     got (record { entries = entries; end = some end }) m

@@ -7,7 +7,7 @@ use Rattle.refusals.specs.Read.{Read, got, refused, Refusal}
 use Rattle.refusals.specs.declared.Span.{Span}
 use Rattle.common.specs.Fields.{ListEntry}
 use Rattle.message.specs.Messages.{ListEnd}
-use Rattle.streaming.specs.Next.{MessageEvent, starts, entry, ends, Said, event, noEvent, failed, alone}
+use Rattle.streaming.specs.Next.{MessageEvent, startEvent, entryEvent, endEvent, Said, event, noEvent, failed, alone}
 use Rattle.events.specs.Message.{Message}
 use Rattle.events.specs.Events.{Answers, saysFirst}
 
@@ -19,15 +19,15 @@ saysAll (e ∷ es) a = saysFirst e (saysAll es a)
 -- the events of entries, and behind them those of `es`
 unfoldable pub entryEvents : List (ListEntry Span) → List (MessageEvent Span) → List (MessageEvent Span)
 entryEvents [] es = es
-entryEvents (x ∷ xs) es = entry x ∷ entryEvents xs es
+entryEvents (x ∷ xs) es = entryEvent x ∷ entryEvents xs es
 
 abbrev pub endEvents : Option (ListEnd Span) → List (MessageEvent Span)
-endEvents (some e) = ends e ∷ []
+endEvents (some e) = endEvent e ∷ []
 endEvents none = []
 
 -- the events of a message: its start, its entries, its end
 unfoldable pub messageEvents : Message Span → List (MessageEvent Span)
-messageEvents m = starts (m .start) ∷ entryEvents (m .content .entries) (endEvents (m .content .end))
+messageEvents m = startEvent (m .start) ∷ entryEvents (m .content .entries) (endEvents (m .content .end))
 
 -- the first answer that is a refusal, if it stands at a place
 unfoldable pub firstRefusal : List Said → Option Refusal

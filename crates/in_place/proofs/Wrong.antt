@@ -11,7 +11,7 @@ use Rattle.encoder.specs.declared.EncoderState.the-variants.{Init, LookingForEs
 use Rattle.encoder.specs.declared.Item.{Item}
 use Rattle.encoder.specs.declared.Encoder.{Encoder}
 use Rattle.decoder.specs.Push.{sized, State, search, begun, searching, store, step, finalized, resetCount}
-use Rattle.decoder.specs.Record.{Answer, nothing, payload, count, refusal, After, Left, afterPush, afterFinalize, afterReset, wrote, badDecoder, wrongBuffer, newRecord, recordOf, pushed, pushRecord, finalizeRecord, resetRecord}
+use Rattle.decoder.specs.Record.{DecoderAnswer, nothing, payload, count, refusal, After, Left, afterPush, afterFinalize, afterReset, wrote, badDecoder, wrongBuffer, newRecord, recordOf, pushed, pushRecord, finalizeRecord, resetRecord}
 use Rattle.decoder.specs.declared.Event.{Event}
 use Rattle.decoder.specs.declared.Event.the-variants.{Nothing}
 use Rattle.decoder.specs.declared.Decoder.{Decoder}
@@ -27,16 +27,16 @@ behind1b = recordOf (sized 8) (search 1 0 1)
 abbrev begun8 : Decoder
 begun8 = recordOf (sized 8) begun
 
-abbrev zeros : List ℕ
-zeros = replicate 8 0
+abbrev eightZeros : List ℕ
+eightZeros = replicate 8 0
 
 -- ---- the push
 
-in-place-push-keeps-the-decoder : (e : Event) (m : List ℕ) → afterPush (record { decoder = new8; event = e }) m ≡ pushRecord new8 zeros 0x1b → ⊥
+in-place-push-keeps-the-decoder : (e : Event) (m : List ℕ) → afterPush (record { decoder = new8; event = e }) m ≡ pushRecord new8 eightZeros 0x1b → ⊥
 unfolding pushRecord pushed badDecoder wrongBuffer step searching
 in-place-push-keeps-the-decoder e m h = let raw : _≡_ {A = ℕ} 0 1 = ap (λ (a : After). a .decoder .«raw_msg_len») h in omega (arith, raw)
 
-in-place-push-keeps-the-buffer : (d : Decoder) (e : Event) → afterPush (record { decoder = d; event = e }) zeros ≡ pushRecord begun8 zeros 0x12 → ⊥
+in-place-push-keeps-the-buffer : (d : Decoder) (e : Event) → afterPush (record { decoder = d; event = e }) eightZeros ≡ pushRecord begun8 eightZeros 0x12 → ⊥
 unfolding pushRecord pushed badDecoder wrongBuffer wrote step store reflect polynomial bitStep bitSteps byteStep register
 in-place-push-keeps-the-buffer d e h = let first : _≡_ {A = ℕ} 0 0x12 = ap (λ (a : After). getD (a .memory) 0 0) h in omega (arith, first)
 
@@ -47,7 +47,7 @@ unfolding finalizeRecord badDecoder finalized
 in-place-finalize-keeps-the-decoder e h = let raw : _≡_ {A = ℕ} 1 0 = ap (λ (l : Left). l .decoder .«raw_msg_len») h in omega (arith, raw)
 
 -- how many bytes an answer says are lost
-lost : Answer → ℕ
+lost : DecoderAnswer → ℕ
 lost nothing = 0
 lost (payload bytes) = 0
 lost (count n) = n
@@ -68,11 +68,11 @@ in-place-reset-counts-the-new-decoder d h = let n : _≡_ {A = ℕ} 0 1 = ap (λ
 
 -- ---- the push of a slice
 
-in-place-slice-keeps-the-decoder : (e : Event) (taken : ℕ) (m : List ℕ) → afterSlice (record { decoder = new8; event = e; taken = taken }) m ≡ sliceRecord new8 zeros (0x1b ∷ []) → ⊥
+in-place-slice-keeps-the-decoder : (e : Event) (taken : ℕ) (m : List ℕ) → afterSlice (record { decoder = new8; event = e; taken = taken }) m ≡ sliceRecord new8 eightZeros (0x1b ∷ []) → ⊥
 unfolding sliceRecord pushesFrom pushRecord pushed badDecoder wrongBuffer step searching
 in-place-slice-keeps-the-decoder e taken m h = let raw : _≡_ {A = ℕ} 0 1 = ap (λ (t : Took). t .decoder .«raw_msg_len») h in omega (arith, raw)
 
-in-place-slice-keeps-the-buffer : (d : Decoder) (e : Event) (taken : ℕ) → afterSlice (record { decoder = d; event = e; taken = taken }) zeros ≡ sliceRecord begun8 zeros (0x12 ∷ []) → ⊥
+in-place-slice-keeps-the-buffer : (d : Decoder) (e : Event) (taken : ℕ) → afterSlice (record { decoder = d; event = e; taken = taken }) eightZeros ≡ sliceRecord begun8 eightZeros (0x12 ∷ []) → ⊥
 unfolding sliceRecord pushesFrom pushRecord pushed badDecoder wrongBuffer wrote step store reflect polynomial bitStep bitSteps byteStep register
 in-place-slice-keeps-the-buffer d e taken h = let first : _≡_ {A = ℕ} 0 0x12 = ap (λ (t : Took). getD (t .memory) 0 0) h in omega (arith, first)
 
@@ -90,12 +90,12 @@ unfolding nextStep badEncoder stepFrom freshEncoder started reflect polynomial b
 in-place-next-keeps-the-encoder i h = let n : _≡_ {A = ℕ} 0 1 = ap (λ (s : Step). started (s .encoder .state)) h in omega (arith, n)
 
 -- the byte that an answer gives
-given : NextAnswer → ℕ
-given (byte b) = b
-given finished = 256
-given (noByte n) = 256
+byteGiven : NextAnswer → ℕ
+byteGiven (byte b) = b
+byteGiven finished = 256
+byteGiven (noByte n) = 256
 
 -- the fourth byte of a start is 1b; the Encoder that this call leaves would give the fifth, 01
 in-place-next-judges-the-new-encoder : (e : Encoder) (reg : ℕ) → stepOf (record { answer = Item.Byte 0x01; encoder = e }) ≡ nextStep (encoderAt (Init 3) 0 reg) [] → ⊥
-unfolding nextStep badEncoder stepFrom given
-in-place-next-judges-the-new-encoder e reg h = let b : _≡_ {A = ℕ} 0x01 0x1b = ap (λ (s : Step). given (s .answer)) h in omega (arith, b)
+unfolding nextStep badEncoder stepFrom byteGiven
+in-place-next-judges-the-new-encoder e reg h = let b : _≡_ {A = ℕ} 0x01 0x1b = ap (λ (s : Step). byteGiven (s .answer)) h in omega (arith, b)

@@ -10,7 +10,7 @@ use borrow.Author.Tests.{le-leb}
 use Rattle.frame.specs.Frame.{Sound, startSeq, closed, framed}
 use Rattle.frame.proofs.Cases.{by-le}
 use Rattle.decoder.specs.Push.{sized, Mem, State, search, body, escape, done, silent, discarded, memory, Out, says, put, store, step, begun, noticed, fresh}
-use Rattle.decoder.specs.Record.{Answer, nothing, refusal, numbered, setup, stateAs, stateOf, newRecord}
+use Rattle.decoder.specs.Record.{DecoderAnswer, nothing, refusal, numbered, setup, stateAs, stateOf, newRecord}
 use Rattle.decoder.specs.Run as R
 use Rattle.decoder.specs.Run.{Op}
 use Rattle.decoder.proofs.States.{runState, actState, answerState}
@@ -20,8 +20,8 @@ use Rattle.decoder.specs.declared.Setup.{Setup}
 use Rattle.decoder.proofs.Faithful.{Fit}
 use Rattle.decoder.proofs.Runs.{run-is, acts, new-fit}
 use Rattle.marks.specs.Decoders.{Gave, ours, answers, behindOf, frameSays}
-use Rattle.marks.specs.Mark2.{eighth, NoRoom, Completeness, Unmatched, searching, behindPayload, OurSearch}
-use Rattle.marks.proofs.Rules.{Silent, stop, push}
+use Rattle.marks.specs.Mark2.{eighth, NoRoom, Completeness, Unmatched, nothingMatched, behindPayload, OurSearch}
+use Rattle.marks.proofs.Rules.{Silent, stop, silentOn}
 use Rattle.marks.proofs.RoundTrip.{framed-runs, sound-decodes, begun-run}
 use Rattle.marks.proofs.Recovery.{answers-run}
 
@@ -53,7 +53,7 @@ step-less C D (body n m) b le = else-less (eqb b 0x1b) _ _ _ (store-less C D m (
 
 record Stops (C : Setup) (s : State) (bytes : List ℕ) : Type 0 where
   quiet : ℕ
-  rest : List Answer
+  rest : List DecoderAnswer
   is : runState C s (map R.push bytes) ≡ replicate quiet nothing ++ refusal 3 [] ∷ rest
 
 stops-here : (C : Setup) (s : State) (b : ℕ) (l : List ℕ) → step C s b ≡ says fresh memory → Stops C s (b ∷ l)
@@ -67,13 +67,13 @@ stops-later C s t b l e r =
     record {
       quiet = suc (r .quiet);
       rest = r .rest;
-      is = ap (λ (o : Out). numbered (o .event) ∷ runState C (o .state) (map R.push l)) e ∙ ap (λ (k : List Answer). nothing ∷ k) (r .is);
+      is = ap (λ (o : Out). numbered (o .event) ∷ runState C (o .state) (map R.push l)) e ∙ ap (λ (k : List DecoderAnswer). nothing ∷ k) (r .is);
     }
 
-stops : (C D : Setup) {s t : State} {l : List ℕ} (z : ℕ) → C .capacity ≤ D .capacity → Silent D s l t → step C t z ≡ says fresh memory → Stops C s (l ++ z ∷ [])
-stops C D {s = s} z le stop e = stops-here C s z [] e
-stops C D {s = s} z le (push {t = t} {b = b} {l = l} e′ q) e =
-    step-less C D s b le (λ full. stops-here C s b (l ++ z ∷ []) full) (λ same. stops-later C s t b (l ++ z ∷ []) (same ∙ e′) (stops C D z le q e))
+stops-short : (C D : Setup) {s t : State} {l : List ℕ} (z : ℕ) → C .capacity ≤ D .capacity → Silent D s l t → step C t z ≡ says fresh memory → Stops C s (l ++ z ∷ [])
+stops-short C D {s = s} z le stop e = stops-here C s z [] e
+stops-short C D {s = s} z le (silentOn {t = t} {b = b} {l = l} e′ q) e =
+    step-less C D s b le (λ full. stops-here C s b (l ++ z ∷ []) full) (λ same. stops-later C s t b (l ++ z ∷ []) (same ∙ e′) (stops-short C D z le q e))
 
 -- ---- the claim
 
@@ -91,7 +91,7 @@ module _ (C : Setup) (noise raw : ℕ) (frame P : List ℕ) (s : Sound frame P) 
       ap (runState C (search 0 noise raw)) (sym (append-nil (map R.push frame)))
       ∙ sound-decodes C noise raw frame P s room .answers′ []
       ∙ append-nil (frameSays (numbered (noticed noise)) frame P)
-      ∙ ap (λ (a : Answer). frameSays a frame P) (eighth-is noise)
+      ∙ ap (λ (a : DecoderAnswer). frameSays a frame P) (eighth-is noise)
 
   lacks-at : (l : List ℕ) (z : ℕ) → frame ≡ startSeq ++ (l ++ z ∷ []) → Stops C begun (l ++ z ∷ []) → NoRoom noise (runState C (search 0 noise raw) (map R.push frame))
   lacks-at l z shape t =
@@ -102,15 +102,15 @@ module _ (C : Setup) (noise raw : ℕ) (frame P : List ℕ) (s : Sound frame P) 
             ∙ ap (runState C (search 0 noise raw)) (sym (append-nil (map R.push (startSeq ++ (l ++ z ∷ [])))))
             ∙ begun-run C noise raw (l ++ z ∷ []) []
             ∙ ap (λ (k : List Op). replicate 7 nothing ++ numbered (noticed noise) ∷ runState C begun k) (append-nil (map R.push (l ++ z ∷ [])))
-            ∙ ap (λ (k : List Answer). replicate 7 nothing ++ numbered (noticed noise) ∷ k) (t .is)
-            ∙ ap (λ (a : Answer). replicate 7 nothing ++ a ∷ (replicate (t .quiet) nothing ++ refusal 3 [] ∷ t .rest)) (eighth-is noise);
+            ∙ ap (λ (k : List DecoderAnswer). replicate 7 nothing ++ numbered (noticed noise) ∷ k) (t .is)
+            ∙ ap (λ (a : DecoderAnswer). replicate 7 nothing ++ a ∷ (replicate (t .quiet) nothing ++ refusal 3 [] ∷ t .rest)) (eighth-is noise);
       }
 
   lacks : C .capacity < length (s .D) + 4 → NoRoom noise (runState C (search 0 noise raw) (map R.push frame))
   lacks small =
       let B : Setup = sized (length (s .D) + 4) in
       let r = framed-runs B (s .D) (s .p) (s .aligned) (s .small) (s .within) (omega arith) in
-      lacks-at (r .l) (r .z) (s .whole ∙ r .shape) (stops C B (r .z) (omega arith) (r .ends .quietly) (r .ends .full C small))
+      lacks-at (r .l) (r .z) (s .whole ∙ r .shape) (stops-short C B (r .z) (omega arith) (r .ends .quietly) (r .ends .full C small))
 
 -- a sound frame behind a payload is as if from fresh
 framed-done : (C : Setup) (Q D : List ℕ) (p : ℕ) → runState C (done Q) (map R.push (framed D p)) ≡ runState C fresh (map R.push (framed D p))
@@ -118,14 +118,14 @@ unfolding framed closed runState actState answerState step
 framed-done C Q D p = refl
 
 -- what the pushes answer is what they answer from a search, with some raw length
-record From (C : Setup) (noise : ℕ) (l : List ℕ) (heard : List Answer) : Type 0 where
+record From (C : Setup) (noise : ℕ) (l : List ℕ) (heard : List DecoderAnswer) : Type 0 where
   raw : ℕ
   is : heard ≡ runState C (search 0 noise raw) (map R.push l)
 
-from : (C : Setup) (d : Decoder) (m : List ℕ) (noise : ℕ) {frame P : List ℕ} → Sound frame P → Unmatched (d .state) noise → From C noise frame (runState C (stateOf d m) (map R.push frame))
-from C d m noise {frame = frame} s (searching e) =
+heard-from : (C : Setup) (d : Decoder) (m : List ℕ) (noise : ℕ) {frame P : List ℕ} → Sound frame P → Unmatched (d .state) noise → From C noise frame (runState C (stateOf d m) (map R.push frame))
+heard-from C d m noise {frame = frame} s (nothingMatched e) =
     record { raw = d .«raw_msg_len»; is = ap (λ (x : DecodeState). runState C (stateAs x d m) (map R.push frame)) e }
-from C d m noise {frame = frame} s (behindPayload e z) =
+heard-from C d m noise {frame = frame} s (behindPayload e z) =
     record {
       raw = 0;
       is = ap (λ (x : DecodeState). runState C (stateAs x d m) (map R.push frame)) e
@@ -137,7 +137,7 @@ from C d m noise {frame = frame} s (behindPayload e z) =
 
 pub completeness : Completeness ours OurSearch
 completeness C d m noise h frame P s =
-    let t = from C d m noise s (h .searches) in
+    let t = heard-from C d m noise s (h .searches) in
     let f : Fit d m = record { state = h .good; buffer = h .lent } in
     let e : answers ours d m (map R.push frame) ≡ runState C (search 0 noise (t .raw)) (map R.push frame) =
     answers-run (map R.push frame) d m ∙ run-is (map R.push frame) d m f ∙ ap (λ (x : Setup). runState x (stateOf d m) (map R.push frame)) (h .setup′) ∙ t .is in (
@@ -149,7 +149,7 @@ completeness C d m noise h frame P s =
 pub new-searches : (C : Setup) (m : List ℕ) → length m ≡ C .capacity → C .capacity ≤ 1048576 → OurSearch C (newRecord C) m 0
 new-searches C m l le =
     let f = new-fit C m l le in
-    record { searches = searching refl; good = f .state; lent = f .buffer; setup′ = refl }
+    record { searches = nothingMatched refl; good = f .state; lent = f .buffer; setup′ = refl }
 
 -- and so is what operations leave, wherever nothing is matched
 act-searches : (C : Setup) (d : Decoder) (m : List ℕ) (o : Op) (noise : ℕ) → Fit d m → setup d ≡ C

@@ -11,13 +11,13 @@ use Rattle.refusals.specs.Numbers.{inputTooLongNo, limit}
 use Rattle.refusals.specs.Read.{Read, got, refused, eof}
 use Rattle.refusals.specs.declared.Span.{Span}
 use Rattle.common.specs.Fields.{entryAt}
-use Rattle.message.specs.Messages.{MessageStart, ListStart, Body, opened, closed, listed, startAt, listEndAt}
+use Rattle.message.specs.Messages.{MessageStart, ListStart, Body, openBody, closeBody, listBody, startAt, listEndAt}
 use Rattle.trailer.specs.Trailer.{trailerAt}
-use Rattle.streaming.specs.Next.{MessageEvent, starts, entry, ends, Said, event, noEvent, failed, alone}
+use Rattle.streaming.specs.Next.{MessageEvent, startEvent, entryEvent, endEvent, Said, event, noEvent, failed, alone}
 use Rattle.events.specs.Events.{Answers, nth, answer, saysFirst, atStart, inside, entriesFrom, contentFrom, messagesFrom, eventsOf}
 use Rattle.events.specs.Calls.{call}
 use Rattle.events.proofs.Calls.{calls-are-events}
-use Rattle.events.proofs.Lists.{Listing, stops, lists, ended, list-content}
+use Rattle.events.proofs.Lists.{Listing, stops, listsOne, atEnd, list-content}
 use Rattle.marks.specs.Events as E
 use Rattle.marks.specs.Events.{Reader, ourReader, ourParser, saysAt, ReaderGives, Follows, refuses, closes, ListsEntries}
 
@@ -53,32 +53,32 @@ follows-later a e (closes x h) = closes x h
 listing-follows : {n : ℕ} {a : Answers} → Listing n a → Follows (answer a) n 0
 unfolding answer saysFirst nth
 listing-follows (stops f x) = refuses f refl
-listing-follows (lists e {a = a} more) = E.lists e refl (follows-later a (entry e) (listing-follows more))
-listing-follows (ended e a) = closes e refl
+listing-follows (listsOne e {a = a} more) = E.lists e refl (follows-later a (entryEvent e) (listing-follows more))
+listing-follows (atEnd e a) = closes e refl
 
 -- every list start in the answers is followed so
 pub record Listed (a : Answers) : Type 0 where
-  pub listed′ : (k : ℕ) (m : MessageStart Span) (b : ListStart Span) → answer a k ≡ event (starts m) → m .body ≡ listed b → Follows (answer a) (b .count) (suc k)
+  pub listed′ : (k : ℕ) (m : MessageStart Span) (b : ListStart Span) → answer a k ≡ event (startEvent m) → m .body ≡ listBody b → Follows (answer a) (b .count) (suc k)
 
 -- a message start that an answer is
 isStart : Said → Bool
-isStart (event (starts m)) = true
-isStart (event (entry e)) = false
-isStart (event (ends e)) = false
+isStart (event (startEvent m)) = true
+isStart (event (entryEvent e)) = false
+isStart (event (endEvent e)) = false
 isStart noEvent = false
 isStart (failed f) = false
 isStart (alone n) = false
 
 -- the start that an answer is, or else m
 startIn : MessageStart Span → Said → MessageStart Span
-startIn m (event (starts x)) = x
-startIn m (event (entry e)) = m
-startIn m (event (ends e)) = m
+startIn m (event (startEvent x)) = x
+startIn m (event (entryEvent e)) = m
+startIn m (event (endEvent e)) = m
 startIn m noEvent = m
 startIn m (failed f) = m
 startIn m (alone n) = m
 
-no-start : {x : Said} {m : MessageStart Span} {P : Type 0} → isStart x ≡ false → x ≡ event (starts m) → P
+no-start : {x : Said} {m : MessageStart Span} {P : Type 0} → isStart x ≡ false → x ≡ event (startEvent m) → P
 unfolding isStart
 no-start h e = absurd (false≢true (sym h ∙ ap isStart e))
 
@@ -86,7 +86,7 @@ listed-then : (x y : Said) → isStart x ≡ false → isStart y ≡ false → L
 unfolding answer nth
 listed-then x y h g = record { listed′ = by }
   where
-    by : (k : ℕ) (m : MessageStart Span) (b : ListStart Span) → answer (record { first = x ∷ []; later = y }) k ≡ event (starts m) → m .body ≡ listed b
+    by : (k : ℕ) (m : MessageStart Span) (b : ListStart Span) → answer (record { first = x ∷ []; later = y }) k ≡ event (startEvent m) → m .body ≡ listBody b
         → Follows (answer (record { first = x ∷ []; later = y })) (b .count) (suc k)
     by zero m b e f = no-start h e
     by (suc k) m b e f = no-start g e
@@ -99,17 +99,17 @@ listed-says : (v : MessageEvent Span) (a : Answers) → isStart (event v) ≡ fa
 unfolding answer nth saysFirst
 listed-says v a h g = record { listed′ = by }
   where
-    by : (k : ℕ) (m : MessageStart Span) (b : ListStart Span) → answer (saysFirst v a) k ≡ event (starts m) → m .body ≡ listed b → Follows (answer (saysFirst v a)) (b .count) (suc k)
+    by : (k : ℕ) (m : MessageStart Span) (b : ListStart Span) → answer (saysFirst v a) k ≡ event (startEvent m) → m .body ≡ listBody b → Follows (answer (saysFirst v a)) (b .count) (suc k)
     by zero m b e f = no-start h e
     by (suc k) m b e f = follows-later a v (g .listed′ k m b e f)
 
-listed-starts : (x : MessageStart Span) (a : Answers) → ((b : ListStart Span) → x .body ≡ listed b → Follows (answer a) (b .count) 0) → Listed a → Listed (saysFirst (starts x) a)
+listed-starts : (x : MessageStart Span) (a : Answers) → ((b : ListStart Span) → x .body ≡ listBody b → Follows (answer a) (b .count) 0) → Listed a → Listed (saysFirst (startEvent x) a)
 unfolding answer nth saysFirst startIn
 listed-starts x a h g = record { listed′ = by }
   where
-    by : (k : ℕ) (m : MessageStart Span) (b : ListStart Span) → answer (saysFirst (starts x) a) k ≡ event (starts m) → m .body ≡ listed b → Follows (answer (saysFirst (starts x) a)) (b .count) (suc k)
-    by zero m b e f = follows-later a (starts x) (h b (ap (λ (s : Said). startIn x s .body) e ∙ f))
-    by (suc k) m b e f = follows-later a (starts x) (g .listed′ k m b e f)
+    by : (k : ℕ) (m : MessageStart Span) (b : ListStart Span) → answer (saysFirst (startEvent x) a) k ≡ event (startEvent m) → m .body ≡ listBody b → Follows (answer (saysFirst (startEvent x) a)) (b .count) (suc k)
+    by zero m b e f = follows-later a (startEvent x) (h b (ap (λ (s : Said). startIn x s .body) e ∙ f))
+    by (suc k) m b e f = follows-later a (startEvent x) (g .listed′ k m b e f)
 
 listed-inside : {A : Type 0} (end : ℕ) (r : Read A) (k : A → ℕ → Answers) → ((x : A) (n : ℕ) → Listed (k x n)) → Listed (inside end r k)
 unfolding inside isStart
@@ -124,13 +124,13 @@ listed-at-start (refused f) k h = listed-then (failed f) noEvent refl refl
 listed-entries : (c : ℕ) (s : List ℕ) (at : ℕ) (k : ℕ → Answers) → ((n : ℕ) → Listed (k n)) → Listed (entriesFrom c s at k)
 unfolding entriesFrom isStart
 listed-entries zero s at k h = h at
-listed-entries (suc c) s at k h = listed-inside (length s) (entryAt s at) _ (λ e n. listed-says (entry e) _ refl (listed-entries c s n k h))
+listed-entries (suc c) s at k h = listed-inside (length s) (entryAt s at) _ (λ e n. listed-says (entryEvent e) _ refl (listed-entries c s n k h))
 
 listed-content : (b : Body Span) (s : List ℕ) (at : ℕ) (k : ℕ → Answers) → ((n : ℕ) → Listed (k n)) → Listed (contentFrom b s at k)
 unfolding contentFrom isStart
-listed-content (opened b) s at k h = h at
-listed-content (closed b) s at k h = h at
-listed-content (listed b) s at k h = listed-entries (b .count) s at _ (λ n. listed-inside (length s) (listEndAt s n) _ (λ e m. listed-says (ends e) _ refl (h m)))
+listed-content (openBody b) s at k h = h at
+listed-content (closeBody b) s at k h = h at
+listed-content (listBody b) s at k h = listed-entries (b .count) s at _ (λ n. listed-inside (length s) (listEndAt s n) _ (λ e m. listed-says (endEvent e) _ refl (h m)))
 
 listed-messages : (many : ℕ) (s : List ℕ) (at : ℕ) → Listed (messagesFrom many s at)
 unfolding messagesFrom isStart

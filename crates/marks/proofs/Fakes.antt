@@ -13,7 +13,7 @@ use Rattle.encoder.specs.Encode.{encodeTo}
 use Rattle.encoder.specs.Encoder.{NextAnswer, byte, finished}
 use Rattle.encoder.specs.Encoder as N
 use Rattle.decoder.specs.Push.{sized, searching, store, same, finish, judge, step, finalized}
-use Rattle.decoder.specs.Record.{Answer, nothing, payload, count, refusal, wrote, badDecoder, wrongBuffer, pushed, pushRecord, finalizeRecord, newRecord, hasPayload, payloadRecord}
+use Rattle.decoder.specs.Record.{DecoderAnswer, nothing, payload, count, refusal, wrote, badDecoder, wrongBuffer, pushed, pushRecord, finalizeRecord, newRecord, hasPayload, payloadRecord}
 use Rattle.decoder.specs.Run.{push, act}
 use Rattle.decoder.specs.declared.Setup.{Setup}
 use Rattle.refusals.specs.Read.{then, guard, need, byteAt, spanAt}
@@ -24,40 +24,40 @@ use Rattle.octet_string.specs.Optional.{absentAt, optional}
 use Rattle.value.specs.Values.{timeAt, statusOf, statusAt, signedValue, unsignedValue, listTypeAt, valueOf, valueAt}
 use Rattle.common.specs.Fields.{entryAt}
 use Rattle.message.specs.Messages.{listStartAt, contentAt, bodyAt, startAt}
-use Rattle.streaming.specs.Next.{Said, event, starts, entry, ends, noEvent, failed, alone, onward, beginAt, entryNext, stepAt, nextAt}
+use Rattle.streaming.specs.Next.{Said, event, startEvent, entryEvent, endEvent, noEvent, failed, alone, onward, beginAt, entryNext, stepAt, nextAt}
 use Rattle.events.specs.Events.{nth, answer, saysFirst, atStart, inside, entriesFrom, contentFrom, messagesFrom, eventsOf}
 use Rattle.marks.specs.Decoders.{answers, behindOf, countFrom, ours}
 use Rattle.marks.specs.Mark2.{PushesBytes, Soundness, Completeness, OurSearch}
 use Rattle.marks.specs.Mark3.{Job, framesFor, restSays, Mark3, Suits}
 use Rattle.marks.specs.Encoders.{callsOf, SameBytes}
-use Rattle.marks.specs.Bench.{Outcome, encoded, events, field, string, signed, unsigned, saidFrom, Holds, payload1, frame1, b1, b2, b3, b6}
+use Rattle.marks.specs.Bench.{Outcome, sheetEncoded, sheetEvents, sheetField, sheetString, sheetSigned, sheetUnsigned, saidFrom, Holds, payload1, frame1, b1, b2, b3, b6}
 use Rattle.marks.specs.Events as Ev
 use Rattle.marks.specs.Events.{saysAt, ReaderGives, Follows, ListsEntries}
-use Rattle.marks.specs.Fakes.{refuses, constant, idle, invents, once, writesNothing, refusesToEncode, finishedAtOnce, withoutEvents, noEntries, Fall}
+use Rattle.marks.specs.Fakes.{refusesAll, constant, idle, invents, once, writesNothing, refusesToEncode, finishedAtOnce, withoutEvents, noEntries, Fall}
 use Rattle.marks.proofs.Completeness.{new-searches}
 
 -- a number for an answer, in which the fakes differ from what is claimed
-code : Answer → ℕ
-code nothing = 0
-code (payload bytes) = 1000 + getD bytes 0 0
-code (count k) = 2000
-code (refusal k values) = 3000 + getD values 0 0
+answerCode : DecoderAnswer → ℕ
+answerCode nothing = 0
+answerCode (payload bytes) = 1000 + getD bytes 0 0
+answerCode (count k) = 2000
+answerCode (refusal k values) = 3000 + getD values 0 0
 
 -- the number of the answer at a place
-codeAt : ℕ → List Answer → ℕ
+codeAt : ℕ → List DecoderAnswer → ℕ
 codeAt n [] = 0
-codeAt zero (a ∷ l) = code a
+codeAt zero (a ∷ l) = answerCode a
 codeAt (suc n) (a ∷ l) = codeAt n l
 
 -- the same of a bench row's outcome: its first event, or the first byte of the output
 codeOf : Outcome → ℕ
-codeOf (encoded l) = getD (l .output) 0 0
-codeOf (events []) = 0
-codeOf (events (s ∷ more)) = code (s .answer)
-codeOf (field r) = 0
-codeOf (string r) = 0
-codeOf (signed r) = 0
-codeOf (unsigned r) = 0
+codeOf (sheetEncoded l) = getD (l .output) 0 0
+codeOf (sheetEvents []) = 0
+codeOf (sheetEvents (s ∷ more)) = answerCode (s .answer)
+codeOf (sheetField r) = 0
+codeOf (sheetString r) = 0
+codeOf (sheetSigned r) = 0
+codeOf (sheetUnsigned r) = 0
 
 -- capacity 8, its thirteen zero bytes, and B1's payload: the eighth byte's answer is at place 20, the last one's at 32
 abbrev C : Setup
@@ -73,16 +73,16 @@ frame-is : frameOf payload1 ≡ frame1
 unfolding reflect polynomial bitStep bitSteps byteStep register finalXor crcOf escaped closed frameOf
 frame-is = refl
 
-room : length (frameOf payload1) ≤ length (job .output)
-room = let e : length (frameOf payload1) ≡ 20 = ap length frame-is in omega arith
+roomLeft : length (frameOf payload1) ≤ length (job .output)
+roomLeft = let e : length (frameOf payload1) ≡ 20 = ap length frame-is in omega arith
 
 suits : Suits C job
-suits = (omega arith, room)
+suits = (omega arith, roomLeft)
 
 -- ---- rows of the bench sheet
 
-refuses-b3 : Holds refuses encodeTo b3 → ⊥
-unfolding codeOf code answers saidFrom
+refuses-b3 : Holds refusesAll encodeTo b3 → ⊥
+unfolding codeOf answerCode answers saidFrom
 refuses-b3 h = let z : _≡_ {A = ℕ} 3000 1018 = ap codeOf h in omega arith
 
 refuses-b1 : Holds ours refusesToEncode b1 → ⊥
@@ -98,7 +98,7 @@ unfolding codeOf
 writes-nothing-b1 h = let z : _≡_ {A = ℕ} 0xff 0x1b = ap codeOf h in omega arith
 
 invents-b6 : Holds invents encodeTo b6 → ⊥
-unfolding codeOf code answers saidFrom reflect polynomial bitStep bitSteps byteStep register finalXor crcOf searching store same finish judge step finalized wrote badDecoder wrongBuffer pushed pushRecord finalizeRecord act
+unfolding codeOf answerCode answers saidFrom reflect polynomial bitStep bitSteps byteStep register finalXor crcOf searching store same finish judge step finalized wrote badDecoder wrongBuffer pushed pushRecord finalizeRecord act
 invents-b6 h = let z : _≡_ {A = ℕ} 3002 3001 = ap codeOf h in omega arith
 
 -- ---- mark 2
@@ -108,7 +108,7 @@ unfolding reflect polynomial bitStep bitSteps byteStep register finalXor crcOf e
 sound1 = record { D = payload1; p = 0; whole = refl; aligned = refl; small = omega arith; within = omega arith; cut = refl }
 
 idle-mark2 : Completeness idle OurSearch → ⊥
-unfolding codeAt code answers sound1
+unfolding codeAt answerCode answers sound1
 idle-mark2 h =
     let e = h C (newRecord C) zeros 0 (new-searches C zeros refl (omega arith)) frame1 payload1 sound1 .0 (omega arith) in
     let z : _≡_ {A = ℕ} 0 1018 = ap (codeAt 19) e in
@@ -133,29 +133,29 @@ constant-mark2 h =
 
 -- ---- mark 3
 
-refuses-mark3 : Mark3 refuses encodeTo → ⊥
-unfolding codeAt code answers framesFor restSays countFrom reflect polynomial bitStep bitSteps byteStep register finalXor crcOf escaped closed frameOf encodeTo
+refuses-mark3 : Mark3 refusesAll encodeTo → ⊥
+unfolding codeAt answerCode answers framesFor restSays countFrom reflect polynomial bitStep bitSteps byteStep register finalXor crcOf escaped closed frameOf encodeTo
 refuses-mark3 h =
     let e = h C zeros refl (omega arith) [] job [] (suits, tt) in
     let z : _≡_ {A = ℕ} 3000 1018 = ap (codeAt 32) e in
     omega arith
 
 constant-mark3 : Mark3 constant encodeTo → ⊥
-unfolding codeAt code answers framesFor restSays countFrom reflect polynomial bitStep bitSteps byteStep register finalXor crcOf escaped closed frameOf encodeTo searching store same finish judge step finalized wrote badDecoder wrongBuffer pushed pushRecord finalizeRecord act
+unfolding codeAt answerCode answers framesFor restSays countFrom reflect polynomial bitStep bitSteps byteStep register finalXor crcOf escaped closed frameOf encodeTo searching store same finish judge step finalized wrote badDecoder wrongBuffer pushed pushRecord finalizeRecord act
 constant-mark3 h =
     let e = h C zeros refl (omega arith) [] job [] (suits, tt) in
     let z : _≡_ {A = ℕ} 1042 1018 = ap (codeAt 32) e in
     omega arith
 
 idle-mark3 : Mark3 idle encodeTo → ⊥
-unfolding codeAt code answers framesFor restSays countFrom reflect polynomial bitStep bitSteps byteStep register finalXor crcOf escaped closed frameOf encodeTo
+unfolding codeAt answerCode answers framesFor restSays countFrom reflect polynomial bitStep bitSteps byteStep register finalXor crcOf escaped closed frameOf encodeTo
 idle-mark3 h =
     let e = h C zeros refl (omega arith) [] job [] (suits, tt) in
     let z : _≡_ {A = ℕ} 0 1018 = ap (codeAt 32) e in
     omega arith
 
 invents-mark3 : Mark3 invents encodeTo → ⊥
-unfolding codeAt code answers framesFor restSays countFrom reflect polynomial bitStep bitSteps byteStep register finalXor crcOf escaped closed frameOf encodeTo searching store same finish judge step finalized wrote badDecoder wrongBuffer pushed pushRecord finalizeRecord act
+unfolding codeAt answerCode answers framesFor restSays countFrom reflect polynomial bitStep bitSteps byteStep register finalXor crcOf escaped closed frameOf encodeTo searching store same finish judge step finalized wrote badDecoder wrongBuffer pushed pushRecord finalizeRecord act
 invents-mark3 h =
     let e = h C zeros refl (omega arith) [] job [] (suits, tt) in
     let z : _≡_ {A = ℕ} 3014 3013 = ap (codeAt 20) e in
@@ -163,7 +163,7 @@ invents-mark3 h =
 
 -- the second frame's last byte is at place 52
 once-mark3 : Mark3 once encodeTo → ⊥
-unfolding codeAt code answers framesFor restSays countFrom reflect polynomial bitStep bitSteps byteStep register finalXor crcOf escaped closed frameOf encodeTo searching store same finish judge step finalized wrote badDecoder wrongBuffer pushed pushRecord finalizeRecord act
+unfolding codeAt answerCode answers framesFor restSays countFrom reflect polynomial bitStep bitSteps byteStep register finalXor crcOf escaped closed frameOf encodeTo searching store same finish judge step finalized wrote badDecoder wrongBuffer pushed pushRecord finalizeRecord act
 once-mark3 h =
     let e = h C zeros refl (omega arith) [] job (job ∷ []) (suits, (suits, tt)) in
     let z : _≡_ {A = ℕ} 1000 1018 = ap (codeAt 52) e in
@@ -171,7 +171,7 @@ once-mark3 h =
 
 -- no frame is pushed, so no event comes
 writes-nothing-mark3 : Mark3 ours writesNothing → ⊥
-unfolding codeAt code answers framesFor restSays countFrom reflect polynomial bitStep bitSteps byteStep register finalXor crcOf searching store same finish judge step finalized wrote badDecoder wrongBuffer pushed pushRecord finalizeRecord act
+unfolding codeAt answerCode answers framesFor restSays countFrom reflect polynomial bitStep bitSteps byteStep register finalXor crcOf searching store same finish judge step finalized wrote badDecoder wrongBuffer pushed pushRecord finalizeRecord act
 writes-nothing-mark3 h =
     let e = h C zeros refl (omega arith) [] job [] (suits, tt) in
     let z : _≡_ {A = ℕ} 0 3013 = ap (codeAt 20) e in
@@ -179,17 +179,17 @@ writes-nothing-mark3 h =
 
 -- ---- the Encoder
 
-isByte : List NextAnswer → ℕ
-isByte [] = 0
-isByte (byte b ∷ l) = 1
-isByte (finished ∷ l) = 0
-isByte (N.noByte k ∷ l) = 0
+firstIsByte : List NextAnswer → ℕ
+firstIsByte [] = 0
+firstIsByte (byte b ∷ l) = 1
+firstIsByte (finished ∷ l) = 0
+firstIsByte (N.noByte k ∷ l) = 0
 
 finished-at-once : SameBytes finishedAtOnce encodeTo → ⊥
-unfolding isByte callsOf reflect polynomial bitStep bitSteps byteStep register finalXor crcOf escaped closed frameOf encodeTo
+unfolding firstIsByte callsOf reflect polynomial bitStep bitSteps byteStep register finalXor crcOf escaped closed frameOf encodeTo
 finished-at-once h =
-    let e = h job (omega arith) room .1 0 in
-    let z : _≡_ {A = ℕ} 0 1 = ap isByte e in
+    let e = h job (omega arith) roomLeft .1 0 in
+    let z : _≡_ {A = ℕ} 0 1 = ap firstIsByte e in
     omega arith
 
 -- ---- message events
@@ -200,9 +200,9 @@ message = 0x76 ∷ 0x02 ∷ 0x07 ∷ 0x62 ∷ 0x00 ∷ 0x62 ∷ 0x00 ∷ 0x72 �
 
 -- a number for what a call says
 saidCode : Said → ℕ
-saidCode (event (starts m)) = 1
-saidCode (event (entry e)) = 2
-saidCode (event (ends e)) = 3
+saidCode (event (startEvent m)) = 1
+saidCode (event (entryEvent e)) = 2
+saidCode (event (endEvent e)) = 3
 saidCode noEvent = 0
 saidCode (failed f) = 4
 saidCode (alone n) = 5

@@ -11,11 +11,11 @@ use borrow.Author.Tests.{ne-eqb, le-leb}
 use lib.Dec.{ltb}
 use Rattle.frame.specs.Frame.{restartSeq, frameOf, closed}
 use Rattle.decoder.specs.Push.{Mem, State, search, body, escape, done, silent, memory, Out, searching, says, put, starts, step, noticed, fresh, stopped}
-use Rattle.decoder.specs.Record.{Answer, nothing, payload, count, refusal, numbered, newRecord}
+use Rattle.decoder.specs.Record.{DecoderAnswer, nothing, payload, count, refusal, numbered, newRecord}
 use Rattle.decoder.specs.Run.{Op, push, finalize, reset, act, run}
 use Rattle.decoder.proofs.States.{runState, stateBehind, actState, answerState}
 use Rattle.decoder.specs.Saw as W
-use Rattle.decoder.specs.Saw.{Judged, is-data, restarts, good, bad, shifts, Saw, sought, began, again, waits, opens, stores, full, reads, judges, full′}
+use Rattle.decoder.specs.Saw.{Judged, is-data, restarts, good, bad, shifts, Saw, sought, began, again, waits, opens, stores, full, collects, judges, full′}
 use Rattle.decoder.proofs.Saw.{saw}
 use Rattle.decoder.proofs.Faithful.{contents}
 use Rattle.decoder.proofs.Runs.{run-new}
@@ -34,18 +34,18 @@ use Rattle.marks.proofs.RoundTrip.{round-trip}
 -- ---- n bytes were pushed since the last event
 
 -- one more byte, with its answer
-abbrev tally : Answer → ℕ → ℕ
+abbrev tally : DecoderAnswer → ℕ → ℕ
 tally nothing n = suc n
 tally (payload bytes) n = 0
 tally (count k) n = 0
 tally (refusal k values) n = 0
 
-abbrev tallyOp : Op → Answer → ℕ → ℕ
+abbrev tallyOp : Op → DecoderAnswer → ℕ → ℕ
 tallyOp (push b) a n = tally a n
 tallyOp finalize a n = 0
 tallyOp reset a n = 0
 
-count-cons : (n : ℕ) (o : Op) (a : Answer) (os : List Op) (more : List Answer) → countFrom n (o ∷ os) (a ∷ more) ≡ countFrom (tallyOp o a n) os more
+count-cons : (n : ℕ) (o : Op) (a : DecoderAnswer) (os : List Op) (more : List DecoderAnswer) → countFrom n (o ∷ os) (a ∷ more) ≡ countFrom (tallyOp o a n) os more
 unfolding countFrom
 count-cons n (push b) nothing os more = refl
 count-cons n (push b) (payload bytes) os more = refl
@@ -77,7 +77,7 @@ same-saw C n h s b o e (waits f ne) = tt
 same-saw C n h s b o e (opens f g) = tt
 same-saw C n h s b o e (stores ne fit) = tt
 same-saw C n h s b o e (full ne f) = refl
-same-saw C n h s b o e (reads fit lt) = tt
+same-saw C n h s b o e (collects fit lt) = tt
 same-saw C n h s b o e (judges {m = m} fit ge j) = same-judged n h b (put m (b ∷ [])) _ o j
 same-saw C n h s b o e (full′ f) = refl
 
@@ -102,13 +102,13 @@ heard-act C n s finalize k = heard-fresh C
 heard-act C n s reset k = heard-fresh C
 
 -- of which mark 3 needs
-abbrev Ok : Setup → ℕ → State → Type 0
-Ok C n (search k noise raw) = (k ≤ n) × (noise ≡ stopped (n - k))
-Ok C n (body r m) = length (m .stored) ≤ C .capacity
-Ok C n (escape k m) = length (m .stored) ≤ C .capacity
-Ok C n (done P) = n ≡ 0
+abbrev RoomKept : Setup → ℕ → State → Type 0
+RoomKept C n (search k noise raw) = (k ≤ n) × (noise ≡ stopped (n - k))
+RoomKept C n (body r m) = length (m .stored) ≤ C .capacity
+RoomKept C n (escape k m) = length (m .stored) ≤ C .capacity
+RoomKept C n (done P) = n ≡ 0
 
-ok : (C : Setup) (n : ℕ) (s : State) → Heard C n s → Ok C n s
+ok : (C : Setup) (n : ℕ) (s : State) → Heard C n s → RoomKept C n s
 ok C n (search j noise raw) k =
     let c = reads-counted C (k .since) (search j noise raw) (k .reads′) in
     let e : n ≡ length (k .since) = k .same′ in
@@ -168,7 +168,7 @@ moved C s b o z i (waits e ne) = absurd (omega arith)
 moved C s b o z i (opens e f) = absurd (omega arith)
 moved C s b o z i (stores ne fit) = simp length-append (omega arith)
 moved C s b o z i (full ne h) = refl
-moved C s b o z i (reads fit lt) = simp length-append (omega arith)
+moved C s b o z i (collects fit lt) = simp length-append (omega arith)
 moved C s b o z i (judges {m = m} fit ge j) =
     moved-judged C (length (m .stored)) (put m (b ∷ [])) _ o (simp length-append (omega arith)) (subst (λ (x : ℕ). drop (length (m .stored ++ x ∷ []) - 4) (m .stored ++ x ∷ []) ≡ restartSeq → ⊥) (sym z) (not-restartSeq (m .stored))) j
 moved C s b o z i (full′ h) = refl
@@ -194,7 +194,7 @@ search-zero : (n noise raw : ℕ) → searching n noise raw 0 ≡ says (search 0
 unfolding searching
 search-zero n noise raw = rw (starts-zero n, ne-eqb 0 (suc n) (λ e. omega arith), sub-zero)
 
-near-step : (C : Setup) (k n : ℕ) (s : State) → Ok C n s → Near C (suc k) n s → Near C k (tally (numbered ((step C s 0) .event)) n) ((step C s 0) .state)
+near-step : (C : Setup) (k n : ℕ) (s : State) → RoomKept C n s → Near C (suc k) n s → Near C k (tally (numbered ((step C s 0) .event)) n) ((step C s 0) .state)
 unfolding step searching
 near-step C k n (search j noise raw) ok h = rw (search-zero j noise raw) (omega arith, λ e. refl)
 near-step C k n (body r m) ok h = near-from C k (length (m .stored)) (tally (numbered ((step C (body r m) 0) .event)) n) ((step C (body r m) 0) .state) (moved C (body r m) 0 (step C (body r m) 0) refl tt (saw C (body r m) 0)) ok h
@@ -227,7 +227,7 @@ settle C (suc k) n s b h =
     searching-cons C s n (push 0) (replicate k (push 0))
     (settle C k (tally (numbered ((step C s 0) .event)) n) ((step C s 0) .state) (heard-act C n s (push 0) b) (near-step C k n s (ok C n s b) h))
 
-near : (C : Setup) (n : ℕ) (s : State) → Ok C n s → Near C (C .capacity + 5) n s
+near : (C : Setup) (n : ℕ) (s : State) → RoomKept C n s → Near C (C .capacity + 5) n s
 near C n (search j noise raw) ok = (omega arith, λ e. absurd (omega arith))
 near C n (body r m) ok = omega arith
 near C n (escape j m) ok = omega arith
@@ -242,10 +242,10 @@ recovers C (o ∷ os) s n k =
 
 -- ---- several frames
 
-run-append : (C : Setup) (a b : List Op) (s : State) → runState C s (a ++ b) ≡ runState C s a ++ runState C (stateBehind C s a) b
+run-state-append : (C : Setup) (a b : List Op) (s : State) → runState C s (a ++ b) ≡ runState C s a ++ runState C (stateBehind C s a) b
 unfolding runState stateBehind
-run-append C [] b s = refl
-run-append C (o ∷ a) b s = ap (λ (l : List Answer). answerState C s o ∷ l) (run-append C a b (actState C s o))
+run-state-append C [] b s = refl
+run-state-append C (o ∷ a) b s = ap (λ (l : List DecoderAnswer). answerState C s o ∷ l) (run-state-append C a b (actState C s o))
 
 map-push : (a b : List ℕ) → map push (a ++ b) ≡ map push a ++ map push b
 map-push [] b = refl
@@ -281,7 +281,7 @@ module _ (C : Setup) (small : C .capacity ≤ 1048576) where
   rest-says (j ∷ js) P fit =
       ap (runState C (done P)) (frames-cons j js (fit .0)) ∙ after-done C P (j .payload) (map push (framesFor encodeTo js))
       ∙ round-trip C 0 0 (j .payload) (fit .0 .0) .answers′ (map push (framesFor encodeTo js))
-      ∙ ap (λ (l : List Answer). frameSays nothing (frameOf (j .payload)) (j .payload) ++ l) (rest-says js (j .payload) (fit .1))
+      ∙ ap (λ (l : List DecoderAnswer). frameSays nothing (frameOf (j .payload)) (j .payload) ++ l) (rest-says js (j .payload) (fit .1))
       ∙ ap (λ (f : List ℕ). frameSays nothing f (j .payload) ++ restSays encodeTo js) (sym (wrote-is C j small (fit .0)))
 
   first-says : (n raw : ℕ) (j : Job) (js : List Job) → 1 ≤ n → AllSuit C (j ∷ js)
@@ -290,8 +290,8 @@ module _ (C : Setup) (small : C .capacity ≤ 1048576) where
   first-says n raw j js pos fit =
       ap (runState C (search 0 (stopped n) raw)) (frames-cons j js (fit .0))
       ∙ round-trip C (stopped n) raw (j .payload) (fit .0 .0) .answers′ (map push (framesFor encodeTo js))
-      ∙ ap (λ (l : List Answer). frameSays (numbered (noticed (stopped n))) (frameOf (j .payload)) (j .payload) ++ l) (rest-says js (j .payload) (fit .1))
-      ∙ ap (λ (a : Answer). frameSays a (frameOf (j .payload)) (j .payload) ++ restSays encodeTo js) noisy
+      ∙ ap (λ (l : List DecoderAnswer). frameSays (numbered (noticed (stopped n))) (frameOf (j .payload)) (j .payload) ++ l) (rest-says js (j .payload) (fit .1))
+      ∙ ap (λ (a : DecoderAnswer). frameSays a (frameOf (j .payload)) (j .payload) ++ restSays encodeTo js) noisy
       ∙ ap (λ (f : List ℕ). frameSays (refusal 6 (stopped n ∷ [])) f (j .payload) ++ restSays encodeTo js) (sym (wrote-is C j small (fit .0)))
     where
       noisy : numbered (noticed (stopped n)) ≡ refusal 6 (stopped n ∷ [])
@@ -302,7 +302,7 @@ module _ (C : Setup) (small : C .capacity ≤ 1048576) where
 pub answers-run : (os : List Op) (d : Decoder) (m : List ℕ) → answers ours d m os ≡ run d m os
 unfolding answers run
 answers-run [] d m = refl
-answers-run (o ∷ os) d m = ap (λ (l : List Answer). act d m o .answer ∷ l) (answers-run os (act d m o .decoder) (act d m o .memory))
+answers-run (o ∷ os) d m = ap (λ (l : List DecoderAnswer). act d m o .answer ∷ l) (answers-run os (act d m o .decoder) (act d m o .memory))
 
 pub answers-new : (C : Setup) (m : List ℕ) (os : List Op) → length m ≡ C .capacity → C .capacity ≤ 1048576 → answers ours (ours .new C) m os ≡ runState C fresh os
 answers-new C m os l le = answers-run os (newRecord C) m ∙ run-new C m os l le
@@ -311,10 +311,10 @@ pub mark3 : Mark3 ours encodeTo
 mark3 C m l le before j js fit =
     let os : List Op = before ++ replicate (C .capacity + 5) (push 0) in
     let fs : List Op = map push (framesFor encodeTo (j ∷ js)) in
-    let heard : List Answer = answers ours (ours .new C) m os in
+    let heard : List DecoderAnswer = answers ours (ours .new C) m os in
     let same : heard ≡ runState C fresh os = answers-new C m os l le in
     let t : Searching C fresh 0 os = recovers C before fresh 0 (heard-fresh C) in
-    answers-new C m (os ++ fs) l le ∙ run-append C os fs fresh
+    answers-new C m (os ++ fs) l le ∙ run-state-append C os fs fresh
     ∙ ap (λ (s : State). runState C fresh os ++ runState C s fs) (t .state′)
-    ∙ ap (λ (l : List Answer). runState C fresh os ++ l) (first-says C le (countFrom 0 os (runState C fresh os)) (t .raw) j js (t .some) fit)
-    ∙ ap (λ (h : List Answer). h ++ (frameSays (refusal 6 (stopped (countSince os h) ∷ [])) (wroteFor encodeTo j) (j .payload) ++ restSays encodeTo js)) (sym same)
+    ∙ ap (λ (l : List DecoderAnswer). runState C fresh os ++ l) (first-says C le (countFrom 0 os (runState C fresh os)) (t .raw) j js (t .some) fit)
+    ∙ ap (λ (h : List DecoderAnswer). h ++ (frameSays (refusal 6 (stopped (countSince os h) ∷ [])) (wroteFor encodeTo j) (j .payload) ++ restSays encodeTo js)) (sym same)

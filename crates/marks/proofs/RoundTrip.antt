@@ -11,7 +11,7 @@ use Rattle.crc_x25.specs.Crc.{register, finalXor, crcOf}
 use Rattle.crc_x25.proofs.Laws.{register-append, register-none, crc-is}
 use Rattle.frame.specs.Frame.{Sound, missing, escSeq, startSeq, escaped, closed, framed, frameOf, runBehind}
 use Rattle.decoder.specs.Push.{Mem, State, search, body, escape, done, silent, paysOut, Out, begun, searching, says, put, tick, opened, store, same, judge, finish, computed, step, noticed, fresh, memory}
-use Rattle.decoder.specs.Record.{Answer, nothing, payload, numbered}
+use Rattle.decoder.specs.Record.{DecoderAnswer, nothing, payload, numbered}
 use Rattle.decoder.specs.Run as R
 use Rattle.decoder.specs.Run.{Op}
 use Rattle.decoder.proofs.States.{runState, actState, answerState}
@@ -19,7 +19,7 @@ use Rattle.decoder.specs.declared.Setup.{Setup}
 use Rattle.marks.specs.Decoders.{frameSays}
 use Rattle.frame.proofs.Cases.{either}
 use Rattle.frame.proofs.Escapes.{swap-escSeq, run-le, escaped-append, escaped-zeros, escaped-other, run-other, escaped-wait, run-wait}
-use Rattle.marks.proofs.Rules.{Silent, stop, push, andThen, step-other, step-wait, step-open, step-read, step-judge, silent-run, nothings}
+use Rattle.marks.proofs.Rules.{Silent, stop, silentOn, andThen, step-other, step-wait, step-open, step-read, step-judge, silent-run, nothings}
 use Rattle.marks.proofs.Inside.{InsideFrame, begins, inside-other, inside-wait}
 use Rattle.since.proofs.Lists.{computed-is, trimmed}
 
@@ -36,11 +36,11 @@ silent-quad C m fit =
     let m₁ : Mem = put m₀ (0x1b ∷ []) in
     let m₂ : Mem = put m₁ (0x1b ∷ []) in
     let m₃ : Mem = put m₂ (0x1b ∷ []) in
-    push (step-open C m)
-    (push (step-read C m₀ 0 0x1b (omega arith) (omega arith))
-    (push (step-read C m₁ 1 0x1b (omega arith) (simp length-append (omega arith)))
-    (push (step-read C m₂ 2 0x1b (omega arith) (simp length-append (omega arith)))
-    (push (step-judge C m₃ (m .stored) 0x1b 0x1b 0x1b 0x1b (simp append-assoc) (simp length-append (omega arith))) stop))))
+    silentOn (step-open C m)
+    (silentOn (step-read C m₀ 0 0x1b (omega arith) (omega arith))
+    (silentOn (step-read C m₁ 1 0x1b (omega arith) (simp length-append (omega arith)))
+    (silentOn (step-read C m₂ 2 0x1b (omega arith) (simp length-append (omega arith)))
+    (silentOn (step-judge C m₃ (m .stored) 0x1b 0x1b 0x1b 0x1b (simp append-assoc) (simp length-append (omega arith))) stop))))
 
 inside-quad : (m : Mem) (D h : List ℕ) → InsideFrame 3 m D h → InsideFrame 0 (quad m) (D ++ 0x1b ∷ []) (h ++ 0x1b ∷ escSeq)
 unfolding quad
@@ -81,10 +81,10 @@ feed C (b ∷ p) r m D h le c fit =
     (fed-cons C 3 0 m (quad m) D h (0x1b ∷ escSeq) p _ 0x1b _ (silent-quad C m (omega arith))
     (feed C p 0 (quad m) _ _ (omega arith) (inside-quad m D h (rw f at c)) (fit′ 0x1b))))
     (λ n. subst₂ (λ (l : List ℕ) (k : ℕ). Fed C r m D h (0x1b ∷ p) l k) (sym (escaped-wait r p n)) (sym (run-wait r p n))
-    (fed-cons C r (suc r) m _ D h (0x1b ∷ []) p _ 0x1b _ (push (step-wait C m r n) stop)
+    (fed-cons C r (suc r) m _ D h (0x1b ∷ []) p _ 0x1b _ (silentOn (step-wait C m r n) stop)
     (feed C p (suc r) _ _ _ (omega arith) (inside-wait r m D h c) (fit′ 0x1b))))))
     (λ n. subst₂ (λ (l : List ℕ) (k : ℕ). Fed C r m D h (b ∷ p) l k) (sym (escaped-other r b p n)) (sym (run-other r b p n))
-    (fed-cons C r 0 m _ D h (b ∷ []) p _ b _ (push (step-other C m r b n (omega arith)) stop)
+    (fed-cons C r 0 m _ D h (b ∷ []) p _ b _ (silentOn (step-other C m r b n (omega arith)) stop)
     (feed C p 0 _ _ _ (omega arith) (inside-other r m D h c b) (fit′ b))))
 
 -- ---- the end sequence
@@ -103,11 +103,11 @@ puts : Mem → List ℕ → Mem
 puts m [] = m
 puts m (b ∷ l) = puts (put m (b ∷ [])) l
 
-reads : (C : Setup) (l : List ℕ) (m : Mem) (k k′ : ℕ) → k + length l ≡ k′ → k′ ≤ 3 → length (m .stored) + length l ≤ C .capacity → Silent C (escape k m) l (escape k′ (puts m l))
+reads-back : (C : Setup) (l : List ℕ) (m : Mem) (k k′ : ℕ) → k + length l ≡ k′ → k′ ≤ 3 → length (m .stored) + length l ≤ C .capacity → Silent C (escape k m) l (escape k′ (puts m l))
 unfolding puts
-reads C [] m k k′ e le fit = subst (λ (n : ℕ). Silent C (escape k m) [] (escape n m)) (let f : k ≡ k′ = omega arith in f) stop
-reads C (b ∷ l) m k k′ e le fit =
-    push (step-read C m k b (omega arith) (omega arith)) (reads C l (put m (b ∷ [])) (suc k) k′ (omega arith) le (simp length-append (omega arith)))
+reads-back C [] m k k′ e le fit = subst (λ (n : ℕ). Silent C (escape k m) [] (escape n m)) (let f : k ≡ k′ = omega arith in f) stop
+reads-back C (b ∷ l) m k k′ e le fit =
+    silentOn (step-read C m k b (omega arith) (omega arith)) (reads-back C l (put m (b ∷ [])) (suc k) k′ (omega arith) le (simp length-append (omega arith)))
 
 puts-is : (l : List ℕ) (m : Mem) → ((puts m l) .stored ≡ m .stored ++ l) × ((puts m l) .reg ≡ m .reg) × ((puts m l) .idx ≡ m .idx)
 unfolding puts
@@ -174,7 +174,7 @@ module _ (C : Setup) (m : Mem) (D h : List ℕ) (p y z : ℕ) (right : y + 256 *
       let m₀ : Mem = opened (tick (tick (tick m))) in
       record {
         s′ = escape 3 (puts m₀ (0x1a ∷ p ∷ y ∷ []));
-        quietly = push refl (push refl (push refl (push refl (reads C (0x1a ∷ p ∷ y ∷ []) m₀ 0 3 refl (omega arith) (omega arith)))));
+        quietly = silentOn refl (silentOn refl (silentOn refl (silentOn refl (reads-back C (0x1a ∷ p ∷ y ∷ []) m₀ 0 3 refl (omega arith) (omega arith)))));
         last = last-judged [] (puts m₀ (0x1a ∷ p ∷ y ∷ [])) (c .data′) (swapped 0 c) (simp append-assoc) refl refl;
         full = last-full [] (puts m₀ (0x1a ∷ p ∷ y ∷ [])) (c .data′) (simp append-assoc);
       }
@@ -196,8 +196,8 @@ module _ (C : Setup) (m : Mem) (D h : List ℕ) (p y z : ℕ) (right : y + 256 *
         let q : ((puts m₄ rest) .stored ≡ m₄ .stored ++ rest) × ((puts m₄ rest) .reg ≡ m₄ .reg) × ((puts m₄ rest) .idx ≡ m₄ .idx) = puts-is rest m₄ in
         record {
           s′ = escape 3 (puts m₄ rest);
-          quietly = andThen opening (andThen (reads C (w₁ ∷ w₂ ∷ w₃ ∷ []) m₀ 0 3 refl (omega arith) (omega arith))
-              (push (step-judge C m₃ S w₁ w₂ w₃ w₄ has₃ (omega arith) ∙ shift m₄ (omega arith)) (reads C rest m₄ (4 - a) 3 (omega arith) (omega arith) (omega arith))));
+          quietly = andThen opening (andThen (reads-back C (w₁ ∷ w₂ ∷ w₃ ∷ []) m₀ 0 3 refl (omega arith) (omega arith))
+              (silentOn (step-judge C m₃ S w₁ w₂ w₃ w₄ has₃ (omega arith) ∙ shift m₄ (omega arith)) (reads-back C rest m₄ (4 - a) 3 (omega arith) (omega arith) (omega arith))));
           last = last-judged (replicate a 0x1b) (puts m₄ rest) (c .data′) (swapped a c) (q .0 ∙ rw (has₄, append-assoc S, tail)) (q .1 ∙ o .1) (q .2 ∙ o .2);
           full = last-full (replicate a 0x1b) (puts m₄ rest) (c .data′) (q .0 ∙ rw (has₄, append-assoc S, tail));
         }
@@ -205,9 +205,9 @@ module _ (C : Setup) (m : Mem) (D h : List ℕ) (p y z : ℕ) (right : y + 256 *
   ending : (r : ℕ) → r ≤ 3 → InsideFrame r m D h → Ends C (body r m) (escSeq ++ 0x1a ∷ p ∷ y ∷ []) z P (length D + 4)
   unfolding step judge same
   ending zero le c = end-0 c
-  ending (suc zero) le c = end-early 1 0x1b 0x1a p y [] (opened (tick (tick m))) (refl, refl, refl) refl refl le (λ q e. rw e) (0x1b ∷ 0x1b ∷ 0x1b ∷ []) (push refl (push refl (push refl stop))) c
-  ending (suc (suc zero)) le c = end-early 2 0x1b 0x1b 0x1a p (y ∷ []) (opened (tick m)) (refl, refl, refl) refl refl le (λ q e. rw e) (0x1b ∷ 0x1b ∷ []) (push refl (push refl stop)) c
-  ending (suc (suc (suc zero))) le c = end-early 3 0x1b 0x1b 0x1b 0x1a (p ∷ y ∷ []) (opened m) (refl, refl, refl) refl refl le (λ q e. rw e) (0x1b ∷ []) (push refl stop) c
+  ending (suc zero) le c = end-early 1 0x1b 0x1a p y [] (opened (tick (tick m))) (refl, refl, refl) refl refl le (λ q e. rw e) (0x1b ∷ 0x1b ∷ 0x1b ∷ []) (silentOn refl (silentOn refl (silentOn refl stop))) c
+  ending (suc (suc zero)) le c = end-early 2 0x1b 0x1b 0x1a p (y ∷ []) (opened (tick m)) (refl, refl, refl) refl refl le (λ q e. rw e) (0x1b ∷ 0x1b ∷ []) (silentOn refl (silentOn refl stop)) c
+  ending (suc (suc (suc zero))) le c = end-early 3 0x1b 0x1b 0x1b 0x1a (p ∷ y ∷ []) (opened m) (refl, refl, refl) refl refl le (λ q e. rw e) (0x1b ∷ []) (silentOn refl stop) c
   ending (suc (suc (suc (suc n)))) le c = absurd (omega arith)
 
 -- ---- the theorem
@@ -218,7 +218,7 @@ pub record Decodes (C : Setup) (noise raw : ℕ) (f P : List ℕ) : Type 0 where
 
 quiet-replicate : (l : List ℕ) → nothings l ≡ replicate (length l) nothing
 quiet-replicate [] = refl
-quiet-replicate (x ∷ l) = ap (λ (k : List Answer). nothing ∷ k) (quiet-replicate l)
+quiet-replicate (x ∷ l) = ap (λ (k : List DecoderAnswer). nothing ∷ k) (quiet-replicate l)
 
 map-append : (a b : List ℕ) (os : List Op) → map R.push (a ++ b) ++ os ≡ map R.push a ++ (map R.push b ++ os)
 map-append [] b os = refl
@@ -239,8 +239,8 @@ module _ (C : Setup) (noise raw : ℕ) (l : List ℕ) (z : ℕ) (P : List ℕ) (
   says-all : runState C (search 0 noise raw) (map R.push (startSeq ++ (l ++ z ∷ [])) ++ os) ≡ frameSays (numbered (noticed noise)) (startSeq ++ (l ++ z ∷ [])) P ++ runState C (done P) os
   says-all =
       begun-run C noise raw (l ++ z ∷ []) os
-      ∙ ap (λ (k : List Answer). replicate 7 nothing ++ numbered (noticed noise) ∷ k)
-      (ends-run ∙ ap (λ (k : List Answer). k ++ payload P ∷ runState C (done P) os) (quiet-replicate l ∙ ap (λ (n : ℕ). replicate n nothing) long)
+      ∙ ap (λ (k : List DecoderAnswer). replicate 7 nothing ++ numbered (noticed noise) ∷ k)
+      (ends-run ∙ ap (λ (k : List DecoderAnswer). k ++ payload P ∷ runState C (done P) os) (quiet-replicate l ∙ ap (λ (n : ℕ). replicate n nothing) long)
       ∙ sym (append-assoc (replicate (length (startSeq ++ (l ++ z ∷ [])) - 9) nothing) (payload P ∷ []) (runState C (done P) os)))
     where
       long : length l ≡ length (startSeq ++ (l ++ z ∷ [])) - 9

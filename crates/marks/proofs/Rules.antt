@@ -6,7 +6,7 @@ use native.Mathlib.Omega.{arith}
 use lib.ListN.{length, replicate, length-append, length-replicate}
 use borrow.Author.Tests.{ne-eqb, le-leb, lt-ltb}
 use Rattle.decoder.specs.Push.{Mem, State, body, escape, silent, Out, says, put, tick, opened, store, judge, step}
-use Rattle.decoder.specs.Record.{Answer, nothing, numbered}
+use Rattle.decoder.specs.Record.{DecoderAnswer, nothing, numbered}
 use Rattle.decoder.specs.Run as R
 use Rattle.decoder.specs.Run.{Op}
 use Rattle.decoder.proofs.States.{runState, actState, answerState}
@@ -43,18 +43,18 @@ module _ (C : Setup) (m : Mem) where
 -- pushes that say nothing
 pub data Silent (C : Setup) : State → List ℕ → State → Type 0 where
   stop : {s : State} → Silent C s [] s
-  push : {s t u : State} {b : ℕ} {l : List ℕ} → step C s b ≡ says t silent → Silent C t l u → Silent C s (b ∷ l) u
+  silentOn : {s t u : State} {b : ℕ} {l : List ℕ} → step C s b ≡ says t silent → Silent C t l u → Silent C s (b ∷ l) u
 
 pub andThen : {C : Setup} {s t u : State} {a b : List ℕ} → Silent C s a t → Silent C t b u → Silent C s (a ++ b) u
 andThen stop r = r
-andThen (push e q) r = push e (andThen q r)
+andThen (silentOn e q) r = silentOn e (andThen q r)
 
 -- one `nothing` for each byte
-abbrev pub nothings : List ℕ → List Answer
+abbrev pub nothings : List ℕ → List DecoderAnswer
 nothings l = map (λ b. nothing) l
 
 pub silent-run : {C : Setup} {s t : State} {a : List ℕ} → Silent C s a t → (os : List Op) → runState C s (map R.push a ++ os) ≡ nothings a ++ runState C t os
 unfolding runState actState answerState
 silent-run stop os = refl
-silent-run {C} (push {l = l} e q) os =
-    ap (λ (o : Out). numbered (o .event) ∷ runState C (o .state) (map R.push l ++ os)) e ∙ ap (λ (k : List Answer). nothing ∷ k) (silent-run q os)
+silent-run {C} (silentOn {l = l} e q) os =
+    ap (λ (o : Out). numbered (o .event) ∷ runState C (o .state) (map R.push l ++ os)) e ∙ ap (λ (k : List DecoderAnswer). nothing ∷ k) (silent-run q os)

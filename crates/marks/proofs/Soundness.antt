@@ -7,7 +7,7 @@ use lib.ListN.{length, take}
 use Rattle.frame.specs.Frame.{Sound, startSeq}
 use Rattle.frame.proofs.Cases.{by-eq}
 use Rattle.decoder.specs.Push.{State, search, body, escape, done, PushEvent, silent, discarded, paysOut, memory, badEscape, badMessage, step, fresh, finalized}
-use Rattle.decoder.specs.Record.{Answer, nothing, payload, count, refusal, numbered, After, after, stateAs, stateOf, newRecord, stands, hasPayload, payloadRecord}
+use Rattle.decoder.specs.Record.{DecoderAnswer, nothing, payload, count, refusal, numbered, After, after, stateAs, stateOf, newRecord, stands, hasPayload, payloadRecord}
 use Rattle.decoder.specs.Run as R
 use Rattle.decoder.specs.Run.{Op, push, finalize, reset, act}
 use Rattle.decoder.proofs.States.{runState, stateBehind, actState, answerState}
@@ -28,7 +28,7 @@ use Rattle.marks.proofs.Recovery.{answers-new}
 -- ---- operations
 
 -- the bytes since the last payload, finalize or reset, with one operation more
-abbrev grown : Op → Answer → List ℕ → List ℕ
+abbrev grown : Op → DecoderAnswer → List ℕ → List ℕ
 grown (push b) nothing h = h ++ b ∷ []
 grown (push b) (payload bytes) h = []
 grown (push b) (count k) h = h ++ b ∷ []
@@ -36,7 +36,7 @@ grown (push b) (refusal k values) h = h ++ b ∷ []
 grown finalize a h = []
 grown reset a h = []
 
-bytes-cons : (h : List ℕ) (o : Op) (a : Answer) (os : List Op) (more : List Answer) → bytesFrom h (o ∷ os) (a ∷ more) ≡ bytesFrom (grown o a h) os more
+bytes-cons : (h : List ℕ) (o : Op) (a : DecoderAnswer) (os : List Op) (more : List DecoderAnswer) → bytesFrom h (o ∷ os) (a ∷ more) ≡ bytesFrom (grown o a h) os more
 unfolding bytesFrom
 bytes-cons h (push b) nothing os more = refl
 bytes-cons h (push b) (payload bytes) os more = refl
@@ -46,33 +46,33 @@ bytes-cons h finalize a os more = refl
 bytes-cons h reset a os more = refl
 
 -- the bytes since the last payload, finalize or reset end with those since the search or frame began
-record Ends (g h : List ℕ) : Type 0 where
+record EndsWith (g h : List ℕ) : Type 0 where
   pre : List ℕ
   here : g ≡ pre ++ h
 
-none-left : (g : List ℕ) → Ends g []
-none-left g = record { pre = g; here = sym (append-nil g) }
+nothing-left : (g : List ℕ) → EndsWith g []
+nothing-left g = record { pre = g; here = sym (append-nil g) }
 
-ends-told : (C : Setup) (g h : List ℕ) (b : ℕ) (e : PushEvent) → Ends g h → EventSays (h ++ b ∷ []) e → Ends (grown (push b) (numbered e) g) (grownSince (numbered e) h b)
+ends-told : (C : Setup) (g h : List ℕ) (b : ℕ) (e : PushEvent) → EndsWith g h → EventSays (h ++ b ∷ []) e → EndsWith (grown (push b) (numbered e) g) (grownSince (numbered e) h b)
 ends-told C g h b e k goesOn = record { pre = k .pre; here = rw (k .here) (append-assoc (k .pre) h (b ∷ [])) }
 ends-told C g h b e k (startFound v x is m pos c) = record { pre = k .pre ++ x; here = rw (k .here, append-assoc (k .pre) h (b ∷ []), is) (sym (append-assoc (k .pre) x startSeq)) }
 ends-told C g h b e k (startInside v D is c) = record { pre = k .pre ++ frameHead D; here = rw (k .here, append-assoc (k .pre) h (b ∷ []), is) (sym (append-assoc (k .pre) (frameHead D) startSeq)) }
-ends-told C g h b e k noRoom = none-left (g ++ b ∷ [])
-ends-told C g h b e k noEscape = none-left (g ++ b ∷ [])
-ends-told C g h b e k noMessage = none-left (g ++ b ∷ [])
-ends-told C g h b e k (frameEnds P f) = none-left []
+ends-told C g h b e k noRoom = nothing-left (g ++ b ∷ [])
+ends-told C g h b e k noEscape = nothing-left (g ++ b ∷ [])
+ends-told C g h b e k noMessage = nothing-left (g ++ b ∷ [])
+ends-told C g h b e k (frameEnds P f) = nothing-left []
 
-ends-act : (C : Setup) (g h : List ℕ) (s : State) (o : Op) → ReadSince C h s → Ends g h → Ends (grown o (answerState C s o) g) (grownSinceOp o (answerState C s o) h)
+ends-act : (C : Setup) (g h : List ℕ) (s : State) (o : Op) → ReadSince C h s → EndsWith g h → EndsWith (grown o (answerState C s o) g) (grownSinceOp o (answerState C s o) h)
 unfolding answerState
 ends-act C g h s (push b) r k = ends-told C g h b ((step C s b) .event) k (kept C h s b r .told)
-ends-act C g h s finalize r k = none-left []
-ends-act C g h s reset r k = none-left []
+ends-act C g h s finalize r k = nothing-left []
+ends-act C g h s reset r k = nothing-left []
 
-ends-behind : (C : Setup) (os : List Op) (g h : List ℕ) (s : State) → ReadSince C h s → Ends g h → Ends (bytesFrom g os (runState C s os)) (sinceFrom h os (runState C s os))
+ends-behind : (C : Setup) (os : List Op) (g h : List ℕ) (s : State) → ReadSince C h s → EndsWith g h → EndsWith (bytesFrom g os (runState C s os)) (sinceFrom h os (runState C s os))
 unfolding runState sinceFrom bytesFrom
 ends-behind C [] g h s r k = k
 ends-behind C (o ∷ os) g h s r k =
-    subst (λ (l : List ℕ). Ends l (sinceFrom (grownSinceOp o (answerState C s o) h) os (runState C (actState C s o) os))) (sym (bytes-cons g o (answerState C s o) os (runState C (actState C s o) os)))
+    subst (λ (l : List ℕ). EndsWith l (sinceFrom (grownSinceOp o (answerState C s o) h) os (runState C (actState C s o) os))) (sym (bytes-cons g o (answerState C s o) os (runState C (actState C s o) os)))
     (ends-behind C os (grown o (answerState C s o) g) (grownSinceOp o (answerState C s o) h) (actState C s o) (reads-act C h s o r) (ends-act C g h s o r k))
 
 -- they are bytes
@@ -80,7 +80,7 @@ bytes-snoc : (h : List ℕ) (b : ℕ) → AllBytes h → b < 256 → AllBytes (h
 bytes-snoc [] b h lt = (lt, tt)
 bytes-snoc (x ∷ l) b h lt = (h .0, bytes-snoc l b (h .1) lt)
 
-bytes-grown : (h : List ℕ) (o : Op) (a : Answer) (os : List Op) → AllBytes h → PushesBytes (o ∷ os) → AllBytes (grown o a h) × PushesBytes os
+bytes-grown : (h : List ℕ) (o : Op) (a : DecoderAnswer) (os : List Op) → AllBytes h → PushesBytes (o ∷ os) → AllBytes (grown o a h) × PushesBytes os
 bytes-grown h (push b) nothing os t p = (bytes-snoc h b t (p .0), p .1)
 bytes-grown h (push b) (payload bytes) os t p = (tt, p .1)
 bytes-grown h (push b) (count k) os t p = (bytes-snoc h b t (p .0), p .1)
@@ -135,23 +135,23 @@ hands-back : (d : Decoder) (m P : List ℕ) → Fit d m → stateOf d m ≡ done
 hands-back d m P f e = payload-back d m P f e
 
 -- an event that is no payload
-abbrev Plain : PushEvent → Type 0
-Plain silent = Unit {0}
-Plain (discarded n) = Unit {0}
-Plain (paysOut P) = ⊥
-Plain memory = Unit {0}
-Plain (badEscape a b c d) = Unit {0}
-Plain (badMessage a b c d) = Unit {0}
+abbrev NoPayload : PushEvent → Type 0
+NoPayload silent = Unit {0}
+NoPayload (discarded n) = Unit {0}
+NoPayload (paysOut P) = ⊥
+NoPayload memory = Unit {0}
+NoPayload (badEscape a b c d) = Unit {0}
+NoPayload (badMessage a b c d) = Unit {0}
 
-plain-final : (s : State) → Plain (finalized s)
+plain-final : (s : State) → NoPayload (finalized s)
 unfolding finalized
-plain-final (search n noise raw) = by-eq Plain n 0 _ _ (λ e. by-eq Plain noise 0 _ _ (λ f. tt) (λ f. tt)) (λ e. tt)
+plain-final (search n noise raw) = by-eq NoPayload n 0 _ _ (λ e. by-eq NoPayload noise 0 _ _ (λ f. tt) (λ f. tt)) (λ e. tt)
 plain-final (body n m) = tt
 plain-final (escape k m) = tt
 plain-final (done P) = tt
 
 never-final : (s : State) (P : List ℕ) → numbered (finalized s) ≡ payload P → ⊥
-never-final s P h = subst Plain (got-back (finalized s) P h) (plain-final s)
+never-final s P h = subst NoPayload (got-back (finalized s) P h) (plain-final s)
 
 never-count : (k : ℕ) (P : List ℕ) → count k ≡ payload P → ⊥
 never-count k P h = let z : _≡_ {A = ℕ} 0 1 = cc in omega arith
@@ -186,7 +186,7 @@ module _ (C : Setup) (m : List ℕ) (l : length m ≡ C .capacity) (le : C .capa
   handed-out b bytes e =
       let g : (step C s b) .event ≡ paysOut P = got-back _ P (sym (answer-is (push b)) ∙ e) in
       let a = acts (x .decoder) (x .memory) (push b) (there .fit) in
-      let k = ends-behind C os [] [] fresh (reads-fresh C) (none-left []) in
+      let k = ends-behind C os [] [] fresh (reads-fresh C) (nothing-left []) in
       let on : h ++ b ∷ [] ≡ k .pre ++ (since ++ b ∷ []) = rw (k .here) (append-assoc (k .pre) since (b ∷ [])) in
       let fine : AllBytes (since ++ b ∷ []) = bytes-back (k .pre) (since ++ b ∷ []) (rw on at (bytes-behind C os [] fresh b tt bytes)) in (
         record { last = b; pushes = refl; before = k .pre; frame = since ++ b ∷ []; ends = on; sound = told-sound ((step C s b) .event) P g (kept C since s b (reads-behind C os) .told) fine },

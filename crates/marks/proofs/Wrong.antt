@@ -5,10 +5,10 @@ use Rattle.marks.specs.Mark2.{Soundness}
 use Rattle.marks.specs.Mark3.{Mark3}
 use Rattle.marks.specs.Encoders.{SameBytes}
 use Rattle.marks.specs.Events.{ReaderGives, ListsEntries}
-use Rattle.marks.specs.Fakes.{refuses, constant, idle, invents, once, writesNothing, finishedAtOnce, withoutEvents, noEntries}
+use Rattle.marks.specs.Fakes.{refusesAll, constant, idle, invents, once, writesNothing, finishedAtOnce, withoutEvents, noEntries}
 use Rattle.marks.proofs.Fakes.{fall}
 
-fake-refuses-everything : Mark3 refuses encodeTo → ⊥
+fake-refuses-everything : Mark3 refusesAll encodeTo → ⊥
 fake-refuses-everything = fall .refuses-mark3
 
 fake-push-does-nothing : Mark3 idle encodeTo → ⊥

@@ -16,7 +16,7 @@ use Rattle.octet_string.specs.Strings.{octetsAt}
 use Rattle.octet_string.specs.Optional.{optional}
 use Rattle.encoder.specs.Encode.{AfterEncode, afterEncode, length-is}
 use Rattle.decoder.specs.Push.{sized}
-use Rattle.decoder.specs.Record.{Answer, nothing, payload, count, refusal}
+use Rattle.decoder.specs.Record.{DecoderAnswer, nothing, payload, count, refusal}
 use Rattle.decoder.specs.Run.{push, finalize}
 use Rattle.decoder.specs.declared.Setup.{Setup}
 use Rattle.marks.specs.Decoders.{Machine, answers}
@@ -36,23 +36,23 @@ pub data Input : Type 0 where
 -- the number of an operation, the first being 1, and its answer
 pub record SheetSaid : Type 0 where
   pub at : ℕ
-  pub answer : Answer
+  pub answer : DecoderAnswer
 
 -- what comes of it; the last four are what the definitions of crates tlf, octet_string and numbers find
 pub data Outcome : Type 0 where
-  encoded : AfterEncode → Outcome  -- encode's answer, and the output
-  events : List SheetSaid → Outcome  -- all answers but `nothing`
-  field : Read TypeLengthField → Outcome
-  string : Read (Option Span) → Outcome
-  signed : Read ℤ → Outcome
-  unsigned : Read ℕ → Outcome
+  sheetEncoded : AfterEncode → Outcome  -- encode's answer, and the output
+  sheetEvents : List SheetSaid → Outcome  -- all answers but `nothing`
+  sheetField : Read TypeLengthField → Outcome
+  sheetString : Read (Option Span) → Outcome
+  sheetSigned : Read ℤ → Outcome
+  sheetUnsigned : Read ℕ → Outcome
 
 -- operation n answers a
-abbrev pub sheetSaid : ℕ → Answer → SheetSaid
+abbrev pub sheetSaid : ℕ → DecoderAnswer → SheetSaid
 sheetSaid n a = record { at = n; answer = a }
 
 -- all answers but `nothing`, the first being that of operation n
-unfoldable pub saidFrom : ℕ → List Answer → List SheetSaid
+unfoldable pub saidFrom : ℕ → List DecoderAnswer → List SheetSaid
 saidFrom n [] = []
 saidFrom n (nothing ∷ more) = saidFrom (suc n) more
 saidFrom n (payload bytes ∷ more) = sheetSaid n (payload bytes) ∷ saidFrom (suc n) more
@@ -61,12 +61,12 @@ saidFrom n (refusal k values ∷ more) = sheetSaid n (refusal k values) ∷ said
 
 -- what comes out of a decoder, an encode and the definitions of the length and number rules
 abbrev pub outcome : {S : Type 0} → Machine S → Encode → Input → Outcome
-outcome M enc (encode P n) = encoded (enc P (replicate n 0xff))
-outcome M enc (decode C bytes) = events (saidFrom 1 (answers M (M .new C) (replicate (C .capacity) 0x00) (map push bytes ++ finalize ∷ [])))
-outcome M enc (lengthField bytes) = field (tlfAt bytes 0)
-outcome M enc (optionalString bytes) = string (optional octetsAt bytes 0)
-outcome M enc (asI32 bytes) = signed (signedAt 4 bytes 0)
-outcome M enc (asU8 bytes) = unsigned (unsignedAt 1 bytes 0)
+outcome M enc (encode P n) = sheetEncoded (enc P (replicate n 0xff))
+outcome M enc (decode C bytes) = sheetEvents (saidFrom 1 (answers M (M .new C) (replicate (C .capacity) 0x00) (map push bytes ++ finalize ∷ [])))
+outcome M enc (lengthField bytes) = sheetField (tlfAt bytes 0)
+outcome M enc (optionalString bytes) = sheetString (optional octetsAt bytes 0)
+outcome M enc (asI32 bytes) = sheetSigned (signedAt 4 bytes 0)
+outcome M enc (asU8 bytes) = sheetUnsigned (unsignedAt 1 bytes 0)
 
 -- ---- the sheet
 
@@ -106,7 +106,7 @@ wrongEscape = 0x1b ∷ 0x1b ∷ 0x1b ∷ 0x1b ∷ 0x01 ∷ 0x01 ∷ 0x01 ∷ 0x0
 
 -- a string of so many bytes behind its length bytes
 abbrev pub stringOf : ℕ → ℕ → Outcome
-stringOf n next = field (got (record { ty = OctetString; len = n }) next)
+stringOf n next = sheetField (got (record { ty = OctetString; len = n }) next)
 
 -- refused by document 01's number, of an 11 the kind (2 reserved, 3 underflow, 4 next byte's type, 5 type), at a place
 abbrev pub refusedAs : ℕ → ℕ → ℕ → Refusal
@@ -114,18 +114,18 @@ refusedAs number kind place = record { number = number; kind = kind; place = pla
 
 -- the rows that the fakes fall at, by name: B3, the payload at byte 20
 abbrev pub b3 : Row
-b3 = row 3 (decode (sized 8) frame1) (events (sheetSaid 20 (payload payload1) ∷ []))
+b3 = row 3 (decode (sized 8) frame1) (sheetEvents (sheetSaid 20 (payload payload1) ∷ []))
 
 -- one byte of noise, then the payload
 abbrev pub b6 : Row
-b6 = row 6 (decode (sized 8) (0x00 ∷ frame1)) (events (sheetSaid 9 (refusal 6 (1 ∷ [])) ∷ sheetSaid 21 (payload payload1) ∷ []))
+b6 = row 6 (decode (sized 8) (0x00 ∷ frame1)) (sheetEvents (sheetSaid 9 (refusal 6 (1 ∷ [])) ∷ sheetSaid 21 (payload payload1) ∷ []))
 
 -- two payloads encoded into an output of 20 bytes
 abbrev pub b1 : Row
-b1 = row 1 (encode payload1 20) (encoded (afterEncode (length-is 20) frame1))
+b1 = row 1 (encode payload1 20) (sheetEncoded (afterEncode (length-is 20) frame1))
 
 abbrev pub b2 : Row
-b2 = row 2 (encode (0x13 ∷ 0x24 ∷ 0x35 ∷ 0x46 ∷ []) 20) (encoded (afterEncode (length-is 20) frame2))
+b2 = row 2 (encode (0x13 ∷ 0x24 ∷ 0x35 ∷ 0x46 ∷ []) 20) (sheetEncoded (afterEncode (length-is 20) frame2))
 
 -- The sheet, B1 to B14 in order. OutOfMemory is 3, DiscardedBytes is 6, InvalidEsc 7, InvalidMessage 8: read CRC, computed CRC, aligned (0), p
 abbrev pub sheet : List Row
@@ -133,22 +133,22 @@ sheet =
     b1
     ∷ b2
     ∷ b3
-    ∷ row 4 (decode (sized 7) frame1) (events (sheetSaid 20 (refusal 3 []) ∷ []))
-    ∷ row 5 (decode (sized 8) (0x1b ∷ frame1)) (events (sheetSaid 22 (refusal 6 (21 ∷ [])) ∷ []))
+    ∷ row 4 (decode (sized 7) frame1) (sheetEvents (sheetSaid 20 (refusal 3 []) ∷ []))
+    ∷ row 5 (decode (sized 8) (0x1b ∷ frame1)) (sheetEvents (sheetSaid 22 (refusal 6 (21 ∷ [])) ∷ []))
     ∷ b6
-    ∷ row 7 (decode (sized 8) twoStarts) (events (sheetSaid 18 (refusal 6 (10 ∷ [])) ∷ sheetSaid 30 (payload payload1) ∷ []))
-    ∷ row 8 (decode (sized 8) wrongEscape) (events (sheetSaid 16 (refusal 7 (0x02 ∷ 0x00 ∷ 0x00 ∷ 0x00 ∷ [])) ∷ []))
-    ∷ row 9 (decode (sized 8) spoilt1) (events (sheetSaid 20 (refusal 8 (0x7ab8 ∷ 0x7bb8 ∷ 0 ∷ 0 ∷ [])) ∷ []))
+    ∷ row 7 (decode (sized 8) twoStarts) (sheetEvents (sheetSaid 18 (refusal 6 (10 ∷ [])) ∷ sheetSaid 30 (payload payload1) ∷ []))
+    ∷ row 8 (decode (sized 8) wrongEscape) (sheetEvents (sheetSaid 16 (refusal 7 (0x02 ∷ 0x00 ∷ 0x00 ∷ 0x00 ∷ [])) ∷ []))
+    ∷ row 9 (decode (sized 8) spoilt1) (sheetEvents (sheetSaid 20 (refusal 8 (0x7ab8 ∷ 0x7bb8 ∷ 0 ∷ 0 ∷ [])) ∷ []))
     ∷ row 10 (lengthField (0x07 ∷ [])) (stringOf 6 1)
     ∷ row 10 (lengthField (0x83 ∷ 0x02 ∷ [])) (stringOf 48 2)
-    ∷ row 10 (optionalString (0x80 ∷ 0x02 ∷ [])) (string (got (some (record { start = 2; len = 0 })) 2))
-    ∷ row 11 (lengthField (0x00 ∷ [])) (field (L.refused (refusedAs 11 3 0)))
-    ∷ row 11 (lengthField (0xc2 ∷ [])) (field (L.refused (refusedAs 11 2 0)))
-    ∷ row 11 (lengthField (0x10 ∷ [])) (field (L.refused (refusedAs 11 5 0)))
-    ∷ row 11 (lengthField (0x81 ∷ 0x12 ∷ [])) (field (L.refused (refusedAs 11 4 0)))
-    ∷ row 11 (lengthField (0x81 ∷ 0x82 ∷ [])) (field (L.refused (refusedAs 10 0 2)))
-    ∷ row 12 (asI32 (0x52 ∷ 0xff ∷ [])) (signed (got (negsuc 0) 2))
-    ∷ row 13 (asU8 (0x63 ∷ 0x00 ∷ 0x05 ∷ [])) (unsigned (L.refused (refusedAs 12 0 0)))
+    ∷ row 10 (optionalString (0x80 ∷ 0x02 ∷ [])) (sheetString (got (some (record { start = 2; len = 0 })) 2))
+    ∷ row 11 (lengthField (0x00 ∷ [])) (sheetField (L.refused (refusedAs 11 3 0)))
+    ∷ row 11 (lengthField (0xc2 ∷ [])) (sheetField (L.refused (refusedAs 11 2 0)))
+    ∷ row 11 (lengthField (0x10 ∷ [])) (sheetField (L.refused (refusedAs 11 5 0)))
+    ∷ row 11 (lengthField (0x81 ∷ 0x12 ∷ [])) (sheetField (L.refused (refusedAs 11 4 0)))
+    ∷ row 11 (lengthField (0x81 ∷ 0x82 ∷ [])) (sheetField (L.refused (refusedAs 10 0 2)))
+    ∷ row 12 (asI32 (0x52 ∷ 0xff ∷ [])) (sheetSigned (got (negsuc 0) 2))
+    ∷ row 13 (asU8 (0x63 ∷ 0x00 ∷ 0x05 ∷ [])) (sheetUnsigned (L.refused (refusedAs 12 0 0)))
     ∷ row 14 (lengthField (0x81 ∷ 0x80 ∷ 0x80 ∷ 0x80 ∷ 0x80 ∷ 0x80 ∷ 0x80 ∷ 0x80 ∷ 0x0a ∷ [])) (stringOf 1 9)
     ∷ []
 

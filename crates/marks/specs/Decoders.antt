@@ -2,7 +2,7 @@
 use mathlib.Core.List.{List, [], _∷_, _++_}
 use Prim.Native.Nat.{ℕ, suc, _-_}
 use lib.ListN.{length, replicate}
-use Rattle.decoder.specs.Record.{Answer, nothing, payload, count, refusal, After, newRecord, payloadRecord}
+use Rattle.decoder.specs.Record.{DecoderAnswer, nothing, payload, count, refusal, After, newRecord, payloadRecord}
 use Rattle.decoder.specs.Run as R
 use Rattle.decoder.specs.Run.{Op, push, finalize, reset}
 use Rattle.decoder.specs.declared.Decoder.{Decoder}
@@ -10,7 +10,7 @@ use Rattle.decoder.specs.declared.Setup.{Setup}
 
 -- what a call gave: its answer, the decoder and the lent memory as they are then
 pub record Gave (S : Type 0) : Type 0 where
-  pub answer : Answer
+  pub answer : DecoderAnswer
   pub decoder : S
   pub memory : List ℕ
 
@@ -32,7 +32,7 @@ ours = record { new = newRecord; act = λ d m o. gave (R.act d m o); payloadOf =
 -- ---- in use
 
 -- an answer for each operation, each with the decoder and the memory that the one before left
-unfoldable pub answers : {S : Type 0} → Machine S → S → List ℕ → List Op → List Answer
+unfoldable pub answers : {S : Type 0} → Machine S → S → List ℕ → List Op → List DecoderAnswer
 answers M d m [] = []
 answers M d m (o ∷ os) =
     let a = M .act d m o in
@@ -48,7 +48,7 @@ behindOf M d m (p ∷ os) o =
 -- ---- what was pushed, told by the operations and their answers alone
 
 -- how many bytes were pushed since the last payload, refusal, finalize or reset, with n before these operations; the list `more` has their answers. Each operation has one, so the second case never occurs
-unfoldable pub countFrom : ℕ → List Op → List Answer → ℕ
+unfoldable pub countFrom : ℕ → List Op → List DecoderAnswer → ℕ
 countFrom n [] more = n
 countFrom n (o ∷ os) [] = n
 countFrom n (push b ∷ os) (nothing ∷ more) = countFrom (suc n) os more
@@ -59,11 +59,11 @@ countFrom n (finalize ∷ os) (a ∷ more) = countFrom 0 os more
 countFrom n (reset ∷ os) (a ∷ more) = countFrom 0 os more
 
 -- or else since the start
-abbrev pub countSince : List Op → List Answer → ℕ
+abbrev pub countSince : List Op → List DecoderAnswer → ℕ
 countSince os more = countFrom 0 os more
 
 -- the bytes themselves since the last payload, finalize or reset, behind those in h: a refusal is passed over. The second case never occurs here either
-unfoldable pub bytesFrom : List ℕ → List Op → List Answer → List ℕ
+unfoldable pub bytesFrom : List ℕ → List Op → List DecoderAnswer → List ℕ
 bytesFrom h [] more = h
 bytesFrom h (o ∷ os) [] = h
 bytesFrom h (push b ∷ os) (nothing ∷ more) = bytesFrom (h ++ b ∷ []) os more
@@ -74,11 +74,11 @@ bytesFrom h (finalize ∷ os) (a ∷ more) = bytesFrom [] os more
 bytesFrom h (reset ∷ os) (a ∷ more) = bytesFrom [] os more
 
 -- or else since the start
-abbrev pub bytesSince : List Op → List Answer → List ℕ
+abbrev pub bytesSince : List Op → List DecoderAnswer → List ℕ
 bytesSince os more = bytesFrom [] os more
 
 -- ---- a frame
 
 -- what the pushes of a frame answer: `eighth` at its eighth byte, the payload at its last, and nothing else
-abbrev pub frameSays : Answer → List ℕ → List ℕ → List Answer
+abbrev pub frameSays : DecoderAnswer → List ℕ → List ℕ → List DecoderAnswer
 frameSays eighth frame P = replicate 7 nothing ++ eighth ∷ (replicate (length frame - 9) nothing ++ payload P ∷ [])

@@ -6,8 +6,8 @@ use denote.Ref.{RefT, now}
 use Rattle.refusals.specs.Read.{Refusal}
 use Rattle.refusals.specs.declared.Span.{Span}
 use Rattle.common.specs.Fields.{ListEntry}
-use Rattle.message.specs.Messages.{MessageStart, ListStart, ListEnd, listed}
-use Rattle.streaming.specs.Next.{starts, entry, ends, Said, event, failed, ReaderAfter, nextAt}
+use Rattle.message.specs.Messages.{MessageStart, ListStart, ListEnd, listBody}
+use Rattle.streaming.specs.Next.{startEvent, entryEvent, endEvent, Said, event, failed, ReaderAfter, nextAt}
 use Rattle.parser.specs.Reader.{readerOf, calledNext}
 use Rattle.parser.specs.declared.Parser.{Parser}
 use Rattle.events.specs.Events.{answer, eventsOf}
@@ -66,11 +66,11 @@ ReaderGives {I} R = (i : I) (k : ℕ) → hears R i k ≡ answer (eventsOf (R .b
 -- the calls from k on say n entries and then the end, or a refusal before that
 pub data Follows (says : ℕ → Said) : ℕ → ℕ → Type 0 where
   refuses : {n k : ℕ} (f : Refusal) → says k ≡ failed f → Follows says n k
-  lists : {n k : ℕ} (e : ListEntry Span) → says k ≡ event (entry e) → Follows says n (suc k) → Follows says (suc n) k
-  closes : {k : ℕ} (e : ListEnd Span) → says k ≡ event (ends e) → Follows says 0 k
+  lists : {n k : ℕ} (e : ListEntry Span) → says k ≡ event (entryEvent e) → Follows says n (suc k) → Follows says (suc n) k
+  closes : {k : ℕ} (e : ListEnd Span) → says k ≡ event (endEvent e) → Follows says 0 k
 
 -- For every input: where call k says the start of a list response with n entries, the calls behind it say n entries and the end, or a refusal
 abbrev pub ListsEntries : {I S : Type 0} → Reader I S → Type 0
 ListsEntries {I} R =
-    (i : I) (k : ℕ) (m : MessageStart Span) (b : ListStart Span) → hears R i k ≡ event (starts m) → m .body ≡ listed b
+    (i : I) (k : ℕ) (m : MessageStart Span) (b : ListStart Span) → hears R i k ≡ event (startEvent m) → m .body ≡ listBody b
     → Follows (hears R i) (b .count) (suc k)

@@ -6,10 +6,10 @@ use Rattle.refusals.specs.Numbers.{payloadTooLongNo, badStateNo}
 use Rattle.encoder.specs.Encode.{encodeTo, length-is, afterEncode}
 use Rattle.encoder.specs.Encode as E
 use Rattle.encoder.specs.Encoder.{finished}
-use Rattle.decoder.specs.Record.{Answer, nothing, payload, count, refusal, payloadRecord}
+use Rattle.decoder.specs.Record.{DecoderAnswer, nothing, payload, count, refusal, payloadRecord}
 use Rattle.decoder.specs.Run.{Op, push, finalize, reset}
 use Rattle.decoder.specs.declared.Decoder.{Decoder}
-use Rattle.streaming.specs.Next.{Said, event, starts, entry, ends, noEvent, failed, alone}
+use Rattle.streaming.specs.Next.{Said, event, startEvent, entryEvent, endEvent, noEvent, failed, alone}
 use Rattle.marks.specs.Decoders.{Gave, Machine, ours}
 use Rattle.marks.specs.Mark2.{Soundness, Completeness, OurSearch}
 use Rattle.marks.specs.Mark3.{Encode, Mark3}
@@ -18,7 +18,7 @@ use Rattle.marks.specs.Events.{Reader, Numbers, ourReader, ReaderGives, 
 use Rattle.marks.specs.Bench.{Holds, b1, b2, b3, b6}
 
 -- ours, but for what it answers; what it hands back is by the definition that payload's contract cites
-abbrev pub retold : (Answer → Answer) → Machine Decoder
+abbrev pub retold : (DecoderAnswer → DecoderAnswer) → Machine Decoder
 retold f =
     record {
       new = ours .new;
@@ -27,11 +27,11 @@ retold f =
     }
 
 -- refuses everything, as if every record were a bad one (4)
-abbrev pub refuses : Machine Decoder
-refuses = record { new = ours .new; act = λ d m o. record { answer = refusal badStateNo []; decoder = d; memory = m }; payloadOf = λ d m. [] }
+abbrev pub refusesAll : Machine Decoder
+refusesAll = record { new = ours .new; act = λ d m o. record { answer = refusal badStateNo []; decoder = d; memory = m }; payloadOf = λ d m. [] }
 
 -- what it answers: at each payload the one byte 2a
-abbrev pub constantly : Answer → Answer
+abbrev pub constantly : DecoderAnswer → DecoderAnswer
 constantly nothing = nothing
 constantly (payload bytes) = payload (0x2a ∷ [])
 constantly (count k) = count k
@@ -52,7 +52,7 @@ abbrev pub idle : Machine Decoder
 idle = record { new = ours .new; act = idly; payloadOf = ours .payloadOf }
 
 -- what it answers: a refusal with one number, and only DiscardedBytes has one, says one more
-abbrev pub inventing : Answer → Answer
+abbrev pub inventing : DecoderAnswer → DecoderAnswer
 inventing nothing = nothing
 inventing (payload bytes) = payload bytes
 inventing (count k) = count k
@@ -70,14 +70,14 @@ pub record Spent : Type 0 where
   pub spent : Bool
 
 -- its answer: once it gave a payload, every later one is empty
-abbrev pub emptied : Bool → Answer → Answer
+abbrev pub emptied : Bool → DecoderAnswer → DecoderAnswer
 emptied b nothing = nothing
 emptied b (payload bytes) = cond b (payload []) (payload bytes)
 emptied b (count k) = count k
 emptied b (refusal k values) = refusal k values
 
 -- whether it gave a payload, with this answer
-abbrev pub spends : Bool → Answer → Bool
+abbrev pub spends : Bool → DecoderAnswer → Bool
 spends b nothing = b
 spends b (payload bytes) = true
 spends b (count k) = b
@@ -121,9 +121,9 @@ withoutEvents = resaid (λ x. noEvent)
 
 -- what it says: no event for each entry
 abbrev pub entryless : Said → Said
-entryless (event (starts m)) = event (starts m)
-entryless (event (entry e)) = noEvent
-entryless (event (ends e)) = event (ends e)
+entryless (event (startEvent m)) = event (startEvent m)
+entryless (event (entryEvent e)) = noEvent
+entryless (event (endEvent e)) = event (endEvent e)
 entryless noEvent = noEvent
 entryless (failed f) = failed f
 entryless (alone n) = alone n
@@ -134,8 +134,8 @@ noEntries = resaid entryless
 
 -- each of them falls: a row of the bench sheet or a mark that is false of it
 pub record Fall : Type 0 where
-  pub refuses-b3 : Holds refuses encodeTo b3 → ⊥
-  pub refuses-mark3 : Mark3 refuses encodeTo → ⊥
+  pub refuses-b3 : Holds refusesAll encodeTo b3 → ⊥
+  pub refuses-mark3 : Mark3 refusesAll encodeTo → ⊥
   pub refuses-b1 : Holds ours refusesToEncode b1 → ⊥
   pub refuses-b2 : Holds ours refusesToEncode b2 → ⊥
   pub constant-mark2 : Soundness constant → ⊥

@@ -7,7 +7,7 @@ use lib.ListN.{length, replicate}
 use lib.Dec.{eqb}
 use Rattle.refusals.specs.Numbers.{decoderOutOfMemoryNo, discardedBytesNo, limit}
 use Rattle.frame.specs.Frame.{Sound}
-use Rattle.decoder.specs.Record.{Answer, nothing, payload, refusal, setup, badDecoder, wrongBuffer}
+use Rattle.decoder.specs.Record.{DecoderAnswer, nothing, payload, refusal, setup, badDecoder, wrongBuffer}
 use Rattle.decoder.specs.Run.{Op, push, finalize, reset}
 use Rattle.decoder.specs.declared.DecodeState.{DecodeState}
 use Rattle.decoder.specs.declared.DecodeState.the-variants.{LookingForMessageStart, Done}
@@ -46,13 +46,13 @@ Soundness {S} M =
 -- ---- completeness
 
 -- the eighth byte of a frame answers DiscardedBytes(noise) if noise is over 0, else no event
-abbrev pub eighth : ℕ → Answer
+abbrev pub eighth : ℕ → DecoderAnswer
 eighth noise = cond (eqb noise 0) nothing (refusal discardedBytesNo (noise ∷ []))
 
 -- the first event behind the eighth byte is 3
-pub record NoRoom (noise : ℕ) (heard : List Answer) : Type 0 where
+pub record NoRoom (noise : ℕ) (heard : List DecoderAnswer) : Type 0 where
   pub quiet : ℕ
-  pub rest : List Answer
+  pub rest : List DecoderAnswer
   pub is : heard ≡ replicate 7 nothing ++ eighth noise ∷ (replicate quiet nothing ++ refusal decoderOutOfMemoryNo [] ∷ rest)
 
 -- From any search with nothing matched (`Searching C d m noise`: the decoder d, with the memory m, is one, with this noise), every sound frame, pads of any value. Its data D fits where D's length plus 4 is at most the capacity: then the
@@ -61,13 +61,13 @@ abbrev pub Completeness : {S : Type 0} → Machine S → (Setup → S → List �
 Completeness {S} M Searching =
     (C : Setup) (d : S) (m : List ℕ) (noise : ℕ) → Searching C d m noise
     → (frame P : List ℕ) (sound : Sound frame P)
-    → let heard : List Answer = answers M d m (map push frame) in
+    → let heard : List DecoderAnswer = answers M d m (map push frame) in
     (length (sound .D) + 4 ≤ C .capacity → heard ≡ frameSays (eighth noise) frame P)
     × (C .capacity < length (sound .D) + 4 → NoRoom noise heard)
 
 -- a state with nothing matched: a search, or behind a payload, where the next byte begins a search without noise
 pub data Unmatched (s : DecodeState) (noise : ℕ) : Type 0 where
-  searching : s ≡ LookingForMessageStart 0 noise → Unmatched s noise
+  nothingMatched : s ≡ LookingForMessageStart 0 noise → Unmatched s noise
   behindPayload : s ≡ Done → noise ≡ 0 → Unmatched s noise
 
 -- ours: a record with nothing matched, whatever else it holds, that with this memory is refused neither with 4 nor with 5

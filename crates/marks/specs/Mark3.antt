@@ -8,7 +8,7 @@ use Rattle.frame.specs.Frame.{frameOf, missing}
 use Rattle.encoder.specs.Encode.{AfterEncode, length-is}
 use Rattle.encoder.specs.Encode as E
 use Rattle.decoder.specs.Push.{stopped}
-use Rattle.decoder.specs.Record.{Answer, nothing, refusal}
+use Rattle.decoder.specs.Record.{DecoderAnswer, nothing, refusal}
 use Rattle.decoder.specs.Run.{Op, push}
 use Rattle.decoder.specs.declared.Setup.{Setup}
 use Rattle.marks.specs.Decoders.{Machine, answers, countSince, frameSays}
@@ -54,7 +54,7 @@ framesFor encode [] = []
 framesFor encode (j ∷ js) = wroteFor encode j ++ framesFor encode js
 
 -- what the pushes of these bytes answer behind a payload: each frame its own payload, with no count of discarded bytes
-unfoldable pub restSays : Encode → List Job → List Answer
+unfoldable pub restSays : Encode → List Job → List DecoderAnswer
 restSays encode [] = []
 restSays encode (j ∷ js) = frameSays nothing (wroteFor encode j) (j .payload) ++ restSays encode js
 
@@ -65,6 +65,6 @@ Mark3 M encode =
     (C : Setup) (m : List ℕ) → length m ≡ C .capacity → C .capacity ≤ limit
     → (before : List Op) (j : Job) (js : List Job) → AllSuit C (j ∷ js)
     → let os : List Op = before ++ replicate (C .capacity + 5) (push 0x00) in
-    let heard : List Answer = answers M (M .new C) m os in
+    let heard : List DecoderAnswer = answers M (M .new C) m os in
     answers M (M .new C) m (os ++ map push (framesFor encode (j ∷ js)))
     ≡ heard ++ (frameSays (refusal discardedBytesNo (stopped (countSince os heard) ∷ [])) (wroteFor encode j) (j .payload) ++ restSays encode js)

@@ -3,7 +3,7 @@ use mathlib.Core.Path.{_≡_, ap}
 use Rattle.refusals.specs.declared.Span.{Span}
 use Rattle.octet_string.specs.declared.OptSpan.the-variants.{Present, Absent}
 use Rattle.value.specs.declared.OptTime.the-variants as OptTimeC
-use Rattle.message.specs.Messages.{ListStart, ListEnd, Body, opened, closed, listed, MessageStart}
+use Rattle.message.specs.Messages.{ListStart, ListEnd, Body, openBody, closeBody, listBody, MessageStart}
 use Rattle.message.specs.Answers.{listStart, listStartRead, listEnd, listEndRead, messageBody, bodyRead, messageStart, startRead}
 use Rattle.message.specs.declared.GetListResponseStart.{GetListResponseStart}
 use Rattle.message.specs.declared.GetListResponseEnd.{GetListResponseEnd}
@@ -55,9 +55,9 @@ unfolding listEndFrom
 list-end-back x = λ i. record { «list_signature» = field-back (x .«list_signature») i; «act_gateway_time» = time-back (x .«act_gateway_time») i }
 
 pub bodyFrom : Body Span → MessageBody
-bodyFrom (opened b) = BodyC.OpenResponse (openFrom b)
-bodyFrom (closed b) = BodyC.CloseResponse (closeFrom b)
-bodyFrom (listed b) = BodyC.GetListResponse (listStartFrom b)
+bodyFrom (openBody b) = BodyC.OpenResponse (openFrom b)
+bodyFrom (closeBody b) = BodyC.CloseResponse (closeFrom b)
+bodyFrom (listBody b) = BodyC.GetListResponse (listStartFrom b)
 
 body-back : (x : MessageBody) → bodyFrom (messageBody x) ≡ x
 unfolding bodyFrom

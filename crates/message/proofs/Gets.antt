@@ -14,7 +14,7 @@ use Rattle.octet_string.specs.Strings.{octetsAt}
 use Rattle.octet_string.specs.Optional.{optional}
 use Rattle.value.specs.Values.{timeAt}
 use Rattle.common.specs.Fields.{OpenResponse, CloseResponse, openAt, closeAt}
-use Rattle.message.specs.Messages.{ListStart, ListEnd, Body, opened, closed, listed, MessageStart, listStartAt, listEndAt, contentAt, bodyAt, startAt}
+use Rattle.message.specs.Messages.{ListStart, ListEnd, Body, openBody, closeBody, listBody, MessageStart, listStartAt, listEndAt, contentAt, bodyAt, startAt}
 
 -- each field has its own property, and n entries are announced
 pub record ListStartHas (P₁ : List ℕ → Option Span → Type 0) (P₂ : List ℕ → Span → Type 0) (P₃ : List ℕ → Option Span → Type 0) (P₄ : List ℕ → Option ℕ → Type 0) (n : ℕ) (s : List ℕ) (x : ListStart Span)
@@ -64,17 +64,17 @@ list-end-reads r₁ r₂ =
     }
 
 -- the content that each tag names
-pub open-content-reads : (place : ℕ) {P : List ℕ → OpenResponse Span → Type 0} {b : List ℕ} → Reads openAt P b → Reads (λ s at. contentAt s place 0x00000101 at) (Made opened P) b
+pub open-content-reads : (place : ℕ) {P : List ℕ → OpenResponse Span → Type 0} {b : List ℕ} → Reads openAt P b → Reads (λ s at. contentAt s place 0x00000101 at) (Made openBody P) b
 unfolding contentAt
-open-content-reads place r = record { reads = λ l h. gets-made opened _ (r .reads l h) }
+open-content-reads place r = record { reads = λ l h. gets-made openBody _ (r .reads l h) }
 
-pub close-content-reads : (place : ℕ) {P : List ℕ → CloseResponse Span → Type 0} {b : List ℕ} → Reads closeAt P b → Reads (λ s at. contentAt s place 0x00000201 at) (Made closed P) b
+pub close-content-reads : (place : ℕ) {P : List ℕ → CloseResponse Span → Type 0} {b : List ℕ} → Reads closeAt P b → Reads (λ s at. contentAt s place 0x00000201 at) (Made closeBody P) b
 unfolding contentAt
-close-content-reads place r = record { reads = λ l h. gets-made closed _ (r .reads l h) }
+close-content-reads place r = record { reads = λ l h. gets-made closeBody _ (r .reads l h) }
 
-pub list-content-reads : (place : ℕ) {P : List ℕ → ListStart Span → Type 0} {b : List ℕ} → Reads listStartAt P b → Reads (λ s at. contentAt s place 0x00000701 at) (Made listed P) b
+pub list-content-reads : (place : ℕ) {P : List ℕ → ListStart Span → Type 0} {b : List ℕ} → Reads listStartAt P b → Reads (λ s at. contentAt s place 0x00000701 at) (Made listBody P) b
 unfolding contentAt
-list-content-reads place r = record { reads = λ l h. gets-made listed _ (r .reads l h) }
+list-content-reads place r = record { reads = λ l h. gets-made listBody _ (r .reads l h) }
 
 -- a body: tag and content
 pub body-reads : (tag : ℕ) {P : List ℕ → Body Span → Type 0} {b₀ b₁ b₂ : List ℕ}

@@ -15,7 +15,7 @@ use Rattle.tlf.proofs.Lengths.{tlf-ok, tlf-small, list-of-ok}
 use Rattle.numbers.proofs.Ahead.{unsigned-found}
 use Rattle.octet_string.proofs.Within.{Within, Has, octets-found}
 use Rattle.common.proofs.Fields.{OpenWithin, CloseWithin, opt-octets, opt-time, open-found, close-found}
-use Rattle.message.specs.Messages.{ListStart, ListEnd, Body, opened, closed, listed, MessageStart, listStartAt, listEndAt, contentAt, bodyAt, startAt}
+use Rattle.message.specs.Messages.{ListStart, ListEnd, Body, openBody, closeBody, listBody, MessageStart, listStartAt, listEndAt, contentAt, bodyAt, startAt}
 
 ok-both : {A : Type 0} {P Q : A → ℕ → Type 0} {r : Read A} → Ok P r → Ok Q r → Ok (λ a n. P a n × Q a n) r
 ok-both {r = got a n} h k = record { holds = (h .holds, k .holds) }
@@ -52,16 +52,16 @@ list-end-found s at =
     found s at _ n₂ (record { signature = h₁ }) p₂ q₂))
 
 abbrev pub BodyWithin : List ℕ → Body Span → Type 0
-BodyWithin s (opened b) = OpenWithin s b
-BodyWithin s (closed b) = CloseWithin s b
-BodyWithin s (listed b) = ListStartWithin s b
+BodyWithin s (openBody b) = OpenWithin s b
+BodyWithin s (closeBody b) = CloseWithin s b
+BodyWithin s (listBody b) = ListStartWithin s b
 
 content-found : (s : List ℕ) (place tag at : ℕ) → Ok (Found (BodyWithin s) s at) (contentAt s place tag at)
 unfolding contentAt
 content-found s place tag at =
-    ok-cond (eqb tag 0x00000101) _ _ (λ e. from s at (open-found s at) (λ b n h p q. found {P = BodyWithin s} s at (opened b) n h p q))
-    (λ e. ok-cond (eqb tag 0x00000201) _ _ (λ e₁. from s at (close-found s at) (λ b n h p q. found {P = BodyWithin s} s at (closed b) n h p q))
-    (λ e₁. ok-cond (eqb tag 0x00000701) _ _ (λ e₂. from s at (list-start-found s at) (λ b n h p q. found {P = BodyWithin s} s at (listed b) n h p q))
+    ok-cond (eqb tag 0x00000101) _ _ (λ e. from s at (open-found s at) (λ b n h p q. found {P = BodyWithin s} s at (openBody b) n h p q))
+    (λ e. ok-cond (eqb tag 0x00000201) _ _ (λ e₁. from s at (close-found s at) (λ b n h p q. found {P = BodyWithin s} s at (closeBody b) n h p q))
+    (λ e₁. ok-cond (eqb tag 0x00000701) _ _ (λ e₂. from s at (list-start-found s at) (λ b n h p q. found {P = BodyWithin s} s at (listBody b) n h p q))
     (λ e₂. record { holds = tt })))
 
 pub body-found : (s : List ℕ) (at : ℕ) → Ok (Found (BodyWithin s) s at) (bodyAt s at)

@@ -5,7 +5,7 @@ use Rattle.refusals.specs.declared.Span.{Span}
 use Rattle.octet_string.specs.Answers.{optSpan}
 use Rattle.value.specs.Answers.{optTime}
 use Rattle.common.specs.Answers.{openResponse, closeResponse}
-use Rattle.message.specs.Messages.{ListStart, ListEnd, Body, opened, closed, listed, MessageStart}
+use Rattle.message.specs.Messages.{ListStart, ListEnd, Body, openBody, closeBody, listBody, MessageStart}
 use Rattle.message.specs.declared.GetListResponseStart.{GetListResponseStart}
 use Rattle.message.specs.declared.GetListResponseEnd.{GetListResponseEnd}
 use Rattle.message.specs.declared.MessageBody.{MessageBody}
@@ -42,9 +42,9 @@ listEndRead (ListEndR.Is x next) = got (listEnd x) next
 listEndRead (ListEndR.Refused f) = refused (faultOf f)
 
 abbrev pub messageBody : MessageBody → Body Span
-messageBody (BodyC.OpenResponse x) = opened (openResponse x)
-messageBody (BodyC.CloseResponse x) = closed (closeResponse x)
-messageBody (BodyC.GetListResponse x) = listed (listStart x)
+messageBody (BodyC.OpenResponse x) = openBody (openResponse x)
+messageBody (BodyC.CloseResponse x) = closeBody (closeResponse x)
+messageBody (BodyC.GetListResponse x) = listBody (listStart x)
 
 abbrev pub bodyRead : BodyRead → Read (Body Span)
 bodyRead (BodyR.Is x next) = got (messageBody x) next

@@ -46,16 +46,16 @@ listEndAt s at =
     got (record { signature = signature; time = time }) n₂
 
 pub data Body (T : Type 0) : Type 0 where
-  opened : OpenResponse T → Body T
-  closed : CloseResponse T → Body T
-  listed : ListStart T → Body T
+  openBody : OpenResponse T → Body T
+  closeBody : CloseResponse T → Body T
+  listBody : ListStart T → Body T
 
 -- the content that a tag names; another tag, which stands at `place`, is 13
 unfoldable pub contentAt : List ℕ → ℕ → ℕ → ℕ → Read (Body Span)
 contentAt s place tag at =
-    cond (eqb tag 0x00000101) (then (openAt s at) λ b next. got (opened b) next)
-    (cond (eqb tag 0x00000201) (then (closeAt s at) λ b next. got (closed b) next)
-    (cond (eqb tag 0x00000701) (then (listStartAt s at) λ b next. got (listed b) next)
+    cond (eqb tag 0x00000101) (then (openAt s at) λ b next. got (openBody b) next)
+    (cond (eqb tag 0x00000201) (then (closeAt s at) λ b next. got (closeBody b) next)
+    (cond (eqb tag 0x00000701) (then (listStartAt s at) λ b next. got (listBody b) next)
     (refused (unexpected place))))
 
 -- a body is a list of 2: u32 tag and content

@@ -7,11 +7,11 @@ use Rattle.refusals.specs.Read.{Read, got, refused}
 use Rattle.numbers.specs.Numbers.{unsignedAt}
 use Rattle.numbers.proofs.Examples.{number-examples}
 
-valueOf : Read ℕ → ℕ
-valueOf (got n next) = n
-valueOf (refused f) = 0
+numberRead : Read ℕ → ℕ
+numberRead (got n next) = n
+numberRead (refused f) = 0
 
 -- 63 01 02 is 258
 low-byte-first : unsignedAt 2 (0x63 ∷ 0x01 ∷ 0x02 ∷ []) 0 ≡ got 513 3 → ⊥
-unfolding valueOf
-low-byte-first h = let n : _≡_ {A = ℕ} 258 513 = ap valueOf (sym (number-examples .high-first) ∙ h) in omega (arith, n)
+unfolding numberRead
+low-byte-first h = let n : _≡_ {A = ℕ} 258 513 = ap numberRead (sym (number-examples .high-first) ∙ h) in omega (arith, n)

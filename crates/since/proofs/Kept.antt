@@ -27,8 +27,8 @@ pub record KeptSince (C : Setup) (h : List ℕ) (b : ℕ) (o : Out) : Type 0 whe
   pub reads : ReadSince C (grownSince (numbered (o .event)) h b) (o .state)
   pub told : EventSays (h ++ b ∷ []) (o .event)
 
-longer : (h : List ℕ) (b : ℕ) → length (h ++ b ∷ []) ≡ suc (length h)
-longer h b = simp length-append (omega arith)
+longer-since : (h : List ℕ) (b : ℕ) → length (h ++ b ∷ []) ≡ suc (length h)
+longer-since h b = simp length-append (omega arith)
 
 -- ---- a search
 
@@ -54,7 +54,7 @@ module _ (C : Setup) (h : List ℕ) (b n noise raw : ℕ) (k : InSearch h n nois
       most = most;
       misses = misses;
       dropped = noise-grows noise (length (k .passed)) n j (k .dropped) le ∙ ap stopped (sym long);
-      long = let i = k .long in rw (longer h b) (omega arith);
+      long = let i = k .long in rw (longer-since h b) (omega arith);
     };
     told = goesOn;
   }
@@ -106,7 +106,7 @@ module _ (C : Setup) (h : List ℕ) (b r : ℕ) (m : Mem) (k : InBody C h r m) w
       few = omega arith;
       opens = tidy (k .clean);
       fits = k .fits;
-      long = let i = k .long in rw (longer h b) (omega arith);
+      long = let i = k .long in rw (longer-since h b) (omega arith);
       index = omega arith;
       sum = rw (drop-length S, k .sum, register-append start (frameHead S), register-none);
     };
@@ -120,7 +120,7 @@ module _ (C : Setup) (h : List ℕ) (b r : ℕ) (m : Mem) (k : InBody C h r m) w
       few = let i = k .few in omega arith;
       clean = k .clean;
       fits = k .fits;
-      long = let i = k .long in rw (longer h b) (omega arith);
+      long = let i = k .long in rw (longer-since h b) (omega arith);
       index = k .index;
       sum = k .sum;
     };
@@ -134,7 +134,7 @@ module _ (C : Setup) (h : List ℕ) (b r : ℕ) (m : Mem) (k : InBody C h r m) w
       few = omega arith;
       clean = run-back S r b ne;
       fits = rw (length-append S) fit;
-      long = let i = k .long in rw (longer h b) (omega arith);
+      long = let i = k .long in rw (longer-since h b) (omega arith);
       index = let i = k .index in simp length-append (omega arith);
       sum = rw (head-other S r b (k .clean) (k .few) ne, append-assoc (frameHead S), register-append start (frameHead S), drop-append-le (m .idx) S (replicate r 0x1b ++ b ∷ []) (k .index), register-append (m .reg) (drop (m .idx) S), k .sum);
     };
@@ -267,7 +267,7 @@ module _ (C : Setup) (h : List ℕ) (b k : ℕ) (m : Mem) (c : InEscape C h k m)
   kept-has = rw (c .has) (append-assoc (c .D) (c .l) (b ∷ []))
 
   kept-long : stopped (suc (m .raw)) ≡ stopped (length (h ++ b ∷ []))
-  kept-long = let i = c .long in rw (longer h b) (omega arith)
+  kept-long = let i = c .long in rw (longer-since h b) (omega arith)
 
   kept-reads : length (m .stored) + 1 ≤ C .capacity → k < 3 → KeptSince C h b (says (escape (suc k) (put m (b ∷ []))) silent)
   kept-reads fit lt = record {
@@ -315,7 +315,7 @@ kept-saw C h s b o k (W.waits {n = n} {m = m} e ne) = kept-waits C h b n m k e n
 kept-saw C h s b o k (W.opens {n = n} {m = m} e f) = kept-opens C h b n m k e f
 kept-saw C h s b o k (W.stores {n = n} {m = m} ne fit) = kept-stores C h b n m k ne fit
 kept-saw C h s b o k (W.full {n = n} {m = m} ne over) = kept-full C h b n m k ne over
-kept-saw C h s b o k (W.reads {k = j} {m = m} fit lt) = kept-reads C h b j m k fit lt
+kept-saw C h s b o k (W.collects {k = j} {m = m} fit lt) = kept-reads C h b j m k fit lt
 kept-saw C h s b o k (W.judges {k = j} {m = m} fit ge w) = kept-judges C h b j m k fit ge o w
 kept-saw C h s b o k (W.full′ {k = j} {m = m} over) = kept-full′ C h b j m k over
 

@@ -9,26 +9,26 @@ use Rattle.refusals.specs.Numbers.{discardedBytesNo}
 use Rattle.crc_x25.specs.Crc.{start, register}
 use Rattle.frame.specs.Frame.{startSeq, escSeq, escaped, Sound, runBehind}
 use Rattle.decoder.specs.Push.{Mem, State, search, body, escape, done, PushEvent, silent, discarded, paysOut, memory, badEscape, badMessage, stopped, starts}
-use Rattle.decoder.specs.Record.{Answer, nothing, payload, count, refusal}
+use Rattle.decoder.specs.Record.{DecoderAnswer, nothing, payload, count, refusal}
 use Rattle.decoder.specs.Run.{Op, push, finalize, reset}
 use Rattle.decoder.specs.declared.Setup.{Setup}
 
 -- ---- the bytes since the search or frame began, told by the operations and their answers alone
 
 -- with the byte b more and its answer: a DiscardedBytes leaves the eight of the new start, any other refusal and a payload leave none
-abbrev pub grownSince : Answer → List ℕ → ℕ → List ℕ
+abbrev pub grownSince : DecoderAnswer → List ℕ → ℕ → List ℕ
 grownSince nothing h b = h ++ b ∷ []
 grownSince (payload bytes) h b = []
 grownSince (count k) h b = []
 grownSince (refusal k values) h b = cond (eqb k discardedBytesNo) startSeq []
 
-abbrev pub grownSinceOp : Op → Answer → List ℕ → List ℕ
+abbrev pub grownSinceOp : Op → DecoderAnswer → List ℕ → List ℕ
 grownSinceOp (push b) a h = grownSince a h b
 grownSinceOp finalize a h = []
 grownSinceOp reset a h = []
 
 -- the second case never occurs: each operation has its answer
-unfoldable pub sinceFrom : List ℕ → List Op → List Answer → List ℕ
+unfoldable pub sinceFrom : List ℕ → List Op → List DecoderAnswer → List ℕ
 sinceFrom h [] more = h
 sinceFrom h (o ∷ os) [] = h
 sinceFrom h (o ∷ os) (a ∷ more) = sinceFrom (grownSinceOp o a h) os more

@@ -6,16 +6,16 @@ use Prim.Native.Nat.{ℕ, _+_, _-_, _<_, _≤_}
 use native.Mathlib.Omega.{arith}
 use lib.ListN.{length, take, drop, drop-of-length-le, length-drop}
 use lib.Seq.{take-length, drop-drop}
-use Rattle.decoder.specs.Record.{Answer, After, after, refusal, badDecoder, pushRecord}
+use Rattle.decoder.specs.Record.{DecoderAnswer, After, after, refusal, badDecoder, pushRecord}
 use Rattle.decoder.specs.declared.Decoder.{Decoder}
 use Rattle.decoder_slice.specs.Slice.{Took, afterSlice, sliceRecord}
 use Rattle.decoder_slice.specs.declared.Sliced.{Sliced}
 use Rattle.decoder_slice.proofs.Taken.{taken-le, none-took, none-taken, goes-on}
 use Rattle.smlcat.specs.Fed.{Holding, held, fed}
 
-one : (d : Decoder) (m : List ℕ) (b : ℕ) (bs : List ℕ) → fed (pushRecord d m b .decoder) (pushRecord d m b .memory) bs ≡ fed d m (b ∷ bs)
+one-byte : (d : Decoder) (m : List ℕ) (b : ℕ) (bs : List ℕ) → fed (pushRecord d m b .decoder) (pushRecord d m b .memory) bs ≡ fed d m (b ∷ bs)
 unfolding fed
-one d m b bs = refl
+one-byte d m b bs = refl
 
 -- pushes that are all refused
 fed-refused : (bs : List ℕ) (d : Decoder) (m : List ℕ) → ((b : ℕ) → pushRecord d m b ≡ after (refusal (cond (badDecoder d) 4 5) []) d m) → held d m ≡ fed d m bs
@@ -38,14 +38,14 @@ module _ (d : Decoder) (m s : List ℕ) (i : ℕ) (r : Sliced) (n : List ℕ) (s
   taken-is : r .taken ≡ sliceRecord d m (drop i s) .taken
   taken-is = ap (λ (t : Took). t .taken) part
 
-  pub room : i + r .taken ≤ length s
-  room = omega (arith, taken-is, left, taken-le d m (drop i s))
+  pub part-room : i + r .taken ≤ length s
+  part-room = omega (arith, taken-is, left, taken-le d m (drop i s))
 
   pub fed-on : (r .taken ≡ 0 → ⊥) → fed (r .decoder) n (drop (i + r .taken) s) ≡ fed d m (drop i s)
   fed-on h =
       ap (fed (r .decoder) n) (sym (drop-drop (r .taken) i s))
       ∙ ap (λ (t : Took). fed (t .decoder) (t .memory) (drop (t .taken) (drop i s))) part
-      ∙ goes-on fed (λ a e l cs. fed e l cs) one (λ e l cs. refl) d m (drop i s) (λ z. h (taken-is ∙ z))
+      ∙ goes-on fed (λ a e l cs. fed e l cs) one-byte (λ e l cs. refl) d m (drop i s) (λ z. h (taken-is ∙ z))
 
   pub fed-stop : r .taken ≡ 0 → held (r .decoder) n ≡ fed d m (drop i s)
   fed-stop z =

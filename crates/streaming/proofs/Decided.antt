@@ -6,7 +6,7 @@ use lib.Dec.{eqb}
 use Rattle.refusals.specs.Numbers.{inputTooLongNo}
 use Rattle.refusals.specs.declared.Span.{Span}
 use Rattle.streaming.specs.Next as N
-use Rattle.streaming.specs.Next.{starts, entry, ends, Said, event, noEvent, failed, alone, ReaderAfter}
+use Rattle.streaming.specs.Next.{startEvent, entryEvent, endEvent, Said, event, noEvent, failed, alone, ReaderAfter}
 use Rattle.streaming.specs.Answers.{parseEvent, said, readerAfter}
 use Rattle.streaming.specs.declared.ParseEvent.{ParseEvent}
 use Rattle.streaming.specs.declared.ParseEvent.the-variants as EventC
@@ -20,9 +20,9 @@ use Rattle.message.proofs.Decided.{listEndFrom, list-end-back, startFrom, start
 use Rattle.streaming.specs.Decided.{Views, Decided}
 
 eventFrom : N.MessageEvent Span → ParseEvent
-eventFrom (starts m) = EventC.MessageStart (startFrom m)
-eventFrom (entry e) = EventC.ListEntry (entryFrom e)
-eventFrom (ends e) = EventC.GetListResponseEnd (listEndFrom e)
+eventFrom (startEvent m) = EventC.MessageStart (startFrom m)
+eventFrom (entryEvent e) = EventC.ListEntry (entryFrom e)
+eventFrom (endEvent e) = EventC.GetListResponseEnd (listEndFrom e)
 
 event-back : (x : ParseEvent) → eventFrom (parseEvent x) ≡ x
 unfolding eventFrom

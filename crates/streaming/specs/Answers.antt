@@ -4,7 +4,7 @@ use Rattle.refusals.specs.Answers.{faultOf}
 use Rattle.refusals.specs.declared.Span.{Span}
 use Rattle.common.specs.Answers.{listEntry}
 use Rattle.message.specs.Answers.{messageStart, listEnd}
-use Rattle.streaming.specs.Next.{MessageEvent, starts, entry, ends, Said, event, noEvent, failed, alone, ReaderAfter}
+use Rattle.streaming.specs.Next.{MessageEvent, startEvent, entryEvent, endEvent, Said, event, noEvent, failed, alone, ReaderAfter}
 use Rattle.streaming.specs.declared.ParseEvent.{ParseEvent}
 use Rattle.streaming.specs.declared.ParseEvent.the-variants as EventC
 use Rattle.streaming.specs.declared.Answer.{Answer}
@@ -12,9 +12,9 @@ use Rattle.streaming.specs.declared.Answer.the-variants as AnswerC
 use Rattle.streaming.specs.declared.Next.{Next}
 
 abbrev pub parseEvent : ParseEvent → MessageEvent Span
-parseEvent (EventC.MessageStart x) = starts (messageStart x)
-parseEvent (EventC.GetListResponseEnd x) = ends (listEnd x)
-parseEvent (EventC.ListEntry x) = entry (listEntry x)
+parseEvent (EventC.MessageStart x) = startEvent (messageStart x)
+parseEvent (EventC.GetListResponseEnd x) = endEvent (listEnd x)
+parseEvent (EventC.ListEntry x) = entryEvent (listEntry x)
 
 abbrev pub said : Answer → Said
 said (AnswerC.Event e) = event (parseEvent e)

@@ -8,14 +8,14 @@ use Rattle.refusals.specs.Numbers.{badStateNo, inputTooLongNo, limit}
 use Rattle.refusals.specs.Read.{Read, got, refused, Refusal}
 use Rattle.refusals.specs.declared.Span.{Span}
 use Rattle.common.specs.Fields.{ListEntry, entryAt}
-use Rattle.message.specs.Messages.{MessageStart, ListEnd, Body, opened, closed, listed, startAt, listEndAt}
+use Rattle.message.specs.Messages.{MessageStart, ListEnd, Body, openBody, closeBody, listBody, startAt, listEndAt}
 use Rattle.trailer.specs.Trailer.{trailerAt}
 
 -- strings are of type T: a part of the input where they are read, or the bytes themselves
 pub data MessageEvent (T : Type 0) : Type 0 where
-  starts : MessageStart T → MessageEvent T
-  entry : ListEntry T → MessageEvent T
-  ends : ListEnd T → MessageEvent T
+  startEvent : MessageStart T → MessageEvent T
+  entryEvent : ListEntry T → MessageEvent T
+  endEvent : ListEnd T → MessageEvent T
 
 -- what a call says; `alone` is the number of a refusal that stands at no place of the input
 pub data Said : Type 0 where
@@ -38,27 +38,27 @@ onward end start pending (refused f) k = record { said = failed f; place = end; 
 
 -- what is pending behind a message's start: the trailer, and of a list the entries and the end
 abbrev pub pendingOf : {T : Type 0} → Body T → ℕ
-pendingOf (opened b) = 1
-pendingOf (closed b) = 1
-pendingOf (listed b) = b .count + 2
+pendingOf (openBody b) = 1
+pendingOf (closeBody b) = 1
+pendingOf (listBody b) = b .count + 2
 
 -- between messages: no event where the input is empty, else a message's start; refused there, nothing is pending
 unfoldable pub beginAt : List ℕ → ℕ → ℕ → ReaderAfter
 beginAt s at start =
     cond (leb (length s) at) (record { said = noEvent; place = at; start = start; pending = 0 })
-    (onward (length s) at 0 (startAt s at) λ m n. record { said = event (starts m); place = n; start = at; pending = pendingOf (m .body) })
+    (onward (length s) at 0 (startAt s at) λ m n. record { said = event (startEvent m); place = n; start = at; pending = pendingOf (m .body) })
 
 -- the trailer has no event: the next message's start follows in the same call
 unfoldable pub trailerNext : List ℕ → ℕ → ℕ → ReaderAfter
 trailerNext s at start = onward (length s) start 1 (trailerAt s start at) λ done n. beginAt s n start
 
 unfoldable pub endNext : List ℕ → ℕ → ℕ → ReaderAfter
-endNext s at start = onward (length s) start 2 (listEndAt s at) λ e n. record { said = event (ends e); place = n; start = start; pending = 1 }
+endNext s at start = onward (length s) start 2 (listEndAt s at) λ e n. record { said = event (endEvent e); place = n; start = start; pending = 1 }
 
 -- an entry, behind which `left` are pending
 unfoldable pub entryNext : List ℕ → ℕ → ℕ → ℕ → ReaderAfter
 entryNext s at start left =
-    onward (length s) start (suc left) (entryAt s at) λ e n. record { said = event (entry e); place = n; start = start; pending = left }
+    onward (length s) start (suc left) (entryAt s at) λ e n. record { said = event (entryEvent e); place = n; start = start; pending = left }
 
 -- pending: 0 between messages, 1 at the trailer, 2 at a list's end, more at an entry
 unfoldable pub stepAt : List ℕ → ℕ → ℕ → ℕ → ReaderAfter

@@ -30,19 +30,19 @@ abbrev pub total : Ty → ℕ → ℕ → ℕ
 total ty len n = cond (isList ty) len (len + n)
 
 -- bit 7, where k more bytes follow
-abbrev pub more : ℕ → ℕ
-more zero = 0
-more (suc k) = 128
+abbrev pub moreBit : ℕ → ℕ
+moreBit zero = 0
+moreBit (suc k) = 128
 
 -- v in k length bytes, high four bits first
 unfoldable pub lengthBytes : ℕ → ℕ → List ℕ
 lengthBytes zero v = []
-lengthBytes (suc k) v = (more k + v / 16 ^ k % 16) ∷ lengthBytes k v
+lengthBytes (suc k) v = (moreBit k + v / 16 ^ k % 16) ∷ lengthBytes k v
 
 -- v in n length bytes, the type in the first
 unfoldable pub typed : Ty → ℕ → ℕ → List ℕ
 typed ty zero v = []
-typed ty (suc k) v = (more k + 16 * tyNumber ty + v / 16 ^ k % 16) ∷ lengthBytes k v
+typed ty (suc k) v = (moreBit k + 16 * tyNumber ty + v / 16 ^ k % 16) ∷ lengthBytes k v
 
 div-up : (v k : ℕ) → v / 16 ^ suc k ≡ v / 16 ^ k / 16
 div-up v k = rw (pow-suc 16 k, div-div-eq-div-mul)

@@ -22,9 +22,9 @@ unfolding trailerAt then
 end-byte-first s start at crc n f h k = rw (h, k)
 
 -- the CRC goes over the bytes that stand between the two places
-crc-is : (m : List ℕ) {s : List ℕ} {start at : ℕ} (l : List ℕ) → Rest s start (m ++ l) → Rest s at l → crcFrom s start at ≡ crcOf m
+trailer-crc-is : (m : List ℕ) {s : List ℕ} {start at : ℕ} (l : List ℕ) → Rest s start (m ++ l) → Rest s at l → crcFrom s start at ≡ crcOf m
 unfolding crcFrom
-crc-is m {s} {start} {at} l h k = let e : at - start ≡ length m = omega (arith, rest-place m h k) in rw (e, rest-take m l h)
+trailer-crc-is m {s} {start} {at} l h k = let e : at - start ≡ length m = omega (arith, rest-place m h k) in rw (e, rest-take m l h)
 
 -- `m` are the message's bytes up to the CRC's length byte
 pub trailer-reads : (m : List ℕ) {c e : List ℕ} {s : List ℕ} {start at : ℕ} (l : List ℕ)
@@ -34,5 +34,5 @@ pub trailer-reads : (m : List ℕ) {c e : List ℕ} {s : List ℕ} {start at : �
 unfolding trailerAt
 trailer-reads m l r₁ r₂ h k =
     gets-is _ _ (r₁ .reads _ (simp append-assoc at k)) (λ n₁ k₁.
-    gets-is _ _ (r₂ .reads l k₁) (λ n₂ k₂. gets-guard _ _ _ (rw (crc-is m _ h k) (eq-eqb (swapped (crcOf m)) (swapped (crcOf m)) refl))
+    gets-is _ _ (r₂ .reads l k₁) (λ n₂ k₂. gets-guard _ _ _ (rw (trailer-crc-is m _ h k) (eq-eqb (swapped (crcOf m)) (swapped (crcOf m)) refl))
     (gets-got refl k₂)))

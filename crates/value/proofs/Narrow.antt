@@ -12,15 +12,15 @@ use Rattle.tlf.specs.declared.TypeLengthField.{TypeLengthField}
 use Rattle.numbers.specs.Numbers.{rawAt, unsignedAt, signedAt}
 use Rattle.value.specs.Values.{narrowest}
 
-held : (len : ℕ) (a b c : Bool) → leb len 1 ≡ a → leb len 2 ≡ b → leb len 4 ≡ c → leb len 8 ≡ leb len (cond a 1 (cond b 2 (cond c 4 8)))
-held len true b c p q r = rw (p, le-leb len 8 (omega (arith, leb-true len 1 p)))
-held len false true c p q r = rw (q, le-leb len 8 (omega (arith, leb-true len 2 q)))
-held len false false true p q r = rw (r, le-leb len 8 (omega (arith, leb-true len 4 r)))
-held len false false false p q r = refl
+narrow-holds : (len : ℕ) (a b c : Bool) → leb len 1 ≡ a → leb len 2 ≡ b → leb len 4 ≡ c → leb len 8 ≡ leb len (cond a 1 (cond b 2 (cond c 4 8)))
+narrow-holds len true b c p q r = rw (p, le-leb len 8 (omega (arith, leb-true len 1 p)))
+narrow-holds len false true c p q r = rw (q, le-leb len 8 (omega (arith, leb-true len 2 q)))
+narrow-holds len false false true p q r = rw (r, le-leb len 8 (omega (arith, leb-true len 4 r)))
+narrow-holds len false false false p q r = refl
 
 raw-narrow : (signed : Bool) (s : List ℕ) (at : ℕ) {t : TypeLengthField} {n : ℕ} → got t n ≡ tlfAt s at → rawAt signed 8 s at ≡ rawAt signed (narrowest (t .len)) s at
 unfolding rawAt then
-raw-narrow signed s at {t} h = rw (← h, held (t .len) _ _ _ refl refl refl)
+raw-narrow signed s at {t} h = rw (← h, narrow-holds (t .len) _ _ _ refl refl refl)
 
 pub unsigned-narrow : (s : List ℕ) (at : ℕ) {t : TypeLengthField} {n : ℕ} → got t n ≡ tlfAt s at → unsignedAt 8 s at ≡ unsignedAt (narrowest (t .len)) s at
 unfolding unsignedAt

@@ -5,7 +5,7 @@ use lib.ListN.{length}
 use Rattle.streaming.specs.Answers.{readerAfter}
 use Rattle.decoder_slice.proofs.Runs.{not-true, not-false}
 use Rattle.bench.specs.Bench.{eventsFrom, events}
-use Rattle.bench.proofs.Events.{none-yet, one-more, no-more, none-left}
+use Rattle.bench.proofs.Events.{none-yet, events-more, no-more, none-left}
 use borrow.Author.Needs.{needs}
 use Rattle.bench.proofs.bench_events.Statement.{statement}
 use Rattle.bench.proofs.bench_events.Tie as tie
@@ -44,7 +44,7 @@ loop-again c =
     let s = now (c .before .before .before .before .before .before .args .input) in
     let r = c .before .before .parse-next in (
       search needs,
-      one-more s (l .place) (l .start) (l .pending) (l .n) (length s) (readerAfter (r .result)) (c .before .before .before .loop-test .taken) (r .ensures) (sym (c .before .is-event .ensures) ∙ not-false _ (c .if1 .left)) ∙ l .inv .1,
+      events-more s (l .place) (l .start) (l .pending) (l .n) (length s) (readerAfter (r .result)) (c .before .before .before .loop-test .taken) (r .ensures) (sym (c .before .is-event .ensures) ∙ not-false _ (c .if1 .left)) ∙ l .inv .1,
     )
 
 returns-2 : tie.Need-returns-2 Inv-loop μ-loop

@@ -86,7 +86,7 @@ returns-2 : tie.Need-returns-2 Inv-loop μ-loop
 returns-2 c =
     let l = c .before .loop in
     let a = c .before .before .before .before .args in
-    streams.all-given (frameOf (now (a .payload))) (l .i) (l .total) (omega (arith, frame-short (now (a .payload)), c .loop-test .left)) (l .inv .3)
+    streams.sum-is-all (frameOf (now (a .payload))) (l .i) (l .total) (omega (arith, frame-short (now (a .payload)), c .loop-test .left)) (l .inv .3)
 
 pub sum-given-spec : {M : Type 1} → statement M
 sum-given-spec =

@@ -16,12 +16,12 @@ setup-of-requires c κs = search needs
 begun-frame-requires : tie.Need-begun-frame-requires
 begun-frame-requires c κs = search needs
 
-quietly-requires : tie.Need-quietly-requires
-quietly-requires c κs = search needs
+quiet-requires : tie.Need-quiet-requires
+quiet-requires c κs = search needs
 
 returns : tie.Need-returns
 unfolding searching
-returns c = simp (c .quietly .ensures, c .before .before .begun-frame .ensures, c .before .before .before .setup-of .ensures, sym (c .before .before .before .before .before .next-match .ensures), eq-eqb _ _ (c .before .before .before .before .if1 .taken), eq-eqb _ _ (c .before .if2 .taken))
+returns c = simp (c .quiet .ensures, c .before .before .begun-frame .ensures, c .before .before .before .setup-of .ensures, sym (c .before .before .before .before .before .next-match .ensures), eq-eqb _ _ (c .before .before .before .before .if1 .taken), eq-eqb _ _ (c .before .if2 .taken))
 
 returns-2 : tie.Need-returns-2
 unfolding searching
@@ -35,12 +35,12 @@ more-noise-requires c κs =
 looking-requires : tie.Need-looking-requires
 looking-requires c κs = search needs
 
-quietly-requires-2 : tie.Need-quietly-requires-2
-quietly-requires-2 c κs = search needs
+quiet-requires-2 : tie.Need-quiet-requires-2
+quiet-requires-2 c κs = search needs
 
 returns-3 : tie.Need-returns-3
 unfolding searching
-returns-3 c = simp (c .quietly2 .ensures, c .before .looking .ensures, c .before .before .more-noise .ensures, sym (c .before .before .before .before .next-match .ensures), ne-eqb _ _ (c .before .before .before .if1 .left))
+returns-3 c = simp (c .quiet2 .ensures, c .before .looking .ensures, c .before .before .more-noise .ensures, sym (c .before .before .before .before .next-match .ensures), ne-eqb _ _ (c .before .before .before .if1 .left))
 
 pub looking-for-message-start-spec : {M : Type 1} → statement M
 looking-for-message-start-spec =
@@ -49,10 +49,10 @@ looking-for-message-start-spec =
     next-match-requires
     setup-of-requires
     begun-frame-requires
-    quietly-requires
+    quiet-requires
     returns
     returns-2
     more-noise-requires
     looking-requires
-    quietly-requires-2
+    quiet-requires-2
     returns-3)

@@ -37,12 +37,12 @@ cast-read c = search needs
 in-state-requires : tie.Need-in-state-requires
 in-state-requires c κs = search needs
 
-quietly-requires : tie.Need-quietly-requires
-quietly-requires c κs = search needs
+quiet-requires : tie.Need-quiet-requires
+quiet-requires c κs = search needs
 
 returns : tie.Need-returns
 unfolding otherStep
-returns c = simp (sym (simp add-sub-cancel-left at (c .before .before .before .is-cut-end .ensures)), c .before .before .if1 .taken, c .quietly .ensures, c .before .in-state .ensures)
+returns c = simp (sym (simp add-sub-cancel-left at (c .before .before .before .is-cut-end .ensures)), c .before .before .if1 .taken, c .quiet .ensures, c .before .in-state .ensures)
 
 setup-of-requires : tie.Need-setup-of-requires
 setup-of-requires c κs = search needs
@@ -90,7 +90,7 @@ other-escape-spec =
     sub-read
     cast-read
     in-state-requires
-    quietly-requires
+    quiet-requires
     returns
     setup-of-requires
     shared-slice-read-t18

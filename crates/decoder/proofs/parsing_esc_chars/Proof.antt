@@ -6,18 +6,18 @@ use borrow.Author.Needs.{needs}
 use Rattle.decoder.proofs.parsing_esc_chars.Statement.{statement}
 use Rattle.decoder.proofs.parsing_esc_chars.Tie as tie
 
-opened-requires : tie.Need-opened-requires
-opened-requires c κs = search needs
+escape-at-requires : tie.Need-escape-at-requires
+escape-at-requires c κs = search needs
 
-quietly-requires : tie.Need-quietly-requires
-quietly-requires c κs = search needs
+quiet-requires : tie.Need-quiet-requires
+quiet-requires c κs = search needs
 
 same-length : tie.Need-same-length
 same-length c = search needs
 
 returns : tie.Need-returns
 unfolding waitStep
-returns c = simp (eq-eqb _ _ (c .before .before .before .before .if1 .taken), eq-eqb _ _ (c .before .before .before .if2 .taken), c .quietly .ensures, c .before .opened .ensures)
+returns c = simp (eq-eqb _ _ (c .before .before .before .before .if1 .taken), eq-eqb _ _ (c .before .before .before .if2 .taken), c .quiet .ensures, c .before .escape-at .ensures)
 
 add-t13 : tie.Need-add-t13
 add-t13 c = search needs
@@ -25,12 +25,12 @@ add-t13 c = search needs
 pushed-on-requires : tie.Need-pushed-on-requires
 pushed-on-requires c κs = search needs
 
-quietly-requires-2 : tie.Need-quietly-requires-2
-quietly-requires-2 c κs = search needs
+quiet-requires-2 : tie.Need-quiet-requires-2
+quiet-requires-2 c κs = search needs
 
 returns-2 : tie.Need-returns-2
 unfolding waitStep
-returns-2 c = simp (eq-eqb _ _ (c .before .before .before .if1 .taken), ne-eqb _ _ (c .before .before .if2 .left), c .quietly2 .ensures, c .before .pushed-on .ensures)
+returns-2 c = simp (eq-eqb _ _ (c .before .before .before .if1 .taken), ne-eqb _ _ (c .before .before .if2 .left), c .quiet2 .ensures, c .before .pushed-on .ensures)
 
 sub-if3 : tie.Need-sub-if3
 sub-if3 c = search needs
@@ -44,15 +44,15 @@ add-stored-on c = search needs
 stored-on-requires : tie.Need-stored-on-requires
 stored-on-requires c κs = search needs
 
-quietly-requires-3 : tie.Need-quietly-requires-3
-quietly-requires-3 c κs = search needs
+quiet-requires-3 : tie.Need-quiet-requires-3
+quiet-requires-3 c κs = search needs
 
 same-length-2 : tie.Need-same-length-2
 same-length-2 c = search needs
 
 returns-3 : tie.Need-returns-3
 unfolding waitStep
-returns-3 c = simp (ne-eqb _ _ (c .before .before .before .before .before .before .before .if1 .left), run-length, lt-room-left _ _ _ (c .before .before .before .before .before .before .if3 .taken), c .before .before .before .before .put-run-and .ensures, c .quietly3 .ensures, c .before .stored-on .ensures)
+returns-3 c = simp (ne-eqb _ _ (c .before .before .before .before .before .before .before .if1 .left), run-length, lt-room-left _ _ _ (c .before .before .before .before .before .before .if3 .taken), c .before .before .before .before .put-run-and .ensures, c .quiet3 .ensures, c .before .stored-on .ensures)
 
 setup-of-requires : tie.Need-setup-of-requires
 setup-of-requires c κs = search needs
@@ -68,19 +68,19 @@ pub parsing-esc-chars-spec : {M : Type 1} → statement M
 parsing-esc-chars-spec =
     tie.close
     (tie.spec
-    opened-requires
-    quietly-requires
+    escape-at-requires
+    quiet-requires
     same-length
     returns
     add-t13
     pushed-on-requires
-    quietly-requires-2
+    quiet-requires-2
     returns-2
     sub-if3
     put-run-and-requires
     add-stored-on
     stored-on-requires
-    quietly-requires-3
+    quiet-requires-3
     same-length-2
     returns-3
     setup-of-requires

@@ -16,28 +16,28 @@ add-t11 c = search needs
 stored-on-requires : tie.Need-stored-on-requires
 stored-on-requires c κs = search needs
 
-quietly-requires : tie.Need-quietly-requires
-quietly-requires c κs = search needs
+quiet-requires : tie.Need-quiet-requires
+quiet-requires c κs = search needs
 
 same-length : tie.Need-same-length
 same-length c = search needs
 
 returns : tie.Need-returns
 unfolding escapeStep
-returns c = simp (lt-room _ _ (c .before .before .before .if1 .taken), lt-ltb _ _ (c .before .before .if2 .taken), c .quietly .ensures, c .before .stored-on .ensures)
+returns c = simp (lt-room _ _ (c .before .before .before .if1 .taken), lt-ltb _ _ (c .before .before .if2 .taken), c .quiet .ensures, c .before .stored-on .ensures)
 
 stored-on-requires-2 : tie.Need-stored-on-requires-2
 stored-on-requires-2 c κs = search needs
 
-judge-requires : tie.Need-judge-requires
-judge-requires c κs = simp (c .before .stored-on2 .ensures, length-set) (omega arith)
+judge-step-requires : tie.Need-judge-step-requires
+judge-step-requires c κs = simp (c .before .stored-on2 .ensures, length-set) (omega arith)
 
 same-length-2 : tie.Need-same-length-2
 same-length-2 c = search needs
 
 returns-2 : tie.Need-returns-2
 unfolding escapeStep
-returns-2 c = simp (lt-room _ _ (c .before .before .before .before .if1 .taken), le-ltb _ _ (c .before .before .before .if2 .left), c .judge .ensures, c .before .before .stored-on2 .ensures)
+returns-2 c = simp (lt-room _ _ (c .before .before .before .before .if1 .taken), le-ltb _ _ (c .before .before .before .if2 .left), c .judge-step .ensures, c .before .before .stored-on2 .ensures)
 
 setup-of-requires : tie.Need-setup-of-requires
 setup-of-requires c κs = search needs
@@ -56,11 +56,11 @@ parsing-esc-payload-spec =
     slice-write-buf
     add-t11
     stored-on-requires
-    quietly-requires
+    quiet-requires
     same-length
     returns
     stored-on-requires-2
-    judge-requires
+    judge-step-requires
     same-length-2
     returns-2
     setup-of-requires

@@ -8,12 +8,12 @@ use Rattle.decoder.proofs.parsing_normal.Tie as tie
 pushed-on-requires : tie.Need-pushed-on-requires
 pushed-on-requires c κs = search needs
 
-quietly-requires : tie.Need-quietly-requires
-quietly-requires c κs = search needs
+quiet-requires : tie.Need-quiet-requires
+quiet-requires c κs = search needs
 
 returns : tie.Need-returns
 unfolding normalStep
-returns c = simp (eq-eqb _ _ (c .before .before .if1 .taken), c .quietly .ensures, c .before .pushed-on .ensures)
+returns c = simp (eq-eqb _ _ (c .before .before .if1 .taken), c .quiet .ensures, c .before .pushed-on .ensures)
 
 slice-write-buf : tie.Need-slice-write-buf
 slice-write-buf c = search needs
@@ -21,15 +21,15 @@ slice-write-buf c = search needs
 stored-on-requires : tie.Need-stored-on-requires
 stored-on-requires c κs = search needs
 
-quietly-requires-2 : tie.Need-quietly-requires-2
-quietly-requires-2 c κs = search needs
+quiet-requires-2 : tie.Need-quiet-requires-2
+quiet-requires-2 c κs = search needs
 
 same-length : tie.Need-same-length
 same-length c = search needs
 
 returns-2 : tie.Need-returns-2
 unfolding normalStep
-returns-2 c = simp (ne-eqb _ _ (c .before .before .before .if1 .left), lt-room _ _ (c .before .before .if2 .taken), c .quietly2 .ensures, c .before .stored-on .ensures)
+returns-2 c = simp (ne-eqb _ _ (c .before .before .before .if1 .left), lt-room _ _ (c .before .before .if2 .taken), c .quiet2 .ensures, c .before .stored-on .ensures)
 
 setup-of-requires : tie.Need-setup-of-requires
 setup-of-requires c κs = search needs
@@ -46,11 +46,11 @@ parsing-normal-spec =
     tie.close
     (tie.spec
     pushed-on-requires
-    quietly-requires
+    quiet-requires
     returns
     slice-write-buf
     stored-on-requires
-    quietly-requires-2
+    quiet-requires-2
     same-length
     returns-2
     setup-of-requires

@@ -66,8 +66,8 @@ enum-told-2 c = search needs
 setup-of-requires : tie.Need-setup-of-requires
 setup-of-requires c κs = search needs
 
-fresh-requires : tie.Need-fresh-requires
-fresh-requires c κs = search needs
+new-record-requires : tie.Need-new-record-requires
+new-record-requires c κs = search needs
 
 looking-for-message-start-requires-2 : tie.Need-looking-for-message-start-requires-2
 looking-for-message-start-requires-2 c κs = search needs
@@ -115,7 +115,7 @@ returns-7 c =
     let a = c .before .before .before .before .before .before .before .before .before .before .args in
     push-step (a .d) (now (a .buf)) (a .b) _ _ (sym (c .before .before .before .before .before .before .before .before .bad-decoder .ensures) ∙ c .before .before .before .before .before .before .before .if1 .left) (sym (c .before .before .before .before .before .before .wrong-buffer .ensures) ∙ c .before .before .before .before .before .if2 .left) (c .before .before .before .enum-told2 .given .1)
     (ap (λ (p : Pushed). cut p (now (a .buf)))
-    (c .looking-for-message-start2 .ensures ∙ ap (λ (d : Decoder). code (setup d) (searching 0 0 (d .«raw_msg_len») (a .b))) (c .before .fresh .ensures ∙ ap newRecord (c .before .before .setup-of .ensures))))
+    (c .looking-for-message-start2 .ensures ∙ ap (λ (d : Decoder). code (setup d) (searching 0 0 (d .«raw_msg_len») (a .b))) (c .before .new-record .ensures ∙ ap newRecord (c .before .before .setup-of .ensures))))
 
 pub push-any-spec : {M : Type 1} → statement M
 push-any-spec =
@@ -135,7 +135,7 @@ push-any-spec =
     parsing-esc-payload-requires
     enum-told-2
     setup-of-requires
-    fresh-requires
+    new-record-requires
     looking-for-message-start-requires-2
     returns-3
     same-length

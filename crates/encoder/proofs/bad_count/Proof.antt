@@ -1,6 +1,6 @@
 use mathlib.Core.Path.{sym, ap, _∙_}
 use Rattle.encoder.specs.Encoder.{badCount, badEnd}
-use Rattle.encoder.proofs.Ends.{read-back}
+use Rattle.encoder.proofs.Ends.{end-read-back}
 use borrow.Author.Needs.{needs}
 use Rattle.encoder.proofs.bad_count.Statement.{statement}
 use Rattle.encoder.proofs.bad_count.Tie as tie
@@ -30,7 +30,7 @@ returns-3 : tie.Need-returns-3
 returns-3 c = sym (ap badCount (c .before .state3 .given .1))
 
 returns-4 : tie.Need-returns-4
-returns-4 c = c .bad-end .ensures ∙ ap badEnd (read-back (c .before .before .state4 .given .0 .0) (record { sfits = c .before .known-told4 .given .0 .1 })) ∙ sym (ap badCount (c .before .before .state4 .given .1))
+returns-4 c = c .bad-end .ensures ∙ ap badEnd (end-read-back (c .before .before .state4 .given .0 .0) (record { sfits = c .before .known-told4 .given .0 .1 })) ∙ sym (ap badCount (c .before .before .state4 .given .1))
 
 pub bad-count-spec : {M : Type 1} → statement M
 bad-count-spec =

@@ -1,6 +1,6 @@
 use lib.IntN.{ℤ, sucℤ}
 use Rattle.encoder.specs.Encoder.{endByte}
-use Rattle.encoder.proofs.Ends.{read-back}
+use Rattle.encoder.proofs.Ends.{end-read-back}
 use mathlib.Core.Path.{ap, _∙_}
 use Rattle.encoder.proofs.Steps.{ended-is}
 use borrow.Author.Needs.{needs}
@@ -28,14 +28,14 @@ give-byte-requires c κs = search needs
 returns : tie.Need-returns
 returns c =
     let a = c .before .before .before .before .before .args in
-    let back = read-back (a .n) (c .before .before .before .before .before .fits .n) in
+    let back = end-read-back (a .n) (c .before .before .before .before .before .fits .n) in
     let p = c .before .before .before .before .num-padding-bytes in
     let x = c .before .before .before .finalize in
     let b = c .before .before .end-byte in
     let z = c .before .next-end in
     c .give-byte .ensures
     ∙ ended-is (a .n) _ (a .place) (a .crc) (p .result) (b .result) (x .result) (p .ensures) (x .ensures)
-    (b .ensures ∙ ap (λ (n : ℤ). endByte n (p .result) (x .result)) back) (read-back (z .result) (record { sfits = z .ok }) ∙ z .ensures ∙ ap sucℤ back)
+    (b .ensures ∙ ap (λ (n : ℤ). endByte n (p .result) (x .result)) back) (end-read-back (z .result) (record { sfits = z .ok }) ∙ z .ensures ∙ ap sucℤ back)
 
 pub give-end-spec : {M : Type 1} → statement M
 give-end-spec =

@@ -1,7 +1,7 @@
 use mathlib.Core.Path.{ap, _∙_}
 use denote.Ref.{now}
 use Rattle.encoder.specs.Encoder.{lastEnd}
-use Rattle.encoder.proofs.Ends.{read-back, not-last}
+use Rattle.encoder.proofs.Ends.{end-read-back, not-last}
 use Rattle.encoder.proofs.Steps.{look-byte, look-end}
 use borrow.Author.Needs.{needs}
 use Rattle.encoder.proofs.looking_for_escape.Statement.{statement}
@@ -37,7 +37,7 @@ end-crc-requires : tie.Need-end-crc-requires
 end-crc-requires c κs = search needs
 
 give-end-requires : tie.Need-give-end-requires
-give-end-requires c κs = ap lastEnd (read-back _ (record { sfits = c .before .first-end .ok }) ∙ c .before .first-end .ensures) ∙ not-last (c .before .before .num-padding-bytes .result)
+give-end-requires c κs = ap lastEnd (end-read-back _ (record { sfits = c .before .first-end .ok }) ∙ c .before .first-end .ensures) ∙ not-last (c .before .before .num-padding-bytes .result)
 
 returns-2 : tie.Need-returns-2
 returns-2 c =
@@ -45,7 +45,7 @@ returns-2 c =
     let n = c .before .before .before .num-padding-bytes in
     let f = c .before .before .first-end in
     let x = c .before .end-crc in
-    c .give-end .ensures ∙ look-end (a .n) (a .place) (a .crc) (n .result) (x .result) _ (now (a .payload)) (c .before .before .before .before .if1 .left) (n .ensures) (read-back _ (record { sfits = f .ok }) ∙ f .ensures) (x .ensures)
+    c .give-end .ensures ∙ look-end (a .n) (a .place) (a .crc) (n .result) (x .result) _ (now (a .payload)) (c .before .before .before .before .if1 .left) (n .ensures) (end-read-back _ (record { sfits = f .ok }) ∙ f .ensures) (x .ensures)
 
 pub looking-for-escape-spec : {M : Type 1} → statement M
 looking-for-escape-spec =

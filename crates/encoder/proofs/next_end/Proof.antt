@@ -1,4 +1,4 @@
-use Rattle.encoder.proofs.Ends.{next-fits, next-is}
+use Rattle.encoder.proofs.Ends.{next-fits, end-next-is}
 use Rattle.encoder.proofs.next_end.Statement.{statement}
 use Rattle.encoder.proofs.next_end.Tie as tie
 
@@ -6,7 +6,7 @@ add-result : tie.Need-add-result
 add-result c = next-fits (c .args .n) (c .fits .n) (c .pre)
 
 returns : tie.Need-returns
-returns c = next-is (c .args .n) (c .fits .n) (c .pre)
+returns c = end-next-is (c .args .n) (c .fits .n) (c .pre)
 
 pub next-end-spec : {M : Type 1} → statement M
 next-end-spec = tie.close (tie.spec add-result returns)

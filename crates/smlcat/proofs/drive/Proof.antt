@@ -3,7 +3,7 @@ use denote.Ref.{now}
 use Prim.Native.Nat.{_≤_, _<_, _-_, _+_, _^_}
 use lib.ListN.{length, drop}
 use Rattle.smlcat.specs.Fed.{fed}
-use Rattle.smlcat.proofs.Laws.{room, fed-on, fed-stop, fed-done}
+use Rattle.smlcat.proofs.Laws.{part-room, fed-on, fed-stop, fed-done}
 use borrow.Author.Needs.{needs}
 use Rattle.smlcat.proofs.drive.Statement.{statement}
 use Rattle.smlcat.proofs.drive.Tie as tie
@@ -47,7 +47,7 @@ add-i c =
     let l = c .before .before .before .before .before .before .before .before .before .before .loop in
     let a = c .before .before .before .before .before .before .before .before .before .before .before .before .before .args in
     let p = c .before .before .before .before .before .before .push-slice in
-    let h : l .i + p .result .taken ≤ length (now (a .chunk)) = room (l .at) (l .buf) (now (a .chunk)) (l .i) (p .result) _ (p .ensures) (c .before .before .before .before .before .before .before .before .before .loop-test .taken) in
+    let h : l .i + p .result .taken ≤ length (now (a .chunk)) = part-room (l .at) (l .buf) (now (a .chunk)) (l .i) (p .result) _ (p .ensures) (c .before .before .before .before .before .before .before .before .before .loop-test .taken) in
     let g = c .before .before .before .before .before .before .before .before .before .before .before .before .before .good in
     let z : length (now (a .chunk)) < 2 ^ 64 = search needs in
     let f : l .i + p .result .taken < 2 ^ 64 = search needs in
@@ -58,7 +58,7 @@ loop-less c =
     let l = c .before .before .before .before .before .before .before .before .before .before .loop in
     let a = c .before .before .before .before .before .before .before .before .before .before .before .before .before .args in
     let p = c .before .before .before .before .before .before .push-slice in
-    let h : l .i + p .result .taken ≤ length (now (a .chunk)) = room (l .at) (l .buf) (now (a .chunk)) (l .i) (p .result) _ (p .ensures) (c .before .before .before .before .before .before .before .before .before .loop-test .taken) in
+    let h : l .i + p .result .taken ≤ length (now (a .chunk)) = part-room (l .at) (l .buf) (now (a .chunk)) (l .i) (p .result) _ (p .ensures) (c .before .before .before .before .before .before .before .before .before .loop-test .taken) in
     search needs
 
 loop-again : tie.Need-loop-again Inv-loop μ-loop
@@ -66,7 +66,7 @@ loop-again c =
     let l = c .before .before .before .before .before .before .before .before .before .before .loop in
     let a = c .before .before .before .before .before .before .before .before .before .before .before .before .before .args in
     let p = c .before .before .before .before .before .before .push-slice in
-    (room (l .at) (l .buf) (now (a .chunk)) (l .i) (p .result) _ (p .ensures) (c .before .before .before .before .before .before .before .before .before .loop-test .taken), search needs, fed-on (l .at) (l .buf) (now (a .chunk)) (l .i) (p .result) _ (p .ensures) (c .before .before .before .before .before .before .before .before .before .loop-test .taken) (c .if1 .left) ∙ l .inv .2)
+    (part-room (l .at) (l .buf) (now (a .chunk)) (l .i) (p .result) _ (p .ensures) (c .before .before .before .before .before .before .before .before .before .loop-test .taken), search needs, fed-on (l .at) (l .buf) (now (a .chunk)) (l .i) (p .result) _ (p .ensures) (c .before .before .before .before .before .before .before .before .before .loop-test .taken) (c .if1 .left) ∙ l .inv .2)
 
 same-length-2 : tie.Need-same-length-2 Inv-loop μ-loop
 same-length-2 c = search needs

@@ -7,28 +7,28 @@ use borrow.Author.Needs.{needs}
 use Rattle.decoder.proofs.Decoder.payload.Statement.{statement}
 use Rattle.decoder.proofs.Decoder.payload.Tie as tie
 
-has-payload-requires : tie.Need-has-payload-requires
-has-payload-requires c κs = search needs
+payload-in-requires : tie.Need-payload-in-requires
+payload-in-requires c κs = search needs
 
 slice-aggregate-result : tie.Need-slice-aggregate-result
 slice-aggregate-result c =
     let a = c .before .before .before .before .args in
-    sym (length-take-le (a .self .fill) (now (a .buf)) (payload-room (a .self) (length (now (a .buf))) (sym (c .before .before .has-payload .ensures) ∙ c .before .if1 .taken)))
+    sym (length-take-le (a .self .fill) (now (a .buf)) (payload-room (a .self) (length (now (a .buf))) (sym (c .before .before .payload-in .ensures) ∙ c .before .if1 .taken)))
 
 returns : tie.Need-returns
-returns c = payload-is (c .before .before .before .before .args .self) (now (c .before .before .before .before .args .buf)) (sym (c .before .before .has-payload .ensures) ∙ c .before .if1 .taken)
+returns c = payload-is (c .before .before .before .before .args .self) (now (c .before .before .before .before .args .buf)) (sym (c .before .before .payload-in .ensures) ∙ c .before .if1 .taken)
 
 slice-aggregate-result-2 : tie.Need-slice-aggregate-result-2
 slice-aggregate-result-2 c = search needs
 
 returns-2 : tie.Need-returns-2
-returns-2 c = payload-no (c .before .before .before .before .args .self) (now (c .before .before .before .before .args .buf)) (sym (c .before .before .has-payload .ensures) ∙ c .before .if1 .left)
+returns-2 c = payload-no (c .before .before .before .before .args .self) (now (c .before .before .before .before .args .buf)) (sym (c .before .before .payload-in .ensures) ∙ c .before .if1 .left)
 
 pub payload-spec : {M : Type 1} → statement M
 payload-spec =
     tie.close
     (tie.spec
-    has-payload-requires
+    payload-in-requires
     slice-aggregate-result
     returns
     slice-aggregate-result-2

@@ -21,8 +21,8 @@ stored-on-requires c κs =
     let a = c .before .before .before .args in
     plain-fits (a .self) (length (now (a .buf))) (a .b) (sym (c .before .is-plain .ensures) ∙ c .if1 .taken)
 
-quietly-requires : tie.Need-quietly-requires
-quietly-requires c κs = search needs
+quiet-requires : tie.Need-quiet-requires
+quiet-requires c κs = search needs
 
 same-length : tie.Need-same-length
 same-length c = search needs
@@ -31,7 +31,7 @@ returns : tie.Need-returns
 returns c =
     let a = c .before .before .before .before .before .args in
     let e = sym (c .before .before .before .is-plain .ensures) ∙ c .before .before .if1 .taken in
-    rw (c .quietly .ensures, c .before .stored-on .ensures) (push-plain (a .self) (now (a .buf)) (a .b) e)
+    rw (c .quiet .ensures, c .before .stored-on .ensures) (push-plain (a .self) (now (a .buf)) (a .b) e)
 
 in-state-requires : tie.Need-in-state-requires
 in-state-requires c κs = search needs
@@ -61,7 +61,7 @@ push-byte-spec =
     is-plain-requires
     slice-write-buf
     stored-on-requires
-    quietly-requires
+    quiet-requires
     same-length
     returns
     in-state-requires

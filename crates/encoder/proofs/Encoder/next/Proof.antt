@@ -20,11 +20,11 @@ answered-requires-2 c κs = search needs
 returns-2 : tie.Need-returns-2
 returns-2 c = c .answered2 .ensures ∙ next-bad (c .before .before .before .before .before .args .self) (now (c .before .before .before .before .before .args .payload)) (c .before .before .before .if1 .left) (sym (c .before .before .bad-encoder .ensures) ∙ c .before .if2 .taken)
 
-step-requires : tie.Need-step-requires
-step-requires c κs = search needs
+next-from-state-requires : tie.Need-next-from-state-requires
+next-from-state-requires c κs = search needs
 
 returns-3 : tie.Need-returns-3
-returns-3 c = c .step .ensures ∙ next-good (c .before .before .before .before .before .args .self) (now (c .before .before .before .before .before .args .payload)) (c .before .before .before .if1 .left) (sym (c .before .before .bad-encoder .ensures) ∙ c .before .if2 .left)
+returns-3 c = c .next-from-state .ensures ∙ next-good (c .before .before .before .before .before .args .self) (now (c .before .before .before .before .before .args .payload)) (c .before .before .before .if1 .left) (sym (c .before .before .bad-encoder .ensures) ∙ c .before .if2 .left)
 
 pub next-spec : {M : Type 1} → statement M
 next-spec =
@@ -35,5 +35,5 @@ next-spec =
     bad-encoder-requires
     answered-requires-2
     returns-2
-    step-requires
+    next-from-state-requires
     returns-3)

@@ -1,7 +1,7 @@
 use Rattle.decoder.specs.Cut.{escapeAt}
 use borrow.Author.Needs.{needs}
-use Rattle.decoder.proofs.opened.Statement.{statement}
-use Rattle.decoder.proofs.opened.Tie as tie
+use Rattle.decoder.proofs.escape_at.Statement.{statement}
+use Rattle.decoder.proofs.escape_at.Tie as tie
 
 sub-update : tie.Need-sub-update
 sub-update c = search needs
@@ -34,8 +34,8 @@ returns : tie.Need-returns
 unfolding escapeAt
 returns c = simp (c .made .ensures, c .before .one-more .ensures, c .before .before .setup-of .ensures, c .before .before .before .update2 .ensures, c .before .before .before .before .before .update .ensures)
 
-pub opened-spec : {M : Type 1} → statement M
-opened-spec =
+pub escape-at-spec : {M : Type 1} → statement M
+escape-at-spec =
     tie.close
     (tie.spec
     sub-update

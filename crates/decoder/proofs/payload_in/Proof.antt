@@ -1,8 +1,8 @@
 use mathlib.Core.Path.{sym}
 use Rattle.decoder.specs.Cut.{payloadIn}
 use borrow.Author.Needs.{needs}
-use Rattle.decoder.proofs.has_payload.Statement.{statement}
-use Rattle.decoder.proofs.has_payload.Tie as tie
+use Rattle.decoder.proofs.payload_in.Statement.{statement}
+use Rattle.decoder.proofs.payload_in.Tie as tie
 
 bad-decoder-requires : tie.Need-bad-decoder-requires
 bad-decoder-requires c κs = search needs
@@ -25,8 +25,8 @@ returns-3 : tie.Need-returns-3
 unfolding payloadIn
 returns-3 c = simp (sym (c .before .before .before .before .bad-decoder .ensures), c .before .before .before .if1 .left, sym (c .before .before .wrong-buffer .ensures), c .before .if2 .left, c .is-done .ensures)
 
-pub has-payload-spec : {M : Type 1} → statement M
-has-payload-spec =
+pub payload-in-spec : {M : Type 1} → statement M
+payload-in-spec =
     tie.close
     (tie.spec
     bad-decoder-requires

@@ -3,8 +3,8 @@ use native.Mathlib.Nat.{add-zero, add-sub-cancel-left}
 use borrow.Author.Tests.{eq-eqb, ne-eqb}
 use Rattle.decoder.specs.Cut.{judgeStep}
 use borrow.Author.Needs.{needs}
-use Rattle.decoder.proofs.judge.Statement.{statement}
-use Rattle.decoder.proofs.judge.Tie as tie
+use Rattle.decoder.proofs.judge_step.Statement.{statement}
+use Rattle.decoder.proofs.judge_step.Tie as tie
 
 sub-at : tie.Need-sub-at
 sub-at c = search needs
@@ -30,12 +30,12 @@ same-bytes-requires c κs = search needs
 in-state-requires : tie.Need-in-state-requires
 in-state-requires c κs = search needs
 
-quietly-requires : tie.Need-quietly-requires
-quietly-requires c κs = search needs
+quiet-requires : tie.Need-quiet-requires
+quiet-requires c κs = search needs
 
 returns : tie.Need-returns
 unfolding judgeStep
-returns c = simp (sym (simp add-sub-cancel-left at (c .before .before .before .same-bytes .ensures)), c .before .before .if1 .taken, c .quietly .ensures, c .before .in-state .ensures)
+returns c = simp (sym (simp add-sub-cancel-left at (c .before .before .before .same-bytes .ensures)), c .before .before .if1 .taken, c .quiet .ensures, c .before .in-state .ensures)
 
 add-same-bytes-2 : tie.Need-add-same-bytes-2
 add-same-bytes-2 c = search needs
@@ -85,8 +85,8 @@ returns-4 : tie.Need-returns-4
 unfolding judgeStep
 returns-4 c = simp (sym (simp add-sub-cancel-left at (c .before .before .before .before .before .before .before .before .same-bytes .ensures)), c .before .before .before .before .before .before .before .if1 .left, sym (simp add-sub-cancel-left at (c .before .before .before .before .same-bytes2 .ensures)), c .before .before .before .if2 .left, add-zero, ne-eqb _ _ (c .before .if3 .left), c .other-escape .ensures)
 
-pub judge-spec : {M : Type 1} → statement M
-judge-spec =
+pub judge-step-spec : {M : Type 1} → statement M
+judge-step-spec =
     tie.close
     (tie.spec
     sub-at
@@ -97,7 +97,7 @@ judge-spec =
     slice-aggregate-same-bytes
     same-bytes-requires
     in-state-requires
-    quietly-requires
+    quiet-requires
     returns
     add-same-bytes-2
     sub-same-bytes-2

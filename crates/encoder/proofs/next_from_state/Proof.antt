@@ -5,11 +5,11 @@ use native.Mathlib.Omega.{arith}
 use denote.Ref.{now}
 use lib.IntN.{ℤ}
 use Rattle.encoder.specs.Encoder.{Step, lastEnd, ended, looked}
-use Rattle.encoder.proofs.Ends.{read-back}
-use Rattle.encoder.proofs.Steps.{at-start, behind-start, looking, fourth, at-escape, behind-escape, all-given, at-end}
+use Rattle.encoder.proofs.Ends.{end-read-back}
+use Rattle.encoder.proofs.Steps.{at-start, behind-start, step-looks, fourth, at-escape, behind-escape, all-given, at-end}
 use borrow.Author.Needs.{needs}
-use Rattle.encoder.proofs.step.Statement.{statement}
-use Rattle.encoder.proofs.step.Tie as tie
+use Rattle.encoder.proofs.next_from_state.Statement.{statement}
+use Rattle.encoder.proofs.next_from_state.Tie as tie
 
 enum-known-state : tie.Need-enum-known-state
 enum-known-state c = search needs
@@ -73,7 +73,7 @@ answered-requires c κs = search needs
 
 returns-4 : tie.Need-returns-4
 returns-4 c =
-    let back = read-back (c .before .before .before .before .state4 .given .0 .0) (record { sfits = c .before .before .before .known-told4 .given .0 .1 }) in
+    let back = end-read-back (c .before .before .before .before .state4 .given .0 .0) (record { sfits = c .before .before .before .known-told4 .given .0 .1 }) in
     c .answered .ensures
     ∙ all-given (c .before .before .before .before .before .before .before .args .place) (c .before .before .before .before .before .before .before .args .crc) (now (c .before .before .before .before .before .before .before .args .payload)) (c .before .before .before .before .before .before .before .args .state) (c .before .before .before .before .state4 .given .0 .0) (c .before .before .before .before .state4 .given .1) (sym (ap lastEnd back) ∙ sym (c .before .before .last-end .ensures) ∙ c .before .if4 .taken)
 
@@ -82,7 +82,7 @@ give-end-requires c κs = sym (c .before .last-end .ensures) ∙ c .if4 .left
 
 returns-5 : tie.Need-returns-5
 returns-5 c =
-    let back = read-back (c .before .before .before .before .state4 .given .0 .0) (record { sfits = c .before .before .before .known-told4 .given .0 .1 }) in
+    let back = end-read-back (c .before .before .before .before .state4 .given .0 .0) (record { sfits = c .before .before .before .known-told4 .given .0 .1 }) in
     c .give-end .ensures ∙ ap (λ (z : ℤ). ended z (c .before .before .before .before .before .before .before .args .place) (c .before .before .before .before .before .before .before .args .crc)) back
     ∙ at-end (c .before .before .before .before .before .before .before .args .place) (c .before .before .before .before .before .before .before .args .crc) (now (c .before .before .before .before .before .before .before .args .payload)) (c .before .before .before .before .before .before .before .args .state) (c .before .before .before .before .state4 .given .0 .0) (c .before .before .before .before .state4 .given .1) (sym (ap lastEnd back) ∙ sym (c .before .before .last-end .ensures) ∙ c .before .if4 .left)
 
@@ -104,12 +104,12 @@ returns-6 c =
     ∙ ⊎-elim
     (λ w. ap run (w .4) ∙ behind-start (a .place) (a .crc) p (a .state) (w .1 .given .0 .0) (w .1 .given .1) (w .3 .left))
     (⊎-elim
-    (λ w. ap run (w .4) ∙ looking (a .place) (a .crc) p (a .state) (w .1 .given .0 .0) (w .1 .given .1) (w .3 .taken))
+    (λ w. ap run (w .4) ∙ step-looks (a .place) (a .crc) p (a .state) (w .1 .given .0 .0) (w .1 .given .1) (w .3 .taken))
     (λ w. ap run (w .4) ∙ behind-escape (a .place) (a .crc) p (a .state) (w .1 .given .0 .0) (w .1 .given .1) (w .3 .left)))
     (c .before .match .came)
 
-pub step-spec : {M : Type 1} → statement M
-step-spec =
+pub next-from-state-spec : {M : Type 1} → statement M
+next-from-state-spec =
     tie.close
     (tie.spec
     enum-known-state
