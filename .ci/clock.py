@@ -1,4 +1,4 @@
-"""Passes on what `rt ci` prints and notes in FILE how long each part took: the wall clock of checks, edits and programs, and the sum of what each check and each edit took, crate by crate.
+"""Passes on what `rt ci` prints and notes in FILE how long each part took: the wall clock of checks, edits and programs, and the sum of what each check and each edit took beside the others, crate by crate.
 
 usage: rt ci 2>&1 | clock.py FILE
 """
@@ -25,4 +25,4 @@ with open(sys.argv[1], "w", encoding="utf-8") as out:
     for (part, crate), took in crates.items():
         out.write(f"{part} {crate} {sum(took)} s" + (f" for {len(took)}" if part == "edits" else "") + "\n")
     for part in LINES:
-        out.write(f"seconds of the {part}: {wall.get(part, 0):.0f} ({count.get(part, 0)} of them, {sums.get(part, 0)} s one after the other)\n")
+        out.write(f"seconds of the {part}: {wall.get(part, 0):.0f} ({count.get(part, 0)} of them; side by side they took {sums.get(part, 0)} s in all)\n")

@@ -1,9 +1,9 @@
-"""What the scripts here and the tests share: frames by document 01's rules, how a built program is run (bin/lib/programs.py), and the capacities that the oracle knows."""
+"""What the scripts here and the tests share: frames by document 01's rules, how a built program is run (scripts/programs.py), and the capacities that the oracle knows."""
 import os, re, sys
 
 HERE = os.path.dirname(os.path.abspath(__file__))
 sys.dont_write_bytecode = True
-sys.path.append(os.path.join(HERE, "..", "bin", "lib"))
+sys.path.append(os.path.join(HERE, "..", "scripts"))
 from programs import COMMANDS, program
 REPLAY = os.path.join(HERE, "..", "bin", "replay")
 START, ESCAPE = bytes.fromhex("1b1b1b1b01010101"), bytes.fromhex("1b1b1b1b")

@@ -1,4 +1,4 @@
-"""Each wrong reading is a must-fail edit, or a theorem of a crate's proofs/Wrong.antt that has its name, and is told in docs/WRONG-READINGS.md in three lines and named in docs/STATEMENTS.md. The prover refused each edit at a fact and not at a shape: where the edits were tried (target/must-fail), each has its log."""
+"""Each wrong reading is a must-fail edit, or a theorem of a crate's proofs/Wrong.antt that has its name, and is told in docs/WRONG-READINGS.md in three lines and named in docs/STATEMENTS.md. The prover refused each edit at a fact and not at a shape: where the edits were tried (target/must-fail), each has its log. A theorem rules out an outcome of the equation that a public function's contract has, or a fake of a claim that marks makes: its last premise is that; each premise before it speaks of a variable of the theorem, and whether they can all hold is for the reader to see."""
 import glob, os, re, sys
 
 os.chdir(os.path.join(os.path.dirname(os.path.abspath(__file__)), ".."))
@@ -12,6 +12,12 @@ for edit in sorted(glob.glob("crates/*/must-fail/*.edit")):
     if label in labels:
         bad.append(f"{edit}: a second edit of that name")
     labels.add(label)
+    target = None
+    for line in open(edit, encoding="utf-8").read().split("\n"):
+        if line.startswith("file: "):
+            target = open(f"crates/{crate}/{line[6:]}", encoding="utf-8").read()
+        elif line.startswith("old: ") and target.count(line[5:]) != 1:
+            bad.append(f"{edit}: its old text stands {target.count(line[5:])} times in the file")
     if not open(edit, encoding="utf-8").readline().startswith("# "):
         bad.append(f"{edit}: its first line does not name the mistake")
     section = re.search(r"^### %s\n(.*?)(?=^#|\Z)" % re.escape(label), told, re.M | re.S)
@@ -28,10 +34,64 @@ for edit in sorted(glob.glob("crates/*/must-fail/*.edit")):
             bad.append(f"{label}: the prover's log has no error")
         elif any(s in first.group(0) for s in SHAPE):
             bad.append(f"{label}: refused at a shape: {first.group(0)[:200]}")
+
+
+def term(text):
+    """An expression as nested lists: what stands in brackets is one list."""
+    stack = [[]]
+    for word in re.findall(r"[(){};=]|[^\s(){};=]+", text):
+        if word in "({":
+            stack.append([])
+        elif word in ")}":
+            part = stack.pop()
+            stack[-1].append(part[0] if word == ")" and len(part) == 1 else part)
+        else:
+            stack[-1].append(word)
+    return stack[0]
+
+
+def instance(pattern, one, names, bound):
+    """Is `one` the pattern with something for each of these names, the same wherever a name stands twice?"""
+    if isinstance(pattern, str):
+        return bound.setdefault(pattern, one) == one if pattern in names else pattern == one
+    return isinstance(one, list) and len(pattern) == len(one) and all(instance(p, o, names, bound) for p, o in zip(pattern, one))
+
+
+def whole(side):
+    return side[0] if len(side) == 1 else side
+
+
+def promises(crate):
+    """The equations of the crate's public functions: two sides, and the names for which anything may stand: parameters, answer, what is lent."""
+    for path in glob.glob(f"crates/{crate}/src/*.rt"):
+        for takes, said in re.findall(r"^\s*pub fn \w+\((.*?)\)(?: -> \S.*?)?\n\s*ensures \{ λ r\. ⌜ (.*?) ⌝ \}", open(path, encoding="utf-8").read(), re.M | re.S):
+            for old, new in [(r"now \((\w+) \.exit\)", r"\1_left"), (r"now \((\w+) \.entry\)", r"\1"), (r"(\w+) \.entry", r"\1"), (r"\br \.(\w+)", r"r_\1")]:
+                said = re.sub(old, new, said)
+            names = set(re.findall(r"(\w+)(?=:)", takes)) | set(re.findall(r"\bself\b", takes)) | set(re.findall(r"\b(?:\w+_left|r_\w+|r)\b", said))
+            if said.count("≡") == 1:
+                yield [whole(term(side)) for side in said.split("≡")], names
+
+
+claims = set(re.findall(r"^  pub [\w-]+ : ([A-Z]\w*) ", open("crates/marks/specs/Marks.antt", encoding="utf-8").read(), re.M))
 theorems = {}
 for path in sorted(glob.glob("crates/*/proofs/Wrong.antt")):
-    for law in re.findall(r"^([a-z][\w-]*) : .*→ ⊥$", open(path, encoding="utf-8").read(), re.M):
+    crate = path.split(os.sep)[1]
+    if "pub mod Wrong" not in open(f"crates/{crate}/proofs/Lib.antt", encoding="utf-8").read().split("\n"):
+        bad.append(f"{path}: proofs/Lib.antt does not list it")
+    for law, said in re.findall(r"^([a-z][\w-]*) : (.*) → ⊥$", open(path, encoding="utf-8").read(), re.M):
         theorems[law.replace("-", "_")] = path
+        *before, last = re.split(r" → (?![^()]*\))", said)
+        sides = [whole(term(side)) for side in last.split("≡")]
+        variables = set(" ".join(re.findall(r"\(([^\s:][^:()]*) :", said)).split())
+        for premise in before:
+            binder = re.match(r"(?:\(\w[\w ]* : [^()≡<≤⊥]*(?:\([^()≡<≤⊥]*\))?[^()≡<≤⊥]*\) ?)+$", premise)
+            if not binder and not variables & set(re.findall(r"\w+", premise)):
+                bad.append(f"{path}: {law} has a premise of no variable: {premise}")
+        if crate == "marks":
+            if last.split(" ")[0] not in claims:
+                bad.append(f"{path}: {law} is of no claim of marks: {last}")
+        elif len(sides) != 2 or not any(all(instance(p, o, names, bound) for p, o in zip(promise, sides)) for promise, names in promises(crate) for bound in [{}]):
+            bad.append(f"{path}: {law} is of no contract of the crate: {last}")
 for name, path in theorems.items():
     if f"### {name}\n" not in told or f"`{name}`" not in mapped:
         bad.append(f"{path}: {name} is not told in docs/WRONG-READINGS.md and docs/STATEMENTS.md")

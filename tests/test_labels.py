@@ -3,6 +3,10 @@ import glob, os, re, sys
 
 os.chdir(os.path.join(os.path.dirname(os.path.abspath(__file__)), ".."))
 KINDS = ["rule", "view", "claim", "check", "cut"]
+# what is refused, 1 to 16 of document 01 and 17 to 24 of document 02
+NUMBERS = """payloadTooLong encodeOutOfMemory decoderOutOfMemory badState wrongBuffer discardedBytes invalidEsc invalidMessage
+inputTooLong unexpectedEof invalidTlf tlfMismatch unexpectedVariant crcMismatch msgEndMismatch badSpan
+wrongNumber outputTooShort tooDeep tooManyEntries cutShort badNumber unknownVersion hiddenRow""".split()
 WORD = re.compile(r"(?:[A-Za-z]\w*\.)?[^\s(){}.;,«»\[\]]+")
 bad = []
 
@@ -99,9 +103,13 @@ for file in sorted({f for f, _ in claims if kind[f] in ("check", "cut")}):
 marks = reached([("marks/Marks", "Marks")], "check")
 for file in sorted(f for f in files if kind[f] in ("rule", "view")):
     named = everywhere | marks | claims | (cited if kind[file] == "view" else set())
+    unused = [n for n in files[file][1][0] if (file, n) not in named]
     if file == "refusals/Numbers":  # document 02's numbers have their names before they have their functions
-        continue
-    bad += [f"{file}: nothing rests on {n}" for n in files[file][1][0] if (file, n) not in named]
+        given = {n: int(v) for n, v in re.findall(r"^(\w+No) = (\d+)$", "\n".join(files[file][1][0].values()), re.M)}
+        bad += [f"{file}: {n}No should be {k}" for k, n in enumerate(NUMBERS, 1) if given.get(n + "No") != k] + [f"{file}: {n} is no number of the documents" for n in given if n[:-2] not in NUMBERS]
+        waiting = [n for n in unused if n[:-2] in NUMBERS[16:]]
+        unused = [n for n in unused if n not in waiting]
+    bad += [f"{file}: nothing rests on {n}" for n in unused]
 
 readme = open("README.md", encoding="utf-8").read()
 said = re.search(r"\n## What a reader must believe\n(.*?)\n## ", readme, re.S).group(1)
@@ -117,7 +125,8 @@ for n, file in enumerate(order):
         bad += [f"README.md: {file} stands before {u}, which it uses" for u in sorted(files[file][2]) if u in order[n:] and u != file]
 needed = {f for f in files if kind[f] in ("rule", "view")} | {f for f, _ in marks}
 bad += [f"README.md: the order lacks {f}" for f in sorted(needed - set(order))] + [f"README.md: the order has {f}, on which nothing rests" for f in sorted(set(order) - needed)]
-for figure in [f"{sum(lines[f] for f in files if kind[f] in ('rule', 'view')):,} lines of rule and view", f"{sum(lines[f] for f in needed if kind[f] == 'claim'):,} lines of claim"]:
+unread = sum(files["refusals/Numbers"][1][0][n].count("\n") + 1 for n in waiting)
+for figure in [f"{sum(lines[f] for f in files if kind[f] in ('rule', 'view')) - unread:,} lines of rule and view", f"{unread} more name" if unread else "", f"{sum(lines[f] for f in needed if kind[f] == 'claim'):,} lines of claim"]:
     if figure not in " ".join(said.split()):
         bad.append(f"README.md: it should say {figure}")
 

@@ -3,7 +3,7 @@ import os, random, re, select, subprocess, sys
 
 sys.dont_write_bytecode = True
 os.chdir(os.path.join(os.path.dirname(os.path.abspath(__file__)), ".."))
-sys.path.append("bin/lib")
+sys.path.append("scripts")
 from programs import COMMANDS
 
 faults, count = [], 0

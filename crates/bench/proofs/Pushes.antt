@@ -5,9 +5,9 @@ use mathlib.Core.List.{List, [], _∷_}
 use Prim.Native.Nat.{ℕ, _+_, _-_, _<_, _≤_}
 use native.Mathlib.Omega.{arith}
 use native.Mathlib.Nat.{add-zero}
-use native.Mathlib.Numerals.{add-one}
 use lib.ListN.{length, getD, take, drop, drop-of-length-le, length-drop}
-use lib.Seq.{take-length, drop-drop, drop-cons}
+use lib.Seq.{drop-drop}
+use Rattle.refusals.proofs.Places.{from-place}
 use Rattle.decoder.specs.Record as D
 use Rattle.decoder.specs.Record.{DecoderAnswer, After, after, refusal, answerOf, badDecoder, pushRecord}
 use Rattle.decoder.specs.declared.Decoder.{Decoder}
@@ -16,7 +16,7 @@ use Rattle.decoder.specs.declared.Event.{Event}
 use Rattle.decoder.specs.declared.Event.the-variants.{Nothing, Payload, DiscardedBytes, InvalidEsc, OutOfMemory, InvalidMessage, BadState, WrongBuffer}
 use Rattle.decoder_slice.specs.Slice.{Took, afterSlice, sliceRecord}
 use Rattle.decoder_slice.specs.declared.Sliced.{Sliced}
-use Rattle.decoder_slice.proofs.Taken.{taken-le, none-took, none-taken, goes-on}
+use Rattle.decoder_slice.proofs.Taken.{none-took, none-taken, goes-on, part-pushed, part-taken}
 use Rattle.bench.specs.Bench.{CountedIn, counted, one, payloadsFrom}
 
 -- an event is a payload whatever its bytes
@@ -43,10 +43,9 @@ all-counted n d m bs i h = rw drop-of-length-le
 pub push-next : (n : ℕ) (d : Decoder) (m bs : List ℕ) (i k : ℕ) (r : Pushed) (l : List ℕ) → i < length bs → D.afterPush r l ≡ pushRecord d m (getD bs i 0) → k ≡ one (answerOf (r .event) [])
     → payloadsFrom (n + k) (r .decoder) l (drop (i + 1) bs) ≡ payloadsFrom n d m (drop i bs)
 push-next n d m bs i k r l h e c =
-    let at : drop i bs ≡ getD bs i 0 ∷ drop (i + 1) bs = rw (add-one, drop-cons bs i 0) in
     ap (λ (x : ℕ). payloadsFrom (n + x) (r .decoder) l (drop (i + 1) bs)) (c ∙ same-one (r .event) _)
     ∙ ap (λ (a : After). payloadsFrom (n + one (a .answer)) (a .decoder) (a .memory) (drop (i + 1) bs)) e
-    ∙ first n d m (getD bs i 0) (drop (i + 1) bs) ∙ ap (payloadsFrom n d m) (sym at)
+    ∙ first n d m (getD bs i 0) (drop (i + 1) bs) ∙ ap (payloadsFrom n d m) (sym (from-place bs i h))
 
 -- pushes that are all refused
 all-refused : (bs : List ℕ) (n : ℕ) (d : Decoder) (m : List ℕ) → ((b : ℕ) → pushRecord d m b ≡ after (refusal (cond (badDecoder d) 4 5) []) d m) → counted n m ≡ payloadsFrom n d m bs
@@ -62,13 +61,10 @@ module _ (n : ℕ) (d : Decoder) (m s : List ℕ) (i : ℕ) (r : Sliced) (l : Li
   left = length-drop i s
 
   part : afterSlice r l ≡ sliceRecord d m (drop i s)
-  part = said ∙ ap (sliceRecord d m) (ap (λ (k : ℕ). take k (drop i s)) (sym left) ∙ take-length (drop i s))
+  part = part-pushed d m s i r l said
 
   taken-is : r .taken ≡ sliceRecord d m (drop i s) .taken
-  taken-is = ap (λ (t : Took). t .taken) part
-
-  pub part-room : i + r .taken ≤ length s
-  part-room = omega (arith, taken-is, left, taken-le d m (drop i s))
+  taken-is = part-taken d m s i r l said
 
   pub slice-next : (k : ℕ) → k ≡ one (answerOf (r .event) []) → (r .taken ≡ 0 → ⊥) → payloadsFrom (n + k) (r .decoder) l (drop (i + r .taken) s) ≡ payloadsFrom n d m (drop i s)
   slice-next k c h =

@@ -14,6 +14,7 @@ use Rattle.decoder_slice.proofs.Runs.{never}
 use Rattle.encoder.specs.declared.Encoder.{Encoder}
 use Rattle.encoder.specs.declared.Given.{Given}
 use Rattle.refusals.specs.Numbers.{limit}
+use Rattle.refusals.proofs.Places.{from-place}
 use Rattle.encoder.specs.Encoder.{NextAnswer, byte, finished, noByte, Step, stepOf, freshEncoder, nextStep, nextAnswer}
 use Rattle.encoder.specs.Calls.{calls}
 use Rattle.encoder.proofs.Calls.{gives-the-frame}
@@ -69,11 +70,8 @@ module _ (e : Encoder) (payload l : List ℕ) (i t : ℕ) (g : Given) (said : st
   answer-is : nextAnswer (g .answer) ≡ nextStep e payload .answer
   answer-is = ap (λ (s : Step). s .answer) said
 
-  at : i < length l → drop i l ≡ getD l i 0 ∷ drop (i + 1) l
-  at h = rw (add-one, drop-cons l i 0)
-
   taken : i < length l → (nextStep e payload .answer ≡ byte (getD l i 0)) × LeftToGive (nextStep e payload .encoder) payload (drop (i + 1) l)
-  taken h = next-gives e payload (getD l i 0) (drop (i + 1) l) (subst (LeftToGive e payload) (at h) left)
+  taken h = next-gives e payload (getD l i 0) (drop (i + 1) l) (subst (LeftToGive e payload) (from-place l i h) left)
 
   ended : length l ≤ i → isByte (nextAnswer (g .answer)) ≡ false
   ended h = ap isByte (answer-is ∙ next-done e payload (subst (LeftToGive e payload) (drop-of-length-le l {i = i} h) left))

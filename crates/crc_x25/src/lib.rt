@@ -5,7 +5,10 @@ ghost use Rattle.crc_x25.specs.Crc.{start, bitStep, byteStep, register, 
 // What the register is before any byte.
 pub const INIT: u16 = 0xffff;
 
-// The register before any byte.
+// What the register is xored with at the end.
+const XOR_OUT: u16 = 0xffff;
+
+// The register before any byte: `CRC_X25.digest()` of the Rust. Public for encoder.
 pub fn digest() -> u16
     ensures { λ r. ⌜ r ≡ start ⌝ }
 {
@@ -20,7 +23,7 @@ fn bit(reg: u16) -> u16
     if reg % 2 == 1 { half ^ 0x8408 } else { half }
 }
 
-// The register after one byte.
+// The register after one byte. Public for encoder, which writes byte by byte.
 pub fn update_byte(reg: u16, b: u8) -> u16
     ensures { λ r. ⌜ r ≡ byteStep reg b ⌝ }
 {
@@ -45,7 +48,7 @@ pub fn update(reg: u16, s: &[u8]) -> u16
 pub fn finalize(reg: u16) -> u16
     ensures { λ r. ⌜ r ≡ finalXor reg ⌝ }
 {
-    reg ^ 0xffff
+    reg ^ XOR_OUT
 }
 
 // The check value of all bytes of `s`.

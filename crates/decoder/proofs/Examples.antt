@@ -37,7 +37,7 @@ abbrev pub decoderRow : ℕ → List Op → List SaidAt → DecoderRow
 decoderRow C os saidAt = record { capacity = C; operations = os; answers = saidAt }
 
 -- the frame of 12345678
-abbrev sampleFrame : List ℕ
+abbrev pub sampleFrame : List ℕ
 sampleFrame = startSeq ++ 0x12 ∷ 0x34 ∷ 0x56 ∷ 0x78 ∷ escSeq ++ 0x1a ∷ 0x00 ∷ 0xb8 ∷ 0x7b ∷ []
 
 abbrev paid : DecoderAnswer

@@ -4,8 +4,9 @@ use mathlib.Core.List.{List, [], _∷_}
 use Prim.Native.Nat.{ℕ}
 use native.Mathlib.Omega.{arith}
 use lib.ListN.{replicate, getD}
-use Rattle.decoder.specs.Push.{sized, search, escape, done, searching, step, finalized}
+use Rattle.decoder.specs.Push.{sized, search, escape, searching, step, finalized}
 use Rattle.decoder.specs.Record.{DecoderAnswer, nothing, payload, count, refusal, After, Left, afterPush, afterFinalize, answerAsked, wrote, badDecoder, wrongBuffer, newRecord, recordOf, pushed, pushRecord, finalizeRecord, hasPayload, askRecord}
+use Rattle.decoder.specs.declared.Asked.the-variants.{Good}
 use Rattle.decoder.specs.declared.DecodeState.{DecodeState}
 use Rattle.decoder.specs.declared.DecodeState.the-variants.{LookingForMessageStart, ParsingNormal, ParsingEscChars, ParsingEscPayload, Done}
 use Rattle.decoder.specs.declared.Decoder.{Decoder}
@@ -33,9 +34,9 @@ noiseOf (ParsingEscPayload k) = 0
 noiseOf Done = 0
 
 -- asked for its payload, a new decoder has none: 16
-search-taken-as-payload : askRecord (newRecord (sized 8)) (replicate 8 0) ≡ nothing → ⊥
+search-taken-as-payload : answerAsked Good ≡ askRecord (newRecord (sized 8)) (replicate 8 0) → ⊥
 unfolding askRecord hasPayload badDecoder wrongBuffer numberOf
-search-taken-as-payload h = let n : _≡_ {A = ℕ} 16 0 = ap numberOf h in omega (arith, n)
+search-taken-as-payload h = let n : _≡_ {A = ℕ} 0 16 = ap numberOf h in omega (arith, n)
 
 -- 02 00 00 stand behind an escape, and 05 follows: whatever is answered, it is stored
 abbrev escaping : Decoder
@@ -59,8 +60,3 @@ finalize-wrong-count k d other h = other (ap (λ (l : Left). firstValue (l .answ
 noise-without-matched : (e : Event) (m : List ℕ) → afterPush (record { decoder = recordOf (sized 8) (search 0 1 2); event = e }) m ≡ pushRecord (recordOf (sized 8) (search 1 0 1)) (replicate 8 0) 0x00 → ⊥
 unfolding pushRecord pushed badDecoder wrongBuffer step searching noiseOf
 noise-without-matched e m h = let n : _≡_ {A = ℕ} 1 2 = ap (λ (a : After). noiseOf (a .decoder .state)) h in omega (arith, n)
-
--- a payload stands in the buffer of 8; of 7 bytes that are lent none is one
-other-buffer-has-payload : askRecord (recordOf (sized 8) (done (0x12 ∷ []))) (replicate 7 0) ≡ nothing → ⊥
-unfolding askRecord hasPayload badDecoder wrongBuffer numberOf
-other-buffer-has-payload h = let n : _≡_ {A = ℕ} 16 0 = ap numberOf h in omega (arith, n)

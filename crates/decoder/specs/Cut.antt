@@ -6,7 +6,7 @@ use lib.ListN.{length, getD, take, drop, replicate}
 use lib.Seq.{sets}
 use lib.Dec.{ltb, leb, eqb}
 use Rattle.refusals.specs.Numbers.{limit}
-use Rattle.crc_x25.specs.Crc.{register, finalXor}
+use Rattle.crc_x25.specs.Crc.{start, register, finalXor}
 use Rattle.frame.specs.Frame.{escSeq, restartSeq, missing}
 use Rattle.decoder.specs.Push as P
 use Rattle.decoder.specs.Push.{Setup, Out, begun, stopped, searching, same, early}
@@ -51,10 +51,6 @@ storedOn d k s = recounted d (d .fill + k) (stopped (suc (d .«raw_msg_len»))) 
 -- one byte more pushed and none stored
 abbrev pub pushedOn : Decoder → DecodeState → Decoder
 pushedOn d s = recounted d (d .fill) (stopped (suc (d .«raw_msg_len»))) s
-
--- behind k bytes of which j were stored, as a push of a slice counts them
-abbrev pub movedBy : Decoder → ℕ → ℕ → DecodeState → Decoder
-movedBy d j k s = recounted d (d .fill + j) (stopped (d .«raw_msg_len» + k)) s
 
 abbrev pub inState : Decoder → DecodeState → Decoder
 inState d s = recounted d (d .fill) (d .«raw_msg_len») s
@@ -102,7 +98,7 @@ sound f read computed p = cond (eqb read computed) (cond (eqb (f % 4) 0) (cond (
 unfoldable pub verdict : Setup → ℕ → ℕ → ℕ → ℕ → Pushed
 verdict C f read computed p =
     cond (sound f read computed p)
-    (record { decoder = recordWith C (f - (p + 4)) 0 0xffff 0 Done; event = Payload })
+    (record { decoder = recordWith C (f - (p + 4)) 0 start 0 Done; event = Payload })
     (freshWith C (InvalidMessage read computed (not (eqb (f % 4) 0)) p))
 
 abbrev pub computedCrc : Decoder → List ℕ → ℕ

@@ -4,9 +4,9 @@ use mathlib.Core.List.{List, [], _∷_, _++_, map}
 use Prim.Native.Nat.{ℕ}
 use lib.ListN.{replicate}
 use Rattle.crc_x25.specs.Crc.{reflect, polynomial, bitStep, bitSteps, byteStep, register, finalXor}
-use Rattle.frame.specs.Frame.{startSeq, escSeq}
 use Rattle.decoder.specs.Push.{sized, searching, store, same, finish, judge, step}
 use Rattle.decoder.specs.Record.{DecoderAnswer, nothing, payload, refusal, wrote, badDecoder, wrongBuffer, pushed, pushRecord, newRecord}
+use Rattle.decoder.proofs.Examples.{sampleFrame}
 use Rattle.decoder_slice.specs.Slice.{Took, pushesFrom, sliceRecord}
 
 pub record SliceRow : Type 0 where
@@ -18,9 +18,6 @@ pub record SliceRow : Type 0 where
 
 abbrev sliceRow : ℕ → ℕ → List ℕ → DecoderAnswer → ℕ → SliceRow
 sliceRow C L bs a n = record { recorded = C; lent = L; bytes = bs; answer = a; taken = n }
-
-abbrev sampleFrame : List ℕ
-sampleFrame = startSeq ++ 0x12 ∷ 0x34 ∷ 0x56 ∷ 0x78 ∷ escSeq ++ 0x1a ∷ 0x00 ∷ 0xb8 ∷ 0x7b ∷ []
 
 abbrev pub sliceRows : List SliceRow
 sliceRows =

@@ -3,4 +3,3 @@ pub mod Skips
 pub mod Taken
 pub mod Examples
 pub mod Decided
-pub mod Wrong

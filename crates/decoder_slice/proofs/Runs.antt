@@ -9,7 +9,7 @@ use native.Mathlib.Numerals.{add-one}
 use borrow.Author.Tests.{le-ltb, lt-ltb, le-leb, eq-eqb, ne-eqb}
 use lib.Dec.{ltb, T}
 use lib.ListN.{length, set, drop, getD, drop-of-length-le}
-use lib.Seq.{drop-cons}
+use Rattle.refusals.proofs.Places.{from-place}
 use Rattle.decoder.specs.declared.DecodeState.{DecodeState}
 use Rattle.decoder.specs.declared.DecodeState.the-variants.{LookingForMessageStart, ParsingNormal, ParsingEscChars, ParsingEscPayload, Done}
 use Rattle.decoder.specs.declared.Decoder.{Decoder}
@@ -19,14 +19,14 @@ use Rattle.decoder.specs.declared.Pushed.{Pushed}
 use Rattle.decoder.specs.declared.AfterReset.{AfterReset}
 use Rattle.decoder.specs.Push.{stopped, matchedBehind, moreNoise, searching}
 use Rattle.decoder.specs.Record.{nothing, answerOf, After, after, afterPush, Left, afterReset, pushRecord, resetRecord, badIn, badDecoder, wrongBuffer, setup, newRecord}
-use Rattle.decoder.specs.Cut.{toldCut, storedOn, pushedOn, movedBy, inState, stepCut, normalStep, waitStep, escapeStep}
+use Rattle.decoder.specs.Cut.{toldCut, storedOn, pushedOn, inState, stepCut, normalStep, waitStep, escapeStep}
 use Rattle.decoder.proofs.Faithful.{Fit}
 use Rattle.decoder.proofs.Tied.{tied, push-step}
 use Rattle.decoder.proofs.Runs.{new-fit}
 use Rattle.decoder.proofs.Search.{matched-most, noise-grows}
 use Rattle.decoder.proofs.Valid.{right-buffer}
 use Rattle.decoder_slice.specs.Slice.{Took, took, saysNothing, pushesFrom}
-use Rattle.decoder_slice.specs.Stretch.{Goes}
+use Rattle.decoder_slice.specs.Stretch.{movedBy, Goes}
 
 runs-quietly : (u : ℕ) (d : Decoder) (m : List ℕ) (b : ℕ) (bs : List ℕ) (d′ : Decoder) (m′ : List ℕ) → pushRecord d m b ≡ after nothing d′ m′
     → pushesFrom (u + 1) d′ m′ bs ≡ pushesFrom u d m (b ∷ bs)
@@ -43,12 +43,9 @@ hushed : (u : ℕ) (d : Decoder) (m : List ℕ) (b : ℕ) (bs : List ℕ) (a : A
 unfolding pushesFrom
 hushed u d m b bs a e q = rw (add-one u, e, q)
 
-at : (s : List ℕ) (i : ℕ) → i < length s → drop i s ≡ getD s i 0 ∷ drop (i + 1) s
-at s i h = rw (add-one, drop-cons s i 0)
-
 quiet-next : (u : ℕ) (d : Decoder) (m s : List ℕ) (i : ℕ) (d′ : Decoder) (m′ : List ℕ) → i < length s → pushRecord d m (getD s i 0) ≡ after nothing d′ m′
     → pushesFrom (u + 1) d′ m′ (drop (i + 1) s) ≡ pushesFrom u d m (drop i s)
-quiet-next u d m s i d′ m′ h e = runs-quietly u d m (getD s i 0) (drop (i + 1) s) d′ m′ e ∙ ap (pushesFrom u d m) (sym (at s i h))
+quiet-next u d m s i d′ m′ h e = runs-quietly u d m (getD s i 0) (drop (i + 1) s) d′ m′ e ∙ ap (pushesFrom u d m) (sym (from-place s i h))
 
 -- what an event says doesn't hang on a payload's bytes
 same-said : (e : Event) (bytes : List ℕ) → saysNothing (answerOf e []) ≡ saysNothing (answerOf e bytes)
@@ -65,12 +62,12 @@ same-said WrongBuffer bytes = refl
 pub loud-next : (u : ℕ) (d : Decoder) (m s : List ℕ) (i : ℕ) (r : Pushed) (m′ : List ℕ) → i < length s → afterPush r m′ ≡ pushRecord d m (getD s i 0) → saysNothing (answerOf (r .event) []) ≡ false
     → took (afterPush r m′ .answer) (r .decoder) (u + 1) m′ ≡ pushesFrom u d m (drop i s)
 loud-next u d m s i r m′ h e q =
-    loud u d m (getD s i 0) (drop (i + 1) s) (afterPush r m′) (sym e) (sym (same-said (r .event) _) ∙ q) ∙ ap (pushesFrom u d m) (sym (at s i h))
+    loud u d m (getD s i 0) (drop (i + 1) s) (afterPush r m′) (sym e) (sym (same-said (r .event) _) ∙ q) ∙ ap (pushesFrom u d m) (sym (from-place s i h))
 
 pub silent-next : (u : ℕ) (d : Decoder) (m s : List ℕ) (i : ℕ) (r : Pushed) (m′ : List ℕ) → i < length s → afterPush r m′ ≡ pushRecord d m (getD s i 0) → saysNothing (answerOf (r .event) []) ≡ true
     → pushesFrom (u + 1) (r .decoder) m′ (drop (i + 1) s) ≡ pushesFrom u d m (drop i s)
 silent-next u d m s i r m′ h e q =
-    hushed u d m (getD s i 0) (drop (i + 1) s) (afterPush r m′) (sym e) (sym (same-said (r .event) _) ∙ q) ∙ ap (pushesFrom u d m) (sym (at s i h))
+    hushed u d m (getD s i 0) (drop (i + 1) s) (afterPush r m′) (sym e) (sym (same-said (r .event) _) ∙ q) ∙ ap (pushesFrom u d m) (sym (from-place s i h))
 
 pub pushes-done : (u : ℕ) (d : Decoder) (m s : List ℕ) (i : ℕ) → length s ≤ i → pushesFrom u d m (drop i s) ≡ took nothing d u m
 unfolding pushesFrom
@@ -228,7 +225,7 @@ fresh-push d m b s e w =
 pub fresh-goes : (d : Decoder) (m s : List ℕ) (i : ℕ) → d .state ≡ Done → badDecoder d ≡ false → wrongBuffer (d .capacity) (length m) ≡ false → i < length s
     → pushesFrom i (newRecord (setup d)) m (drop i s) ≡ pushesFrom i d m (drop i s)
 unfolding pushesFrom
-fresh-goes d m s i e g w h = rw (at s i h, fresh-push d m (getD s i 0) e g w)
+fresh-goes d m s i e g w h = rw (from-place s i h, fresh-push d m (getD s i 0) e g w)
 
 -- reset makes that search
 pub reset-fresh : (r : AfterReset) (d : Decoder) → afterReset r ≡ resetRecord d → r .decoder ≡ newRecord (setup d)

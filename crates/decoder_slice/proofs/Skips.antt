@@ -12,8 +12,7 @@ use Rattle.decoder.specs.Push.{stopped, matchedBehind}
 use Rattle.decoder.proofs.Search.{matched-more, matched-none}
 use Rattle.decoder.proofs.Split.{split}
 use Rattle.decoder_slice.specs.Slice.{Took, pushesFrom}
-use Rattle.decoder.specs.Cut.{movedBy}
-use Rattle.decoder_slice.specs.Stretch.{Plain, Escapes}
+use Rattle.decoder_slice.specs.Stretch.{movedBy, Plain, Escapes}
 use Rattle.decoder_slice.proofs.Runs as runs
 
 -- ---- places

@@ -5,11 +5,13 @@ use mathlib.Core.Path.{_≡_, refl, sym, ap, _∙_}
 use mathlib.Core.Bool.{Bool, true, false, cond}
 use native.Mathlib.Omega.{arith}
 use native.Mathlib.Nat.{sub-zero}
-use lib.ListN.{length, drop}
+use lib.ListN.{length, take, drop, length-drop}
+use lib.Seq.{take-length}
 use Rattle.decoder.specs.declared.Decoder.{Decoder}
 use Rattle.decoder.specs.Record.{DecoderAnswer, nothing, payload, count, refusal, After, after, pushRecord, badDecoder, wrongBuffer}
 use Rattle.decoder.proofs.Split.{cases}
-use Rattle.decoder_slice.specs.Slice.{Took, took, saysNothing, pushesFrom, sliceRecord}
+use Rattle.decoder_slice.specs.Slice.{Took, took, saysNothing, pushesFrom, afterSlice, sliceRecord}
+use Rattle.decoder_slice.specs.declared.Sliced.{Sliced}
 
 -- ---- the checks
 
@@ -101,3 +103,15 @@ module _ {X : Type 0} (F : Decoder → List ℕ → List ℕ → X) (G : Decoder
       cases (badDecoder d) (λ e. absurd (h (rw e))) (λ e.
       cases (wrongBuffer (d .capacity) (length m)) (λ w. absurd (h (rw (e, w)))) (λ w.
       rw (e, w) (ap (λ (k : ℕ). behind (pushesFrom 0 d m bs) (drop k bs)) (sym (sub-zero (pushesFrom 0 d m bs .taken))) ∙ goes-from bs 0 d m)))
+
+-- ---- the part of s from i on is pushed
+
+module _ (d : Decoder) (m s : List ℕ) (i : ℕ) (r : Sliced) (n : List ℕ) (said : afterSlice r n ≡ sliceRecord d m (take (length s - i) (drop i s))) where
+  pub part-pushed : afterSlice r n ≡ sliceRecord d m (drop i s)
+  part-pushed = said ∙ ap (sliceRecord d m) (ap (λ (k : ℕ). take k (drop i s)) (sym (length-drop i s)) ∙ take-length (drop i s))
+
+  pub part-taken : r .taken ≡ sliceRecord d m (drop i s) .taken
+  part-taken = ap (λ (t : Took). t .taken) part-pushed
+
+  pub part-room : i < length s → i + r .taken ≤ length s
+  part-room h = omega (arith, part-taken, length-drop i s, taken-le d m (drop i s))

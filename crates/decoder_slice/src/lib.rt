@@ -5,11 +5,13 @@ ghost use mathlib.Core.Bool.{true};
 ghost use Prim.Native.Nat.{ℕ, _+_, _-_, _%_, _<_, _≤_, _^_};
 ghost use lib.ListN.{length};
 ghost use Rattle.decoder.specs.declared.DecodeState.the-variants.{LookingForMessageStart, ParsingNormal, ParsingEscChars, ParsingEscPayload};
+ghost use Rattle.refusals.specs.Numbers.{limit};
+ghost use Rattle.crc_x25.specs.Crc.{start};
 ghost use Rattle.decoder.specs.Push.{stopped};
 ghost use Rattle.decoder.specs.Record.{answerOf};
 ghost use Rattle.decoder_slice.specs.Slice.{afterSlice, saysNothing, pushesFrom, sliceRecord};
-ghost use Rattle.decoder.specs.Cut.{movedBy, inState};
-ghost use Rattle.decoder_slice.specs.Stretch.{Goes, Plain, Escapes};
+ghost use Rattle.decoder.specs.Cut.{inState};
+ghost use Rattle.decoder_slice.specs.Stretch.{movedBy, Goes, Plain, Escapes};
 use decoder::DecodeState;
 use decoder::Decoder;
 use decoder::Event;
@@ -127,14 +129,14 @@ fn plain_end(chunk: &[u8], from: usize, to: usize) -> usize
 
 // The bytes from `from` on that are no 1b, as many as there is room for, go to the buffer.
 fn store_plain(d: Decoder, buf: &mut [u8], chunk: &[u8], from: usize) -> Stretch
-    requires { ⌜ (d .«crc_idx» ≤ d .fill) × (d .fill ≤ length (now buf)) × (8 ≤ d .«raw_msg_len») × (length (now buf) ≡ d .capacity) × (d .capacity ≤ 1048576) × (from ≤ length (now chunk)) ⌝ }
+    requires { ⌜ (d .«crc_idx» ≤ d .fill) × (d .fill ≤ length (now buf)) × (8 ≤ d .«raw_msg_len») × (length (now buf) ≡ d .capacity) × (d .capacity ≤ limit) × (from ≤ length (now chunk)) ⌝ }
     ensures { λ r. ⌜ (r .at ≤ length (now (chunk .entry))) × (from ≤ r .at) × Goes (r .decoder) (r .at) (now (buf .exit)) from (inState d ParsingNormal) (now (buf .entry)) (now (chunk .entry)) ⌝ }
 {
     let at = d.fill;
     let room = buf.len() - at;
     let left = chunk.len() - from;
-    let limit = least(left, room);
-    let to = plain_end(chunk, from, from + limit);
+    let most = least(left, room);
+    let to = plain_end(chunk, from, from + most);
     let all = to - from;
     let mut k = 0;
     while k < all {
@@ -195,7 +197,7 @@ fn fives_end(chunk: &[u8], from: usize) -> usize
 
 // The bytes of a search from `from` on, up to the last of a start sequence. Matched bytes and noise are all the bytes there are.
 fn search_more(d: Decoder, noise: u32, n: u8, chunk: &[u8], from: usize) -> Stretch
-    requires { ⌜ (d .«crc_idx» ≡ 0) × (d .fill ≡ 0) × (d .capacity ≤ 1048576) × (n < 8) × (from ≤ length (now chunk)) × (d .crc ≡ 0xffff) ⌝ }
+    requires { ⌜ (d .«crc_idx» ≡ 0) × (d .fill ≡ 0) × (d .capacity ≤ limit) × (n < 8) × (from ≤ length (now chunk)) × (d .crc ≡ start) ⌝ }
     ensures { λ r. ⌜ (r .at ≤ length (now (chunk .entry))) × (from ≤ r .at) × ((m : List ℕ) → length m ≡ d .capacity → Goes (r .decoder) (r .at) m from (inState d (LookingForMessageStart n noise)) m (now (chunk .entry))) ⌝ }
 {
     let left = chunk.len() - from;
@@ -235,7 +237,7 @@ fn search_more(d: Decoder, noise: u32, n: u8, chunk: &[u8], from: usize) -> Stre
 
 // More 1b, up to three.
 fn wait_more(d: Decoder, n: u8, chunk: &[u8], from: usize) -> Stretch
-    requires { ⌜ (d .«crc_idx» ≤ d .fill) × (d .fill ≤ d .capacity) × (8 ≤ d .«raw_msg_len») × (d .capacity ≤ 1048576) × (1 ≤ n) × (n ≤ 3) × (from ≤ length (now chunk)) ⌝ }
+    requires { ⌜ (d .«crc_idx» ≤ d .fill) × (d .fill ≤ d .capacity) × (8 ≤ d .«raw_msg_len») × (d .capacity ≤ limit) × (1 ≤ n) × (n ≤ 3) × (from ≤ length (now chunk)) ⌝ }
     ensures { λ r. ⌜ (r .at ≤ length (now (chunk .entry))) × (from ≤ r .at) × ((m : List ℕ) → length m ≡ d .capacity → Goes (r .decoder) (r .at) m from (inState d (ParsingEscChars n)) m (now (chunk .entry))) ⌝ }
 {
     let left = chunk.len() - from;
@@ -260,16 +262,16 @@ fn wait_more(d: Decoder, n: u8, chunk: &[u8], from: usize) -> Stretch
 
 // The bytes behind an escape, up to three.
 fn put_judged(d: Decoder, n: u8, buf: &mut [u8], chunk: &[u8], from: usize) -> Stretch
-    requires { ⌜ (d .«crc_idx» + n ≤ d .fill) × (d .fill ≤ length (now buf)) × (8 ≤ d .«raw_msg_len») × (length (now buf) ≡ d .capacity) × (d .capacity ≤ 1048576) × (n ≤ 3) × (from ≤ length (now chunk)) ⌝ }
+    requires { ⌜ (d .«crc_idx» + n ≤ d .fill) × (d .fill ≤ length (now buf)) × (8 ≤ d .«raw_msg_len») × (length (now buf) ≡ d .capacity) × (d .capacity ≤ limit) × (n ≤ 3) × (from ≤ length (now chunk)) ⌝ }
     ensures { λ r. ⌜ (r .at ≤ length (now (chunk .entry))) × (from ≤ r .at) × Goes (r .decoder) (r .at) (now (buf .exit)) from (inState d (ParsingEscPayload n)) (now (buf .entry)) (now (chunk .entry)) ⌝ }
 {
     let at = d.fill;
     let room = buf.len() - at;
     let left = chunk.len() - from;
     let fits = least(left, room);
-    let limit = least(fits, (3 - n) as usize);
+    let most = least(fits, (3 - n) as usize);
     let mut k = 0;
-    while k < limit {
+    while k < most {
         buf[at + k] = chunk[from + k];
         k += 1;
     }

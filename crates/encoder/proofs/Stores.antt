@@ -7,18 +7,16 @@ use native.Mathlib.Nat.{add-zero}
 use native.Mathlib.Numerals.{add-one}
 use borrow.Author.Tests.{ne-eqb, eq-eqb}
 use lib.ListN.{length, set, drop, take, getD, replicate, length-append, length-replicate, drop-of-length-le}
-use lib.Seq.{sets, sets-eq, drop-cons, take-at}
+use lib.Seq.{sets, sets-eq, take-at}
 use Rattle.frame.specs.Frame.{escSeq, startSeq, runWith, fourMore, escaped, missing, closed, frameOf}
 use Rattle.frame.proofs.Escapes.{escaped-other, escaped-nil}
+use Rattle.refusals.proofs.Places.{from-place}
 use Rattle.frame.proofs.Frames.{escaped-cons, frame-parts, length-closed}
 use Rattle.crc_x25.specs.Crc.{crcOf}
 use Rattle.encoder.specs.Encoder.{endOf}
 use Rattle.encoder.specs.Parts.{Stored, Writes, runAfter}
 
 -- the element at i, then the rest
-pub at : (s : List ℕ) (i : ℕ) → i < length s → drop i s ≡ getD s i 0 ∷ drop (i + 1) s
-at s i h = rw (add-one, drop-cons s i 0)
-
 pub one-more : (m : List ℕ) (o x : ℕ) (xs : List ℕ) → sets (set m o x) (o + 1) xs ≡ sets m o (x ∷ xs)
 one-more m o x xs = rw add-one
 
@@ -33,11 +31,11 @@ sets-append m o (x ∷ xs) ys =
 pub copied : (m s : List ℕ) (o i : ℕ) → i < length s → sets (set m (o + i) (getD s i 0)) (o + (i + 1)) (drop (i + 1) s) ≡ sets m (o + i) (drop i s)
 copied m s o i h =
     let e : o + (i + 1) ≡ o + i + 1 = omega arith in
-    rw e (one-more m (o + i) (getD s i 0) (drop (i + 1) s) ∙ ap (sets m (o + i)) (sym (at s i h)))
+    rw e (one-more m (o + i) (getD s i 0) (drop (i + 1) s) ∙ ap (sets m (o + i)) (sym (from-place s i h)))
 
 -- a byte of the payload that is no 1b
 here : (n : ℕ) (p : List ℕ) (i : ℕ) → i < length p → (getD p i 0 ≡ 0x1b → ⊥) → escaped n (drop i p) ≡ getD p i 0 ∷ escaped 0 (drop (i + 1) p)
-here n p i h ne = ap (escaped n) (at p i h) ∙ escaped-other n (getD p i 0) (drop (i + 1) p) ne
+here n p i h ne = ap (escaped n) (from-place p i h) ∙ escaped-other n (getD p i 0) (drop (i + 1) p) ne
 
 -- there is room for it
 pub room : (p : List ℕ) (o n i N : ℕ) → i < length p → (getD p i 0 ≡ 0x1b → ⊥) → o + length (escaped n (drop i p)) ≤ N → o < N
@@ -66,7 +64,7 @@ plain-more m m₀ p o k n i h ne w =
 
 -- a byte with what follows it
 escaped-on : (n : ℕ) (p : List ℕ) (i : ℕ) → i < length p → escaped n (drop i p) ≡ (getD p i 0 ∷ fourMore n (getD p i 0)) ++ escaped (runWith n (getD p i 0)) (drop (i + 1) p)
-escaped-on n p i h = ap (escaped n) (at p i h) ∙ escaped-cons n (getD p i 0) (drop (i + 1) p)
+escaped-on n p i h = ap (escaped n) (from-place p i h) ∙ escaped-cons n (getD p i 0) (drop (i + 1) p)
 
 pub byte-room : (p : List ℕ) (o n i N : ℕ) → i < length p → o + length (escaped n (drop i p)) ≤ N → o + length (getD p i 0 ∷ fourMore n (getD p i 0)) ≤ N
 byte-room p o n i N h w =

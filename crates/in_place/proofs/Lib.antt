@@ -1,3 +1,2 @@
-pub mod Lies
 pub mod Decided
 pub mod Wrong

@@ -75,7 +75,7 @@ fn list_start_rest(
     }
 }
 
-// GetListResponseStart of streaming.rs: seven elements, of which the start reads up to the entries' head.
+// GetListResponseStart of streaming.rs: seven elements, of which the start reads up to the entries' head. Public as it is there.
 pub fn parse_list_start(input: &[u8], at: usize) -> ListStartRead
     ensures { λ r. ⌜ listStartRead r ≡ listStartAt (now (input .entry)) at ⌝ }
 {
@@ -204,7 +204,7 @@ fn parse_content(input: &[u8], place: usize, tag: u32, at: usize) -> BodyRead
     })
 }
 
-// MessageBody of streaming.rs: a list of tag and content.
+// MessageBody of streaming.rs, public as it is there: a list of tag and content.
 pub fn parse_message_body(input: &[u8], at: usize) -> BodyRead
     ensures { λ r. ⌜ bodyRead r ≡ bodyAt (now (input .entry)) at ⌝ }
 {

@@ -116,7 +116,7 @@ pub fn check_span(input: &[u8], span: Span) -> SpanCheck
     }
 }
 
-// Whether an optional field is absent, whatever its type: `Some(0x01u8) = input.first()` of the Rust.
+// Whether an optional field is absent, whatever its type: `Some(0x01u8) = input.first()` of the Rust. Public for value, whose optional fields ask it.
 pub fn is_absent(input: &[u8], at: usize) -> bool
     ensures { λ r. ⌜ r ≡ absentAt (now (input .entry)) at ⌝ }
 {

@@ -3,3 +3,4 @@ pub mod Rest
 pub mod Found
 pub mod Undone
 pub mod Decided
+pub mod Places

@@ -1,5 +1,5 @@
 -- rule: the numbers for what is refused, 1 to 16 of document 01 and 17 to 24 of document 02, and the two limits on sizes.
--- Each is named by the document's own word for it with `No` behind; where one word has two numbers, whose it is stands before it.
+-- Each is named by the document's own word for it with `No` behind, 10 and 15, which document 01 only describes, by the crate's; where one word has two numbers, whose it is stands before it.
 use Prim.Native.Nat.{ℕ}
 
 -- encode or Encoder, payload over the limit

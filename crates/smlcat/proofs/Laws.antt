@@ -5,12 +5,12 @@ use mathlib.Core.List.{List, [], _∷_}
 use Prim.Native.Nat.{ℕ, _+_, _-_, _<_, _≤_}
 use native.Mathlib.Omega.{arith}
 use lib.ListN.{length, take, drop, drop-of-length-le, length-drop}
-use lib.Seq.{take-length, drop-drop}
+use lib.Seq.{drop-drop}
 use Rattle.decoder.specs.Record.{DecoderAnswer, After, after, refusal, badDecoder, pushRecord}
 use Rattle.decoder.specs.declared.Decoder.{Decoder}
 use Rattle.decoder_slice.specs.Slice.{Took, afterSlice, sliceRecord}
 use Rattle.decoder_slice.specs.declared.Sliced.{Sliced}
-use Rattle.decoder_slice.proofs.Taken.{taken-le, none-took, none-taken, goes-on}
+use Rattle.decoder_slice.proofs.Taken.{none-took, none-taken, goes-on, part-pushed, part-taken}
 use Rattle.smlcat.specs.Fed.{Holding, held, fed}
 
 one-byte : (d : Decoder) (m : List ℕ) (b : ℕ) (bs : List ℕ) → fed (pushRecord d m b .decoder) (pushRecord d m b .memory) bs ≡ fed d m (b ∷ bs)
@@ -33,13 +33,10 @@ module _ (d : Decoder) (m s : List ℕ) (i : ℕ) (r : Sliced) (n : List ℕ) (s
   left = length-drop i s
 
   part : afterSlice r n ≡ sliceRecord d m (drop i s)
-  part = said ∙ ap (sliceRecord d m) (ap (λ (k : ℕ). take k (drop i s)) (sym left) ∙ take-length (drop i s))
+  part = part-pushed d m s i r n said
 
   taken-is : r .taken ≡ sliceRecord d m (drop i s) .taken
-  taken-is = ap (λ (t : Took). t .taken) part
-
-  pub part-room : i + r .taken ≤ length s
-  part-room = omega (arith, taken-is, left, taken-le d m (drop i s))
+  taken-is = part-taken d m s i r n said
 
   pub fed-on : (r .taken ≡ 0 → ⊥) → fed (r .decoder) n (drop (i + r .taken) s) ≡ fed d m (drop i s)
   fed-on h =

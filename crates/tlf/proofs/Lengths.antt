@@ -3,19 +3,15 @@ use mathlib.Core.Path.{_≡_, refl}
 use mathlib.Core.List.{List, [], _∷_}
 use mathlib.Core.Bool.{Bool, true, false}
 use Prim.Native.Nat.{ℕ, _+_, _-_, _^_, _≤_, _<_}
-use native.Mathlib.Numerals.{add-one}
 use native.Mathlib.Omega.{arith}
 use lib.ListN.{length, getD, drop, drop-of-length-le, length-drop}
-use lib.Seq.{drop-cons}
 use lib.Dec.{eqb}
 use Rattle.refusals.specs.Read.{Read, got, refused, guard, eof}
 use Rattle.refusals.specs.Answers.{nextType}
+use Rattle.refusals.proofs.Places.{from-place}
 use Rattle.refusals.proofs.Read.{Ok, ok-got, ok-guard, ok-cond, ok-weak, ok-then, ok-need, Ahead, byte-ok}
 use Rattle.tlf.specs.Lengths.{moreFollow, typeBits, longer, lengthFrom, lessOwn, isList, tlfAt, listOfAt}
 use Rattle.tlf.specs.declared.Ty.{Ty}
-
-drop-next : (s : List ℕ) (i : ℕ) → i < length s → drop i s ≡ getD s i 0 ∷ drop (i + 1) s
-drop-next s i h = rw (add-one, drop-cons s i 0)
 
 -- no more follow
 pub length-stop : (end start : ℕ) (bs : List ℕ) (at len : ℕ) → lengthFrom end start bs at false len ≡ got len at
@@ -34,7 +30,7 @@ pub length-next : (s : List ℕ) (start i len : ℕ) → i < length s
     ≡ guard (eqb (typeBits (getD s i 0)) 0) (nextType start)
     (lengthFrom (length s) start (drop (i + 1) s) (i + 1) (moreFollow (getD s i 0)) (longer len (getD s i 0)))
 unfolding lengthFrom
-length-next s start i len h = rw (drop-next s i h)
+length-next s start i len h = rw (from-place s i h)
 
 -- a length that is read ends not before the place at which its reading began, and not behind the bytes
 pub length-ok : (end start : ℕ) (bs : List ℕ) (i : ℕ) (more : Bool) (len : ℕ) → Ok (λ v n. (i ≤ n) × (n ≤ i + length bs)) (lengthFrom end start bs i more len)

@@ -38,7 +38,7 @@ impl Ty {
         }
     }
 
-    // The test `ty == Ty::ListOf` of tlf.rs.
+    // The test `ty == Ty::ListOf` of tlf.rs. Public for message.
     pub fn is_list(self) -> bool
         ensures { λ r. ⌜ r ≡ isList self ⌝ }
     {
@@ -51,7 +51,7 @@ impl Ty {
         }
     }
 
-    // The test `ty == Ty::Boolean` of tlf.rs.
+    // The test `ty == Ty::Boolean` of tlf.rs. Public for numbers.
     pub fn is_boolean(self) -> bool
         ensures { λ r. ⌜ r ≡ isBoolean self ⌝ }
     {
@@ -183,7 +183,7 @@ impl TypeLengthField {
             LenRead::Refused(f) => TlfRead::Refused(f),
         }
     }
-    // The test of every structure of SML: a list of so many elements.
+    // The test of every structure of SML: a list of so many elements. Public for value.
     pub fn is_list_of(self, n: u32) -> bool
         ensures { λ r. ⌜ r ≡ isListOf n self ⌝ }
     {
@@ -211,7 +211,7 @@ fn is_short_list(input: &[u8], at: usize, n: u32) -> bool
     b as u32 == 0x70 + n
 }
 
-// The head of a list of `n` elements: check_tlf of the Rust's structures.
+// The head of a list of `n` elements: check_tlf of the Rust's structures. Public for the crates that read them.
 pub fn parse_list_of(input: &[u8], at: usize, n: u32) -> PlaceRead
     ensures { λ r. ⌜ placeRead r ≡ listOfAt n (now (input .entry)) at ⌝ }
 {

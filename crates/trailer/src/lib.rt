@@ -10,7 +10,7 @@ use refusals::Fault;
 use refusals::ParseError;
 use tlf::PlaceRead;
 
-// EndOfSmlMessage of the Rust.
+// EndOfSmlMessage of the Rust. Public because 15 is its own rule, which can then be asked alone.
 pub fn parse_message_end(input: &[u8], at: usize) -> PlaceRead
     ensures { λ r. ⌜ placeRead r ≡ messageEndAt (now (input .entry)) at ⌝ }
 {
@@ -47,7 +47,7 @@ fn message_crc(input: &[u8], start: usize, at: usize) -> u16
     crc_x25::checksum(&input[at..at])
 }
 
-// The CRC and the end byte of the message that starts at `start`; the CRC's own length byte stands at `at`.
+// The CRC and the end byte of the message that starts at `start`; the CRC's own length byte stands at `at`. Public for streaming.
 pub fn parse_trailer(input: &[u8], start: usize, at: usize) -> PlaceRead
     ensures { λ r. ⌜ placeRead r ≡ trailerAt (now (input .entry)) start at ⌝ }
 {

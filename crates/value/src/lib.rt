@@ -96,7 +96,7 @@ pub fn parse_time(input: &[u8], at: usize) -> TimeRead
     }
 }
 
-// The widths that a number of a value or a status is read at, in bytes.
+// The widths that a number of a value or a status is given at, in bytes.
 enum Width {
     One,
     Two,
@@ -145,7 +145,7 @@ fn status_with(width: Width, number: u64) -> Status
     }
 }
 
-// The status of an element of so many bytes: read at the widest, which finds what the narrowest finds, and given at the narrowest.
+// The arms of Status's parse_with_tlf, in one: read at the widest, which finds what the narrowest that holds so many bytes finds, and given at that one.
 fn status_of(input: &[u8], at: usize, len: u32) -> StatusRead
     requires { ⌜ unsignedAt 8 (now input) at ≡ unsignedAt (narrowest len) (now input) at ⌝ }
     ensures { λ r. ⌜ statusRead r ≡ statusOf (narrowest len) (now (input .entry)) at ⌝ }
@@ -232,7 +232,7 @@ fn signed_with(width: Width, number: i64) -> Value
     }
 }
 
-// The integer of an element of so many bytes, at the narrowest width.
+// The arms i8 to i64 of Value's parse_with_tlf, in one, as for a status.
 fn signed_value(input: &[u8], at: usize, len: u32) -> ValueRead
     requires { ⌜ signedAt 8 (now input) at ≡ signedAt (narrowest len) (now input) at ⌝ }
     ensures { λ r. ⌜ valueRead r ≡ signedValue (narrowest len) (now (input .entry)) at ⌝ }
@@ -259,7 +259,7 @@ fn unsigned_with(width: Width, number: u64) -> Value
     }
 }
 
-// The unsigned number of an element of so many bytes, at the narrowest width.
+// The arms u8 to u64 of Value's parse_with_tlf, in one, as for a status.
 fn unsigned_value(input: &[u8], at: usize, len: u32) -> ValueRead
     requires { ⌜ unsignedAt 8 (now input) at ≡ unsignedAt (narrowest len) (now input) at ⌝ }
     ensures { λ r. ⌜ valueRead r ≡ unsignedValue (narrowest len) (now (input .entry)) at ⌝ }

@@ -3,6 +3,7 @@ use denote.Ref.{now}
 use Prim.Native.Nat.{_≤_, _<_, _-_, _+_, _^_}
 use lib.ListN.{length, drop}
 use Rattle.decoder.specs.declared.Decoder.{Decoder}
+use Rattle.decoder_slice.proofs.Taken.{part-room}
 use Rattle.bench.specs.Bench.{payloadsFrom}
 use Rattle.bench.proofs.Pushes as pushes
 use borrow.Author.Needs.{needs}
@@ -53,7 +54,7 @@ add-n c =
     let a = c .before .before .before .before .before .before .before .before .before .before .before .before .before .args in
     let p = c .before .before .before .before .before .push-slice in
     let good = c .before .before .before .before .before .before .before .before .before .before .before .before .before .good in
-    let h : l .i + p .result .taken ≤ length (now (a .src)) = pushes.part-room (l .n) (l .at) (l .buf) (now (a .src)) (l .i) (p .result) _ (p .ensures) (c .before .before .before .before .before .before .before .before .loop-test .taken) in
+    let h : l .i + p .result .taken ≤ length (now (a .src)) = part-room (l .at) (l .buf) (now (a .src)) (l .i) (p .result) _ (p .ensures) (c .before .before .before .before .before .before .before .before .loop-test .taken) in
     let z : length (now (a .src)) < 2 ^ 64 = search needs in
     let f : l .n + c .one-payload .result < 2 ^ 64 = search needs in
     record { fits = f }
@@ -64,7 +65,7 @@ add-i c =
     let a = c .before .before .before .before .before .before .before .before .before .before .before .before .before .args in
     let p = c .before .before .before .before .before .push-slice in
     let good = c .before .before .before .before .before .before .before .before .before .before .before .before .before .good in
-    let h : l .i + p .result .taken ≤ length (now (a .src)) = pushes.part-room (l .n) (l .at) (l .buf) (now (a .src)) (l .i) (p .result) _ (p .ensures) (c .before .before .before .before .before .before .before .before .loop-test .taken) in
+    let h : l .i + p .result .taken ≤ length (now (a .src)) = part-room (l .at) (l .buf) (now (a .src)) (l .i) (p .result) _ (p .ensures) (c .before .before .before .before .before .before .before .before .loop-test .taken) in
     let z : length (now (a .src)) < 2 ^ 64 = search needs in
     let f : l .i + p .result .taken < 2 ^ 64 = search needs in
     record { fits = f }
@@ -74,7 +75,7 @@ loop-less c =
     let l = c .before .before .before .before .before .before .before .before .before .loop in
     let a = c .before .before .before .before .before .before .before .before .before .before .before .before .before .args in
     let p = c .before .before .before .before .before .push-slice in
-    let h : l .i + p .result .taken ≤ length (now (a .src)) = pushes.part-room (l .n) (l .at) (l .buf) (now (a .src)) (l .i) (p .result) _ (p .ensures) (c .before .before .before .before .before .before .before .before .loop-test .taken) in
+    let h : l .i + p .result .taken ≤ length (now (a .src)) = part-room (l .at) (l .buf) (now (a .src)) (l .i) (p .result) _ (p .ensures) (c .before .before .before .before .before .before .before .before .loop-test .taken) in
     search needs
 
 loop-again : tie.Need-loop-again Inv-loop μ-loop
@@ -83,7 +84,7 @@ loop-again c =
     let a = c .before .before .before .before .before .before .before .before .before .before .before .before .before .args in
     let p = c .before .before .before .before .before .push-slice in
     let some = c .before .if1 .left in (
-      pushes.part-room (l .n) (l .at) (l .buf) (now (a .src)) (l .i) (p .result) _ (p .ensures) (c .before .before .before .before .before .before .before .before .loop-test .taken),
+      part-room (l .at) (l .buf) (now (a .src)) (l .i) (p .result) _ (p .ensures) (c .before .before .before .before .before .before .before .before .loop-test .taken),
       search needs,
       search needs,
       pushes.slice-next (l .n) (l .at) (l .buf) (now (a .src)) (l .i) (p .result) _ (p .ensures) (c .before .before .before .before .before .before .before .before .loop-test .taken) (c .one-payload .result) (c .one-payload .ensures .0) some ∙ l .inv .3,

@@ -10,17 +10,17 @@ use Rattle.decoder.specs.declared.Decoder.{Decoder}
 use Rattle.decoder.specs.declared.DecodeState.the-variants.{LookingForMessageStart, ParsingNormal, ParsingEscChars, ParsingEscPayload, Done}
 use Rattle.decoder.specs.Push.{stopped, starts}
 use Rattle.decoder_slice.specs.Slice.{saysNothing, pushesFrom}
-use Rattle.decoder.specs.Cut.{movedBy, inState}
-use Rattle.decoder_slice.specs.Stretch.{Goes}
+use Rattle.decoder.specs.Cut.{inState}
+use Rattle.decoder_slice.specs.Stretch.{movedBy, Goes}
 use Rattle.decoder_slice.proofs.Runs as runs
 use Rattle.decoder_slice.proofs.put_judged.Statement.{statement}
 use Rattle.decoder_slice.proofs.put_judged.Tie as tie
 
 abbrev Inv-loop : tie.InvT-loop
-Inv-loop d n buf₀ chunk from at room left fits limit k₀ buf k = (k ≤ limit) × (at ≡ d .fill) × (from + limit ≤ length chunk) × (d .fill + limit ≤ length buf₀) × (n + limit ≤ 3) × (length buf ≡ length buf₀) × Goes (movedBy d k k (ParsingEscPayload (n + k))) (from + k) buf from (inState d (ParsingEscPayload n)) buf₀ chunk
+Inv-loop d n buf₀ chunk from at room left fits most k₀ buf k = (k ≤ most) × (at ≡ d .fill) × (from + most ≤ length chunk) × (d .fill + most ≤ length buf₀) × (n + most ≤ 3) × (length buf ≡ length buf₀) × Goes (movedBy d k k (ParsingEscPayload (n + k))) (from + k) buf from (inState d (ParsingEscPayload n)) buf₀ chunk
 
 abbrev μ-loop : tie.MeasureT-loop
-μ-loop d n buf₀ chunk from at room left fits limit k₀ buf k = limit - k
+μ-loop d n buf₀ chunk from at room left fits most k₀ buf k = most - k
 
 sub-room : tie.Need-sub-room Inv-loop μ-loop
 sub-room c = search needs

@@ -10,8 +10,8 @@ use Rattle.decoder.specs.declared.DecodeState.the-variants.{LookingForMessageSt
 use Rattle.decoder.specs.Push.{stopped}
 use Rattle.decoder.proofs.Search.{matched-more, matched-none}
 use Rattle.decoder_slice.specs.Slice.{pushesFrom}
-use Rattle.decoder.specs.Cut.{movedBy, inState}
-use Rattle.decoder_slice.specs.Stretch.{Goes}
+use Rattle.decoder.specs.Cut.{inState}
+use Rattle.decoder_slice.specs.Stretch.{movedBy, Goes}
 use Rattle.decoder_slice.proofs.Runs as runs
 use Rattle.decoder_slice.proofs.Skips as skips
 use Rattle.decoder_slice.proofs.search_more.Statement.{statement}

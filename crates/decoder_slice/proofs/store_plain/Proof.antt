@@ -7,17 +7,17 @@ use lib.ListN.{length, drop, length-set}
 use Rattle.decoder.specs.declared.Decoder.{Decoder}
 use Rattle.decoder.specs.declared.DecodeState.the-variants.{ParsingNormal}
 use Rattle.decoder_slice.specs.Slice.{pushesFrom}
-use Rattle.decoder.specs.Cut.{movedBy, inState}
-use Rattle.decoder_slice.specs.Stretch.{Goes, Plain}
+use Rattle.decoder.specs.Cut.{inState}
+use Rattle.decoder_slice.specs.Stretch.{movedBy, Goes, Plain}
 use Rattle.decoder_slice.proofs.Runs as runs
 use Rattle.decoder_slice.proofs.store_plain.Statement.{statement}
 use Rattle.decoder_slice.proofs.store_plain.Tie as tie
 
 abbrev Inv-loop : tie.InvT-loop
-Inv-loop d buf₀ chunk from at room left limit to all k₀ buf k = (k ≤ all) × (at ≡ d .fill) × (from + all ≤ length chunk) × (d .fill + all ≤ length buf₀) × (length buf ≡ length buf₀) × Goes (movedBy d k k ParsingNormal) (from + k) buf from (inState d ParsingNormal) buf₀ chunk × Plain chunk from (from + all)
+Inv-loop d buf₀ chunk from at room left most to all k₀ buf k = (k ≤ all) × (at ≡ d .fill) × (from + all ≤ length chunk) × (d .fill + all ≤ length buf₀) × (length buf ≡ length buf₀) × Goes (movedBy d k k ParsingNormal) (from + k) buf from (inState d ParsingNormal) buf₀ chunk × Plain chunk from (from + all)
 
 abbrev μ-loop : tie.MeasureT-loop
-μ-loop d buf₀ chunk from at room left limit to all k₀ buf k = all - k
+μ-loop d buf₀ chunk from at room left most to all k₀ buf k = all - k
 
 sub-room : tie.Need-sub-room Inv-loop μ-loop
 sub-room c = search needs

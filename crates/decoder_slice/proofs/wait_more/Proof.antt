@@ -10,8 +10,8 @@ use Rattle.decoder.specs.declared.Decoder.{Decoder}
 use Rattle.decoder.specs.declared.DecodeState.the-variants.{LookingForMessageStart, ParsingNormal, ParsingEscChars, ParsingEscPayload, Done}
 use Rattle.decoder.specs.Push.{stopped, starts}
 use Rattle.decoder_slice.specs.Slice.{saysNothing, pushesFrom}
-use Rattle.decoder.specs.Cut.{movedBy, inState}
-use Rattle.decoder_slice.specs.Stretch.{Goes}
+use Rattle.decoder.specs.Cut.{inState}
+use Rattle.decoder_slice.specs.Stretch.{movedBy, Goes}
 use Rattle.decoder_slice.proofs.Runs as runs
 use Rattle.decoder_slice.proofs.wait_more.Statement.{statement}
 use Rattle.decoder_slice.proofs.wait_more.Tie as tie

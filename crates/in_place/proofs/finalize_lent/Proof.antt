@@ -48,7 +48,7 @@ use Rattle.decoder.proofs.Finalized as P
 use Rattle.decoder.proofs.Finalized.Laws as P′
 use Rattle.decoder.proofs.Event as E
 use Rattle.decoder.proofs.Event.Laws as E′
-use Rattle.in_place.proofs.Lies.{lies-in, lies-out}
+use Rattle.decided.proofs.Lies.{lies-in, lies-out}
 use Rattle.in_place.proofs.finalize as callee
 use Rattle.in_place.proofs.finalize.Symbol as callee-def
 use Rattle.in_place.proofs.finalize.Symbol.{name as #transport·finalize}

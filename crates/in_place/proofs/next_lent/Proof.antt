@@ -52,7 +52,7 @@ use Rattle.encoder.proofs.Given as P
 use Rattle.encoder.proofs.Given.Laws as P′
 use Rattle.encoder.proofs.Item as E
 use Rattle.encoder.proofs.Item.Laws as E′
-use Rattle.in_place.proofs.Lies.{lies-in, lies-out}
+use Rattle.decided.proofs.Lies.{lies-in, lies-out}
 use Rattle.in_place.proofs.next as callee
 use Rattle.in_place.proofs.next.Symbol as callee-def
 use Rattle.in_place.proofs.next.Symbol.{name as #transport·next}

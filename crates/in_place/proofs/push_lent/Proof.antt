@@ -53,7 +53,7 @@ use Rattle.decoder.proofs.Pushed as P
 use Rattle.decoder.proofs.Pushed.Laws as P′
 use Rattle.decoder.proofs.Event as E
 use Rattle.decoder.proofs.Event.Laws as E′
-use Rattle.in_place.proofs.Lies.{lies-in, lies-out}
+use Rattle.decided.proofs.Lies.{lies-in, lies-out}
 use Rattle.in_place.proofs.push as callee
 use Rattle.in_place.proofs.push.Symbol as callee-def
 use Rattle.in_place.proofs.push.Symbol.{name as #transport·push}

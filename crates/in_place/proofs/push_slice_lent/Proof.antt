@@ -48,7 +48,7 @@ use Rattle.decoder_slice.specs.Slice.{afterSlice, sliceRecord}
 use Rattle.decoder_slice.specs.declared.Sliced.{Sliced}
 use Rattle.decoder_slice.proofs.Sliced as P
 use Rattle.decoder_slice.proofs.Sliced.Laws as P′
-use Rattle.in_place.proofs.Lies.{lies-in, lies-out}
+use Rattle.decided.proofs.Lies.{lies-in, lies-out}
 use Rattle.in_place.specs.declared.Taken.{Taken}
 use Rattle.in_place.proofs.Taken as K
 use Rattle.in_place.proofs.Taken.Laws as K′

@@ -46,7 +46,7 @@ use Rattle.decoder.proofs.Decoder as T
 use Rattle.decoder.proofs.Decoder.Laws as T′
 use Rattle.decoder.proofs.AfterReset as P
 use Rattle.decoder.proofs.AfterReset.Laws as P′
-use Rattle.in_place.proofs.Lies.{lies-in, lies-out}
+use Rattle.decided.proofs.Lies.{lies-in, lies-out}
 use Rattle.in_place.proofs.reset as callee
 use Rattle.in_place.proofs.reset.Symbol as callee-def
 use Rattle.in_place.proofs.reset.Symbol.{name as #transport·reset}

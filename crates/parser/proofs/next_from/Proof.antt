@@ -57,7 +57,7 @@ use Rattle.streaming.proofs.Answer as E
 use Rattle.streaming.proofs.Answer.Laws as E′
 use Rattle.parser.specs.Reader.{Called, afterNext, calledNext}
 use Rattle.parser.specs.declared.Parser.{Parser}
-use Rattle.parser.proofs.Lies.{lies-in, lies-out}
+use Rattle.decided.proofs.Lies.{lies-in, lies-out}
 use Rattle.parser.proofs.Parser as T
 use Rattle.parser.proofs.Parser.Laws as T′
 use Rattle.parser.proofs.Parser.next as callee

@@ -2,8 +2,9 @@ use mathlib.Core.Path.{_≡_, sym, _∙_}
 use denote.Ref.{now}
 use Prim.Native.Nat.{_≤_, _<_, _-_, _+_, _^_}
 use lib.ListN.{length, drop}
+use Rattle.decoder_slice.proofs.Taken.{part-room}
 use Rattle.smlcat.specs.Fed.{fed}
-use Rattle.smlcat.proofs.Laws.{part-room, fed-on, fed-stop, fed-done}
+use Rattle.smlcat.proofs.Laws.{fed-on, fed-stop, fed-done}
 use borrow.Author.Needs.{needs}
 use Rattle.smlcat.proofs.drive.Statement.{statement}
 use Rattle.smlcat.proofs.drive.Tie as tie

@@ -1,7 +1,7 @@
 """What the commands of bin/ share: a program is proved and built where that hasn't been done, and run as `rt` runs it. Its input is standard input, or a file."""
 import os, platform, shutil, subprocess, sys
 
-ROOT = os.path.dirname(os.path.dirname(os.path.dirname(os.path.abspath(__file__))))
+ROOT = os.path.dirname(os.path.dirname(os.path.abspath(__file__)))
 # which program behind bin/replay answers a command, by its first word
 COMMANDS = {"replay_wire": ["encode", "encode_cap", "stream", "crc", "push"], "replay_messages": ["leaf", "places", "events"]}
 
