@@ -82,10 +82,11 @@ for path in sorted(glob.glob("crates/*/proofs/Wrong.antt")):
         theorems[law.replace("-", "_")] = path
         *before, last = re.split(r" → (?![^()]*\))", said)
         sides = [whole(term(side)) for side in last.split("≡")]
-        variables = set(" ".join(re.findall(r"\(([^\s:][^:()]*) :", said)).split())
+        binders = re.findall(r"\((\w[\w ]*) : ([^()]*(?:\([^()]*\)[^()]*)*)\)", said)
+        bad += [f"{path}: {law} names a premise: {name} : {what}" for name, what in binders if re.search("[≡<≤⊥]", what)]
+        variables = set(" ".join(name for name, _ in binders).split())
         for premise in before:
-            binder = re.match(r"(?:\(\w[\w ]* : [^()≡<≤⊥]*(?:\([^()≡<≤⊥]*\))?[^()≡<≤⊥]*\) ?)+$", premise)
-            if not binder and not variables & set(re.findall(r"\w+", premise)):
+            if not variables & set(re.findall(r"\w+", premise)):
                 bad.append(f"{path}: {law} has a premise of no variable: {premise}")
         if crate == "marks":
             if last.split(" ")[0] not in claims:
