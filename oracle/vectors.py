@@ -51,6 +51,9 @@ def wrong_readings():
         say("encode " + h, "stream " + h)
         push(16, frame(b(h)), frame(b(h)), "f")
     push(8, b("1b00") + B1, "f"), push(8, b("1b"), b("00") + B1, "f"), push(8, b("001b1b1b01010101") + B1, "f"), push(8, b("1b"), "f", "f"), push(8, b("1b"), "r", "r"), push(8, closed(START, 1), "f")
+    # a stray 1b before a payload that has a start inside: another payload, and an end that fails its tests
+    for h in ["a3c3001b1b1b1b1b0101010112345678", "1b1b1b1b1b0101010112345678"]:
+        push(24, frame(b(h)), "f"), push(24, b"\x1b", frame(b(h)), "f")
     for n in range(1, 4):
         # a payload that ends in 1b, and pads behind it
         push(16, closed(START + b("010203")[: 4 - n] + b"\x1b" * n, 0), "f")

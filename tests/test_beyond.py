@@ -1,5 +1,5 @@
 """Beyond document 01's domain the crate's counts wrap, and ours don't: each such input with our answer, run through bin/replay, and the crate's, run through it where it is at hand.
-Built with overflow checks the crate panics there: that answer is a third column, run where it is at hand.
+Built with overflow checks the crate panics there: that answer is a third column, run where it is at hand. What is not is said to be skipped.
 
 The first of each group is the last input inside the domain, where all agree. Behind them the shortest inputs of docs/DIFFERENCES.md at which crate and specification differ: all answer alike.
 """
@@ -110,7 +110,7 @@ for checks, name, column in ("0", "oracle", 2), ("1", "checked", 3):
     if built == 0:
         held("the crate, " + name, ["target/oracle/" + name], column)
     elif built == 3:
-        print(f"test_beyond: the crate's own answers ({name}) skipped")
+        print(f"skipped: the crate's own answers beyond the domain ({name})")
     else:
         faults += 1
 print(f"{len(ROWS)} inputs of docs/DIFFERENCES.md, {sum(r[1] != r[2] for r in ROWS)} of them answered differently by the crate, {sum(r[3] == PANIC for r in ROWS)} with a panic where it checks for overflow; {faults} faults")

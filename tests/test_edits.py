@@ -1,4 +1,4 @@
-"""Each wrong reading is a must-fail edit, or a theorem of a crate's proofs/Wrong.antt that has its name, and is told in docs/WRONG-READINGS.md in three lines and named in docs/STATEMENTS.md. The prover refused each edit at a fact and not at a shape: where the edits were tried (target/must-fail), each has its log. A theorem rules out an outcome of the equation that a public function's contract has, or a fake of a claim that marks makes: its last premise is that; each premise before it speaks of a variable of the theorem, and whether they can all hold is for the reader to see."""
+"""Each wrong reading is a must-fail edit, or a theorem of a crate's proofs/Wrong.antt that has its name, and is told in docs/WRONG-READINGS.md in four lines and named in docs/STATEMENTS.md. The prover refused each edit at a fact and not at a shape: where the edits were tried (target/must-fail), and always in the gate, each has its log. A theorem rules out an outcome of the equation that a public function's contract has, or a fake of a claim that marks makes: its last premise is that; each premise before it speaks of a variable of the theorem, and whether they can all hold is for the reader to see. Each public function has two of them at least."""
 import glob, os, re, sys
 
 os.chdir(os.path.join(os.path.dirname(os.path.abspath(__file__)), ".."))
@@ -7,6 +7,7 @@ mapped = open("docs/STATEMENTS.md", encoding="utf-8").read()
 # where the first error says one of these, only the proof's shape or its caller broke
 SHAPE = ["can be named from here", "`close` was not admitted", "was not admitted (it has holes"]
 bad, labels, logs = [], set(), 0
+tried = "GATE" in os.environ or os.path.isdir("target/must-fail")
 for edit in sorted(glob.glob("crates/*/must-fail/*.edit")):
     crate, label = edit.split(os.sep)[1], os.path.basename(edit)[:-5]
     if label in labels:
@@ -22,8 +23,8 @@ for edit in sorted(glob.glob("crates/*/must-fail/*.edit")):
         bad.append(f"{edit}: its first line does not name the mistake")
     section = re.search(r"^### %s\n(.*?)(?=^#|\Z)" % re.escape(label), told, re.M | re.S)
     lines = re.findall(r"^- (\w+):", section.group(1), re.M) if section else []
-    if lines != ["Belief", "Bytes", "Prover"]:
-        bad.append(f"{label}: docs/WRONG-READINGS.md does not tell it in three lines")
+    if lines != ["Belief", "Bytes", "Answers", "Prover"]:
+        bad.append(f"{label}: docs/WRONG-READINGS.md does not tell it in four lines")
     if f"`{label}`" not in mapped:
         bad.append(f"{label}: docs/STATEMENTS.md does not say which wrong program it is")
     log = os.path.join("target/must-fail", crate, label, ".log")
@@ -34,6 +35,8 @@ for edit in sorted(glob.glob("crates/*/must-fail/*.edit")):
             bad.append(f"{label}: the prover's log has no error")
         elif any(s in first.group(0) for s in SHAPE):
             bad.append(f"{label}: refused at a shape: {first.group(0)[:200]}")
+    elif tried:
+        bad.append(f"{label}: {log} is missing")
 
 
 def term(text):
@@ -64,10 +67,10 @@ def whole(side):
 def promises(crate):
     """The equations of the crate's public functions: two sides, and the names for which anything may stand: parameters, answer, what is lent."""
     for path in glob.glob(f"crates/{crate}/src/*.rt"):
-        for takes, said in re.findall(r"^\s*pub fn \w+\((.*?)\)(?: -> \S.*?)?\n\s*ensures \{ λ r\. ⌜ (.*?) ⌝ \}", open(path, encoding="utf-8").read(), re.M | re.S):
-            for old, new in [(r"now \((\w+) \.exit\)", r"\1_left"), (r"now \((\w+) \.entry\)", r"\1"), (r"(\w+) \.entry", r"\1"), (r"\br \.(\w+)", r"r_\1")]:
+        for takes, said in re.findall(r"^\s*pub fn \w+(?:<.*?>)?\((.*?)\)(?: -> \S.*?)?\n\s*ensures \{ λ r\. ⌜ (.*?) ⌝ \}", open(path, encoding="utf-8").read(), re.M | re.S):
+            for old, new in [(r"now \((\w+) \.exit\)", r"\1_left"), (r"now \((\w+) \.entry\)", r"\1"), (r"handed \((\w+) \.entry\)", r"\1_part"), (r"\bhanded r\b", "r"), (r"(\w+) \.entry", r"\1"), (r"\br \.(\w+)", r"r_\1")]:
                 said = re.sub(old, new, said)
-            names = set(re.findall(r"(\w+)(?=:)", takes)) | set(re.findall(r"\bself\b", takes)) | set(re.findall(r"\b(?:\w+_left|r_\w+|r)\b", said))
+            names = set(re.findall(r"(\w+)(?=:)", takes)) | set(re.findall(r"\bself\b", takes)) | set(re.findall(r"\b(?:\w+_left|\w+_part|r_\w+|r)\b", said))
             if said.count("≡") == 1:
                 yield [whole(term(side)) for side in said.split("≡")], names
 
@@ -99,10 +102,28 @@ for name, path in theorems.items():
 for name, text in re.findall(r"^### (\w+)\n(.*?)(?=^#|\Z)", told, re.M | re.S):
     if name not in labels and name not in theorems:
         bad.append(f"{name}: told in docs/WRONG-READINGS.md, and neither an edit nor a theorem has that name")
-    if re.findall(r"^- (\w+):", text, re.M) != ["Belief", "Bytes", "Prover"]:
-        bad.append(f"{name}: docs/WRONG-READINGS.md does not tell it in three lines")
-if os.path.isdir("target/must-fail") and logs < len(labels):
-    bad.append(f"target/must-fail has {logs} logs, and there are {len(labels)} edits")
+    if re.findall(r"^- (\w+):", text, re.M) != ["Belief", "Bytes", "Answers", "Prover"]:
+        bad.append(f"{name}: docs/WRONG-READINGS.md does not tell it in four lines")
+# Each public function has two wrong programs at least: those of its row, or of the functions that the row names. A function of crate in_place is told as `push` in place.
+own, others, functions = {}, {}, set()
+for path in sorted(glob.glob("crates/*/src/**/*.rt", recursive=True)):
+    text, place = open(path, encoding="utf-8").read(), " in place" * (path.split(os.sep)[1] == "in_place")
+    for m in re.finditer(r'^(\s*)pub (?:extern "C" )?fn (\w+)', text, re.M):
+        of = re.findall(r"^impl(?:<.*?>)? (\w+)", text[: m.start()], re.M)
+        functions.add((of[-1] + "::" if m.group(1).strip("\n") else "") + m.group(2) + place * (not m.group(2).endswith("_lent")))
+for row in filter(None, mapped.split("\n| function | edits and theorems |\n")[-1].split("\n\n")[0].split("\n")[1:]):
+    who, what = [c.strip() for c in row.strip("|").split("|")]
+    words = ["".join(w) for w in re.findall(r"`([\w:]+)`( in place)?", what)]
+    for name in ["".join(w) for w in re.findall(r"`([\w:]+)`( in place)?", who)]:
+        own.setdefault(name, set()).update(w for w in words if w in labels or w in theorems)
+        others.setdefault(name, set()).update(w for w in words if w in functions)
+    bad += [f"docs/STATEMENTS.md: {w}, told of {who}, is no edit, theorem or public function" for w in words if w not in labels and w not in theorems and w not in functions]
+for name in sorted(functions):
+    ruled = own.get(name, set()).union(*(own.get(other, set()) for other in others.get(name, set())))
+    if len(ruled) < 2:
+        bad.append(f"docs/STATEMENTS.md: {name} has {len(ruled)} wrong programs, not two")
+if not tried:
+    print("skipped: the prover's logs of the edits, which the gate makes")
 print("\n".join(bad))
-print(f"{len(labels)} edits, {logs} logs read, {len(theorems)} theorems, {len(bad)} faults")
+print(f"{len(labels)} edits, {logs} logs read, {len(theorems)} theorems, {len(functions)} public functions, {len(bad)} faults")
 sys.exit(1 if bad or not labels else 0)

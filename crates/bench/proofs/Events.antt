@@ -12,19 +12,19 @@ use Rattle.bench.specs.Bench.{isEvent, eventsFrom, events}
 
 -- one call more is one event more, or none
 module _ (s : List ℕ) (p start pending n m : ℕ) (a : ReaderAfter) (h : n < m) (e : a ≡ nextAt s p start pending) where
-  step : (t : Bool) → isEvent (a .said) ≡ t
+  step : (t : Bool) → isEvent (a .answer) ≡ t
       → eventsFrom (m - n) s p start pending ≡ cond t (suc (eventsFrom (m - (n + 1)) s (a .place) (a .start) (a .pending))) 0
   unfolding eventsFrom
   step t f =
       let k : m - n ≡ suc (m - (n + 1)) = omega arith in
       ap (λ (x : ℕ). eventsFrom x s p start pending) k
-      ∙ ap (λ (x : ReaderAfter). cond (isEvent (x .said)) (suc (eventsFrom (m - (n + 1)) s (x .place) (x .start) (x .pending))) 0) (sym e)
+      ∙ ap (λ (x : ReaderAfter). cond (isEvent (x .answer)) (suc (eventsFrom (m - (n + 1)) s (x .place) (x .start) (x .pending))) 0) (sym e)
       ∙ ap (λ (x : Bool). cond x (suc (eventsFrom (m - (n + 1)) s (a .place) (a .start) (a .pending))) 0) f
 
-  pub events-more : isEvent (a .said) ≡ true → n + 1 + eventsFrom (m - (n + 1)) s (a .place) (a .start) (a .pending) ≡ n + eventsFrom (m - n) s p start pending
+  pub events-more : isEvent (a .answer) ≡ true → n + 1 + eventsFrom (m - (n + 1)) s (a .place) (a .start) (a .pending) ≡ n + eventsFrom (m - n) s p start pending
   events-more f = omega (arith, step true f)
 
-  pub no-more : isEvent (a .said) ≡ false → n ≡ n + eventsFrom (m - n) s p start pending
+  pub no-more : isEvent (a .answer) ≡ false → n ≡ n + eventsFrom (m - n) s p start pending
   no-more f = omega (arith, step false f)
 
 pub none-left : (s : List ℕ) (p start pending n m : ℕ) → m ≤ n → n ≡ n + eventsFrom (m - n) s p start pending

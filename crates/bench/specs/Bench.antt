@@ -73,7 +73,7 @@ unfoldable pub eventsFrom : ℕ → List ℕ → ℕ → ℕ → ℕ → ℕ
 eventsFrom zero input at start pending = 0
 eventsFrom (suc k) input at start pending =
     let a : N.ReaderAfter = nextAt input at start pending in
-    cond (isEvent (a .said)) (suc (eventsFrom k input (a .place) (a .start) (a .pending))) 0
+    cond (isEvent (a .answer)) (suc (eventsFrom k input (a .place) (a .start) (a .pending))) 0
 
 -- from a new reader; an event takes a byte at least, so there are no more of them than bytes
 abbrev pub events : List ℕ → ℕ

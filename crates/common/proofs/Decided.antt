@@ -26,11 +26,11 @@ pub openFrom : OpenResponse Span → Opens.OpenResponse
 openFrom x =
     record {
       codepage = fieldFrom Present Absent (x .codepage);
-      «client_id» = fieldFrom Present Absent (x .clientId);
-      «req_file_id» = x .fileId;
-      «server_id» = x .serverId;
-      «ref_time» = fieldFrom (λ n. OptTimeC.Present (timeFrom n)) OptTimeC.Absent (x .time);
-      «sml_version» = fieldFrom OptU8C.Present OptU8C.Absent (x .version);
+      «client_id» = fieldFrom Present Absent (x .«client_id»);
+      «req_file_id» = x .«req_file_id»;
+      «server_id» = x .«server_id»;
+      «ref_time» = fieldFrom (λ n. OptTimeC.Present (timeFrom n)) OptTimeC.Absent (x .«ref_time»);
+      «sml_version» = fieldFrom OptU8C.Present OptU8C.Absent (x .«sml_version»);
     }
 
 pub open-back : (x : Opens.OpenResponse) → openFrom (openResponse x) ≡ x
@@ -46,7 +46,7 @@ open-back x =
     }
 
 pub closeFrom : CloseResponse Span → Closes.CloseResponse
-closeFrom x = record { «global_signature» = fieldFrom Present Absent (x .signature) }
+closeFrom x = record { «global_signature» = fieldFrom Present Absent (x .«global_signature») }
 
 pub close-back : (x : Closes.CloseResponse) → closeFrom (closeResponse x) ≡ x
 unfolding closeFrom
@@ -55,13 +55,13 @@ close-back x = λ i. record { «global_signature» = field-back (x .«global_sig
 pub entryFrom : ListEntry Span → Entries.ListEntry
 entryFrom x =
     record {
-      «obj_name» = x .name;
+      «obj_name» = x .«obj_name»;
       status = fieldFrom (λ s. OptStatusC.Present (statusFrom s)) OptStatusC.Absent (x .status);
-      «val_time» = fieldFrom (λ n. OptTimeC.Present (timeFrom n)) OptTimeC.Absent (x .time);
+      «val_time» = fieldFrom (λ n. OptTimeC.Present (timeFrom n)) OptTimeC.Absent (x .«val_time»);
       unit = fieldFrom OptU8C.Present OptU8C.Absent (x .unit);
       scaler = fieldFrom OptI8C.Present OptI8C.Absent (x .scaler);
       value = valueFrom (x .value);
-      «value_signature» = fieldFrom Present Absent (x .signature);
+      «value_signature» = fieldFrom Present Absent (x .«value_signature»);
     }
 
 pub entry-back : (x : Entries.ListEntry) → entryFrom (listEntry x) ≡ x

@@ -18,9 +18,9 @@ use Rattle.common.specs.Fields.{OpenResponse, CloseResponse, ListEntry, 
 
 pub record OpenWithin (s : List ℕ) (x : OpenResponse Span) : Type 0 where
   pub codepage : Has (Within s) (x .codepage)
-  pub clientId : Has (Within s) (x .clientId)
-  pub fileId : Within s (x .fileId)
-  pub serverId : Within s (x .serverId)
+  pub «client_id» : Has (Within s) (x .«client_id»)
+  pub «req_file_id» : Within s (x .«req_file_id»)
+  pub «server_id» : Within s (x .«server_id»)
 
 pub opt-octets : (s : List ℕ) (at : ℕ) → Ok (Found (Has (Within s)) s at) (optional octetsAt s at)
 opt-octets s at = optional-found octetsAt s at (octets-found s at)
@@ -33,37 +33,37 @@ unfolding openAt
 open-found s at =
     from s at (any (list-of-ok 6 s at)) (λ list n₀ h₀ p₀ q₀.
     on s at n₀ (opt-octets s n₀) (omega arith) (λ codepage n₁ h₁ p₁ q₁.
-    on s at n₁ (opt-octets s n₁) (omega arith) (λ clientId n₂ h₂ p₂ q₂.
-    on s at n₂ (octets-found s n₂) (omega arith) (λ fileId n₃ h₃ p₃ q₃.
-    on s at n₃ (octets-found s n₃) (omega arith) (λ serverId n₄ h₄ p₄ q₄.
-    on s at n₄ (opt-time s n₄) (omega arith) (λ time n₅ h₅ p₅ q₅.
-    on s at n₅ (optional-found {P = Any} (unsignedAt 1) s n₅ (unsigned-found 1 s n₅)) (omega arith) (λ version n₆ h₆ p₆ q₆.
-    found s at _ n₆ (record { codepage = h₁; clientId = h₂; fileId = h₃; serverId = h₄ }) p₆ q₆)))))))
+    on s at n₁ (opt-octets s n₁) (omega arith) (λ «client_id» n₂ h₂ p₂ q₂.
+    on s at n₂ (octets-found s n₂) (omega arith) (λ «req_file_id» n₃ h₃ p₃ q₃.
+    on s at n₃ (octets-found s n₃) (omega arith) (λ «server_id» n₄ h₄ p₄ q₄.
+    on s at n₄ (opt-time s n₄) (omega arith) (λ «ref_time» n₅ h₅ p₅ q₅.
+    on s at n₅ (optional-found {P = Any} (unsignedAt 1) s n₅ (unsigned-found 1 s n₅)) (omega arith) (λ «sml_version» n₆ h₆ p₆ q₆.
+    found s at _ n₆ (record { codepage = h₁; «client_id» = h₂; «req_file_id» = h₃; «server_id» = h₄ }) p₆ q₆)))))))
 
 pub record CloseWithin (s : List ℕ) (x : CloseResponse Span) : Type 0 where
-  pub signature : Has (Within s) (x .signature)
+  pub «global_signature» : Has (Within s) (x .«global_signature»)
 
 pub close-found : (s : List ℕ) (at : ℕ) → Ok (Found (CloseWithin s) s at) (closeAt s at)
 unfolding closeAt
 close-found s at =
     from s at (any (list-of-ok 1 s at)) (λ list n₀ h₀ p₀ q₀.
-    on s at n₀ (opt-octets s n₀) (omega arith) (λ signature n₁ h₁ p₁ q₁.
-    found s at _ n₁ (record { signature = h₁ }) p₁ q₁))
+    on s at n₀ (opt-octets s n₀) (omega arith) (λ «global_signature» n₁ h₁ p₁ q₁.
+    found s at _ n₁ (record { «global_signature» = h₁ }) p₁ q₁))
 
 pub record EntryWithin (s : List ℕ) (x : ListEntry Span) : Type 0 where
-  pub name : Within s (x .name)
+  pub «obj_name» : Within s (x .«obj_name»)
   pub value : ValueWithin s (x .value)
-  pub signature : Has (Within s) (x .signature)
+  pub «value_signature» : Has (Within s) (x .«value_signature»)
 
 pub entry-found : (s : List ℕ) (at : ℕ) → Ok (Found (EntryWithin s) s at) (entryAt s at)
 unfolding entryAt
 entry-found s at =
     from s at (any (list-of-ok 7 s at)) (λ list n₀ h₀ p₀ q₀.
-    on s at n₀ (octets-found s n₀) (omega arith) (λ name n₁ h₁ p₁ q₁.
+    on s at n₀ (octets-found s n₀) (omega arith) (λ «obj_name» n₁ h₁ p₁ q₁.
     on s at n₁ (optional-found {P = Any} statusAt s n₁ (status-found s n₁)) (omega arith) (λ status n₂ h₂ p₂ q₂.
-    on s at n₂ (opt-time s n₂) (omega arith) (λ time n₃ h₃ p₃ q₃.
+    on s at n₂ (opt-time s n₂) (omega arith) (λ «val_time» n₃ h₃ p₃ q₃.
     on s at n₃ (optional-found {P = Any} (unsignedAt 1) s n₃ (unsigned-found 1 s n₃)) (omega arith) (λ unit n₄ h₄ p₄ q₄.
     on s at n₄ (optional-found {P = Any} (signedAt 1) s n₄ (signed-found 1 s n₄)) (omega arith) (λ scaler n₅ h₅ p₅ q₅.
     on s at n₅ (value-found s n₅) (omega arith) (λ value n₆ h₆ p₆ q₆.
-    on s at n₆ (opt-octets s n₆) (omega arith) (λ signature n₇ h₇ p₇ q₇.
-    found s at _ n₇ (record { name = h₁; value = h₆; signature = h₇ }) p₇ q₇))))))))
+    on s at n₆ (opt-octets s n₆) (omega arith) (λ «value_signature» n₇ h₇ p₇ q₇.
+    found s at _ n₇ (record { «obj_name» = h₁; value = h₆; «value_signature» = h₇ }) p₇ q₇))))))))

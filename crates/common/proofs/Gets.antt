@@ -16,11 +16,11 @@ use Rattle.common.specs.Fields.{OpenResponse, CloseResponse, ListEntry, 
 -- each field has its own property
 pub record OpenHas (P₁ P₂ : List ℕ → Option Span → Type 0) (P₃ P₄ : List ℕ → Span → Type 0) (P₅ P₆ : List ℕ → Option ℕ → Type 0) (s : List ℕ) (x : OpenResponse Span) : Type 0 where
   pub codepage : P₁ s (x .codepage)
-  pub clientId : P₂ s (x .clientId)
-  pub fileId : P₃ s (x .fileId)
-  pub serverId : P₄ s (x .serverId)
-  pub time : P₅ s (x .time)
-  pub version : P₆ s (x .version)
+  pub «client_id» : P₂ s (x .«client_id»)
+  pub «req_file_id» : P₃ s (x .«req_file_id»)
+  pub «server_id» : P₄ s (x .«server_id»)
+  pub «ref_time» : P₅ s (x .«ref_time»)
+  pub «sml_version» : P₆ s (x .«sml_version»)
 
 pub open-reads : {P₁ P₂ : List ℕ → Option Span → Type 0} {P₃ P₄ : List ℕ → Span → Type 0} {P₅ P₆ : List ℕ → Option ℕ → Type 0} {b₀ b₁ b₂ b₃ b₄ b₅ b₆ : List ℕ}
     → Reads (listOfAt 6) (Is tt) b₀
@@ -42,11 +42,11 @@ open-reads r₀ r₁ r₂ r₃ r₄ r₅ r₆ =
           gets-then _ _ (r₄ .reads _ k₃) (λ a₄ n₄ h₄ k₄.
           gets-then _ _ (r₅ .reads _ k₄) (λ a₅ n₅ h₅ k₅.
           gets-then _ _ (r₆ .reads l k₅) (λ a₆ n₆ h₆ k₆.
-          gets-got (record { codepage = h₁; clientId = h₂; fileId = h₃; serverId = h₄; time = h₅; version = h₆ }) k₆)))))));
+          gets-got (record { codepage = h₁; «client_id» = h₂; «req_file_id» = h₃; «server_id» = h₄; «ref_time» = h₅; «sml_version» = h₆ }) k₆)))))));
     }
 
 pub record CloseHas (P₁ : List ℕ → Option Span → Type 0) (s : List ℕ) (x : CloseResponse Span) : Type 0 where
-  pub signature : P₁ s (x .signature)
+  pub «global_signature» : P₁ s (x .«global_signature»)
 
 pub close-reads : {P₁ : List ℕ → Option Span → Type 0} {b₀ b₁ : List ℕ}
     → Reads (listOfAt 1) (Is tt) b₀
@@ -58,18 +58,18 @@ close-reads r₀ r₁ =
       reads = λ l h.
           gets-is _ _ (r₀ .reads _ (simp append-assoc at h)) (λ n₀ k₀.
           gets-then _ _ (r₁ .reads l k₀) (λ a₁ n₁ h₁ k₁.
-          gets-got (record { signature = h₁ }) k₁));
+          gets-got (record { «global_signature» = h₁ }) k₁));
     }
 
 pub record EntryHas (P₁ : List ℕ → Span → Type 0) (P₂ : List ℕ → Option Status → Type 0) (P₃ P₄ : List ℕ → Option ℕ → Type 0) (P₅ : List ℕ → Option ℤ → Type 0)
     (P₆ : List ℕ → Value Span → Type 0) (P₇ : List ℕ → Option Span → Type 0) (s : List ℕ) (x : ListEntry Span) : Type 0 where
-  pub name : P₁ s (x .name)
+  pub «obj_name» : P₁ s (x .«obj_name»)
   pub status : P₂ s (x .status)
-  pub time : P₃ s (x .time)
+  pub «val_time» : P₃ s (x .«val_time»)
   pub unit : P₄ s (x .unit)
   pub scaler : P₅ s (x .scaler)
   pub value : P₆ s (x .value)
-  pub signature : P₇ s (x .signature)
+  pub «value_signature» : P₇ s (x .«value_signature»)
 
 pub entry-reads : {P₁ : List ℕ → Span → Type 0} {P₂ : List ℕ → Option Status → Type 0} {P₃ P₄ : List ℕ → Option ℕ → Type 0} {P₅ : List ℕ → Option ℤ → Type 0}
     {P₆ : List ℕ → Value Span → Type 0} {P₇ : List ℕ → Option Span → Type 0} {b₀ b₁ b₂ b₃ b₄ b₅ b₆ b₇ : List ℕ}
@@ -94,5 +94,5 @@ entry-reads r₀ r₁ r₂ r₃ r₄ r₅ r₆ r₇ =
           gets-then _ _ (r₅ .reads _ k₄) (λ a₅ n₅ h₅ k₅.
           gets-then _ _ (r₆ .reads _ k₅) (λ a₆ n₆ h₆ k₆.
           gets-then _ _ (r₇ .reads l k₆) (λ a₇ n₇ h₇ k₇.
-          gets-got (record { name = h₁; status = h₂; time = h₃; unit = h₄; scaler = h₅; value = h₆; signature = h₇ }) k₇))))))));
+          gets-got (record { «obj_name» = h₁; status = h₂; «val_time» = h₃; unit = h₄; scaler = h₅; value = h₆; «value_signature» = h₇ }) k₇))))))));
     }

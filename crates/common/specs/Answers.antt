@@ -19,36 +19,36 @@ abbrev pub openResponse : Opens.OpenResponse → OpenResponse Span
 openResponse x =
     record {
       codepage = optSpan (x .codepage);
-      clientId = optSpan (x .«client_id»);
-      fileId = x .«req_file_id»;
-      serverId = x .«server_id»;
-      time = optTime (x .«ref_time»);
-      version = optU8 (x .«sml_version»);
+      «client_id» = optSpan (x .«client_id»);
+      «req_file_id» = x .«req_file_id»;
+      «server_id» = x .«server_id»;
+      «ref_time» = optTime (x .«ref_time»);
+      «sml_version» = optU8 (x .«sml_version»);
     }
 
 abbrev pub openRead : OpenRead → Read (OpenResponse Span)
-openRead (OpenR.Is x next) = got (openResponse x) next
+openRead (OpenR.Is response next) = got (openResponse response) next
 openRead (OpenR.Refused f) = refused (faultOf f)
 
 abbrev pub closeResponse : Closes.CloseResponse → CloseResponse Span
-closeResponse x = record { signature = optSpan (x .«global_signature») }
+closeResponse x = record { «global_signature» = optSpan (x .«global_signature») }
 
 abbrev pub closeRead : CloseRead → Read (CloseResponse Span)
-closeRead (CloseR.Is x next) = got (closeResponse x) next
+closeRead (CloseR.Is response next) = got (closeResponse response) next
 closeRead (CloseR.Refused f) = refused (faultOf f)
 
 abbrev pub listEntry : Entries.ListEntry → ListEntry Span
 listEntry x =
     record {
-      name = x .«obj_name»;
+      «obj_name» = x .«obj_name»;
       status = optStatus (x .status);
-      time = optTime (x .«val_time»);
+      «val_time» = optTime (x .«val_time»);
       unit = optU8 (x .unit);
       scaler = optI8 (x .scaler);
       value = value (x .value);
-      signature = optSpan (x .«value_signature»);
+      «value_signature» = optSpan (x .«value_signature»);
     }
 
 abbrev pub entryRead : EntryRead → Read (ListEntry Span)
-entryRead (EntryR.Is x next) = got (listEntry x) next
+entryRead (EntryR.Is entry next) = got (listEntry entry) next
 entryRead (EntryR.Refused f) = refused (faultOf f)

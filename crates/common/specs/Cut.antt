@@ -11,14 +11,14 @@ use Rattle.value.specs.Values.{Status, timeAt, valueAt}
 use Rattle.common.specs.Fields.{OpenResponse, ListEntry}
 
 unfoldable pub openRest : Option Span → Option Span → Span → Span → List ℕ → ℕ → Read (OpenResponse Span)
-openRest codepage clientId fileId serverId s n₄ =
-    then (optional timeAt s n₄) λ time n₅.
-    then (optional (unsignedAt 1) s n₅) λ version n₆.
-    got (record { codepage = codepage; clientId = clientId; fileId = fileId; serverId = serverId; time = time; version = version }) n₆
+openRest codepage «client_id» «req_file_id» «server_id» s n₄ =
+    then (optional timeAt s n₄) λ «ref_time» n₅.
+    then (optional (unsignedAt 1) s n₅) λ «sml_version» n₆.
+    got (record { codepage = codepage; «client_id» = «client_id»; «req_file_id» = «req_file_id»; «server_id» = «server_id»; «ref_time» = «ref_time»; «sml_version» = «sml_version» }) n₆
 
 unfoldable pub entryRest : Span → Option Status → Option ℕ → Option ℕ → List ℕ → ℕ → Read (ListEntry Span)
-entryRest name status time unit s n₄ =
+entryRest «obj_name» status «val_time» unit s n₄ =
     then (optional (signedAt 1) s n₄) λ scaler n₅.
     then (valueAt s n₅) λ value n₆.
-    then (optional octetsAt s n₆) λ signature n₇.
-    got (record { name = name; status = status; time = time; unit = unit; scaler = scaler; value = value; signature = signature }) n₇
+    then (optional octetsAt s n₆) λ «value_signature» n₇.
+    got (record { «obj_name» = «obj_name»; status = status; «val_time» = «val_time»; unit = unit; scaler = scaler; value = value; «value_signature» = «value_signature» }) n₇

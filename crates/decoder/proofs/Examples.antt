@@ -5,8 +5,8 @@ use Prim.Native.Nat.{ℕ, suc}
 use lib.ListN.{replicate}
 use Rattle.crc_x25.specs.Crc.{reflect, polynomial, bitStep, bitSteps, byteStep, register, finalXor}
 use Rattle.frame.specs.Frame.{startSeq, escSeq}
-use Rattle.decoder.specs.Push.{sized, searching, store, same, finish, judge, step, finalized, resetCount}
-use Rattle.decoder.specs.Record.{DecoderAnswer, nothing, payload, count, refusal, wrote, badDecoder, wrongBuffer, pushed, pushRecord, finalizeRecord, resetRecord, newRecord}
+use Rattle.decoder.specs.Push.{sized, search, searching, store, same, finish, judge, step, finalized, resetCount}
+use Rattle.decoder.specs.Record.{DecoderAnswer, nothing, payload, count, refusal, wrote, badDecoder, wrongBuffer, pushed, pushRecord, finalizeRecord, resetRecord, left, recordOf, newRecord}
 use Rattle.decoder.specs.Run.{Op, push, finalize, reset, act, run}
 
 -- what is not nothing, with the number of the operation
@@ -62,3 +62,8 @@ decoderRows =
 pub push-examples : map (λ (r : DecoderRow). heard 1 (run (newRecord (sized (r .capacity))) (replicate (r .capacity) 0) (r .operations))) decoderRows ≡ map (λ (r : DecoderRow). r .answers) decoderRows
 unfolding run act pushRecord pushed finalizeRecord resetRecord badDecoder wrongBuffer wrote step searching store same judge finish finalized resetCount reflect polynomial bitStep bitSteps byteStep register finalXor
 push-examples = refl
+
+-- a record that no call leaves: nothing matched, no noise, raw length 5. finalize looks at the two counts alone, as the Rust does, and is silent
+pub finalizes-by-two-counts : finalizeRecord (recordOf (sized 8) (search 0 0 5)) ≡ left nothing (newRecord (sized 8))
+unfolding finalizeRecord badDecoder finalized
+finalizes-by-two-counts = refl

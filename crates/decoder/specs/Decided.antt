@@ -13,6 +13,7 @@ use Rattle.decoder.specs.declared.Finalized.{Finalized}
 use Rattle.decoder.specs.declared.AfterReset.{AfterReset}
 use Rattle.decoder.specs.declared.Asked.{Asked}
 use Rattle.decided.specs.One.{One, With, Injective}
+use Rattle.decided.specs.Part.{LentPart, partAt}
 
 -- every view that a contract cites; where memory is lent, the view of the answer together with it
 pub record Views : Type 0 where
@@ -33,5 +34,4 @@ pub record Decided : Type 0 where
   pub finalize : (self : Decoder) → One (λ (r : Finalized). afterFinalize r ≡ finalizeRecord self)
   pub reset : (self : Decoder) → One (λ (r : AfterReset). afterReset r ≡ resetRecord self)
   pub ask-payload : (self : Decoder) (buf : List ℕ) → One (λ (r : Asked). answerAsked r ≡ askRecord self buf)
-  -- of the part that payload hands back, its bytes, not where they stand
-  pub payload : (self : Decoder) (buf : List ℕ) → One (λ (r : List ℕ). r ≡ payloadRecord self buf)
+  pub payload : (self : Decoder) (buf : LentPart) → One (λ (r : LentPart). r ≡ partAt buf 0 (payloadRecord self (buf .bytes)))

@@ -1,7 +1,7 @@
 -- claim: a decoder in use. Pushes, finalize and reset one after another, by the definitions that the functions' contracts cite, and what they answer.
 use mathlib.Core.List.{List, [], _∷_}
 use Prim.Native.Nat.{ℕ}
-use Rattle.decoder.specs.Record.{DecoderAnswer, After, after, pushRecord, finalizeRecord, resetRecord}
+use Rattle.decoder.specs.Record.{DecoderAnswer, nothing, payload, count, refusal, After, after, pushRecord, finalizeRecord, resetRecord}
 use Rattle.decoder.specs.declared.Decoder.{Decoder}
 
 pub data Op : Type 0 where
@@ -13,6 +13,13 @@ unfoldable pub act : Decoder → List ℕ → Op → After
 act d m (push b) = pushRecord d m b
 act d m finalize = after (finalizeRecord d .answer) (finalizeRecord d .decoder) m
 act d m reset = after (resetRecord d .answer) (resetRecord d .decoder) m
+
+-- the payload that an answer brings; any other brings none
+abbrev pub brought : DecoderAnswer → List ℕ
+brought nothing = []
+brought (payload bytes) = bytes
+brought (count n) = []
+brought (refusal n values) = []
 
 -- an answer for each operation
 unfoldable pub run : Decoder → List ℕ → List Op → List DecoderAnswer

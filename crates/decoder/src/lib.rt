@@ -4,6 +4,7 @@ ghost use mathlib.Core.List.{[], _∷_, _++_};
 ghost use Prim.Native.Nat.{suc, _+_, _*_, _-_, _^_, _<_, _≤_};
 ghost use lib.ListN.{length, replicate};
 ghost use lib.Seq.{sets};
+ghost use Rattle.decided.specs.Part.{handed, partAt};
 ghost use Rattle.decoder.specs.Push.{sized, stopped, starts, matchedBehind, moreNoise, searching, begun, search, same, early};
 ghost use Rattle.decoder.specs.Record.{setup, recordWith, recounted, recordOf, afterPush, afterFinalize, afterReset, answerAsked, badDecoder, wrongBuffer, newRecord, pushRecord, finalizeRecord, resetRecord, payloadRecord, askRecord};
 ghost use Rattle.decoder.specs.Cut.{code, cut, storedOn, pushedOn, inState, quiet, freshWith, normalStep, escapeAt, waitStep, sound, verdict, endStep, otherStep, judgeStep, escapeStep, isFresh, isDone, isNormal, plainByte, payloadIn};
@@ -734,7 +735,7 @@ impl Decoder {
 
     // The payload: the buffer's first bytes, from the push that said it to the next. Otherwise the empty part.
     pub fn payload(self, buf: &[u8]) -> &[u8]
-        ensures { λ r. ⌜ now r ≡ payloadRecord self (now (buf .entry)) ⌝ }
+        ensures { λ r. ⌜ handed r ≡ partAt (handed (buf .entry)) 0 (payloadRecord self (now (buf .entry))) ⌝ }
     {
         let at = self.fill;
         if payload_in(self, buf.len()) {

@@ -69,7 +69,7 @@ none-taken d m (c ∷ cs) h z b =
 
 -- ---- the rest goes on from there
 
-is-nothing : (a : DecoderAnswer) → saysNothing a ≡ true → a ≡ nothing
+pub is-nothing : (a : DecoderAnswer) → saysNothing a ≡ true → a ≡ nothing
 is-nothing nothing e = refl
 is-nothing (payload bytes) e = cc
 is-nothing (count n) e = cc

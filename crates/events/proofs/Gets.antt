@@ -30,7 +30,7 @@ close-rest-reads b = record { reads = λ l h. gets-got (record { entries = refl;
 
 -- behind that of a list response its entries and its end
 pub list-rest-reads : {P : List ℕ → List (ListEntry Span) → Type 0} {Q : List ℕ → ListEnd Span → Type 0} (b : ListStart Span) {b₁ b₂ : List ℕ}
-    → Reads (entriesAt (b .count)) P b₁
+    → Reads (entriesAt (b .«num_vals»)) P b₁
     → Reads listEndAt Q b₂
     → Reads (contentOf (listBody b)) (ContentHas P (Made some Q)) (b₁ ++ b₂)
 unfolding contentOf
@@ -55,7 +55,7 @@ pub list-body-rest : {P₁ : List ℕ → Option Span → Type 0} {P₂ : List �
     → Reads (entriesAt n) P b₁
     → Reads listEndAt Q b₂
     → Reads (contentOf x) (ContentHas P (Made some Q)) (b₁ ++ b₂)
-list-body-rest m r₁ r₂ = let f = m .has in rw (m .is) (list-rest-reads (m .of) (rw (← f .count) at r₁) r₂)
+list-body-rest m r₁ r₂ = let f = m .has in rw (m .is) (list-rest-reads (m .of) (rw (← f .«num_vals») at r₁) r₂)
 
 pub record MessageHas (P : List ℕ → MessageStart Span → Type 0) (Q : List ℕ → Content Span → Type 0) (s : List ℕ) (x : Message Span) : Type 0 where
   pub start : P s (x .start)
@@ -64,7 +64,7 @@ pub record MessageHas (P : List ℕ → MessageStart Span → Type 0) (Q : List 
 -- a whole message: what follows its start is read by the start that was found, and its CRC is that of all bytes before the CRC's field
 pub message-reads : {P : List ℕ → MessageStart Span → Type 0} {Q : List ℕ → Content Span → Type 0} (b₁ b₂ : List ℕ) {b₃ b₄ : List ℕ}
     → Reads startAt P b₁
-    → ((s : List ℕ) (x : MessageStart Span) → P s x → Reads (contentOf (x .body)) Q b₂)
+    → ((s : List ℕ) (x : MessageStart Span) → P s x → Reads (contentOf (x .«message_body»)) Q b₂)
     → Reads (unsignedAt 2) (Is (swapped (crcOf (b₁ ++ b₂)))) b₃
     → Reads messageEndAt (Is tt) b₄
     → Reads messageAt (MessageHas P Q) (b₁ ++ b₂ ++ (b₃ ++ b₄))

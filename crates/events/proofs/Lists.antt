@@ -31,6 +31,6 @@ entries-list zero s at k h = h at
 entries-list (suc n) s at k h = entry-lists n (length s) (entryAt s at) _ (λ m. entries-list n s m k h)
 
 -- what follows the start of a list response that says n entries
-pub list-content : (b : ListStart Span) (s : List ℕ) (at : ℕ) (k : ℕ → Answers) → Listing (b .count) (contentFrom (listBody b) s at k)
+pub list-content : (b : ListStart Span) (s : List ℕ) (at : ℕ) (k : ℕ → Answers) → Listing (b .«num_vals») (contentFrom (listBody b) s at k)
 unfolding contentFrom
-list-content b s at k = entries-list (b .count) s at _ (λ m. end-lists (length s) (listEndAt s m) k)
+list-content b s at k = entries-list (b .«num_vals») s at _ (λ m. end-lists (length s) (listEndAt s m) k)

@@ -56,13 +56,13 @@ value-means s t (listTime n) y h = ap (valueMeans t) (sym h)
 
 -- two entries alike: the same bytes, the same numbers, and values of one kind
 pub record EntryAlike (s t : List ℕ) (x y : ListEntry Span) : Type 0 where
-  pub name : partOf s (x .name) ≡ partOf t (y .name)
+  pub «obj_name» : partOf s (x .«obj_name») ≡ partOf t (y .«obj_name»)
   pub status : each (λ (a : Status). a .number) (x .status) ≡ each (λ (a : Status). a .number) (y .status)
-  pub time : x .time ≡ y .time
+  pub «val_time» : x .«val_time» ≡ y .«val_time»
   pub unit : x .unit ≡ y .unit
   pub scaler : x .scaler ≡ y .scaler
   pub value : ValueSays t (valueMeans s (x .value)) (y .value)
-  pub signature : each (partOf s) (x .signature) ≡ each (partOf t) (y .signature)
+  pub «value_signature» : each (partOf s) (x .«value_signature») ≡ each (partOf t) (y .«value_signature»)
 
 status-number : (m : Option Status) → each (λ (a : Status). a .number) (each statusMeans m) ≡ each (λ (a : Status). a .number) m
 status-number (some a) = refl
@@ -75,19 +75,19 @@ status-wide none = refl
 entry-alike : (s t : List ℕ) (x y : ListEntry Span) → entryMeans s x ≡ entryMeans t y → EntryAlike s t x y
 entry-alike s t x y e =
     record {
-      name = ap (λ (a : ListEntry (List ℕ)). a .name) e;
+      «obj_name» = ap (λ (a : ListEntry (List ℕ)). a .«obj_name») e;
       status = sym (status-number (x .status)) ∙ ap (λ (a : ListEntry (List ℕ)). each (λ (b : Status). b .number) (a .status)) e ∙ status-number (y .status);
-      time = ap (λ (a : ListEntry (List ℕ)). a .time) e;
+      «val_time» = ap (λ (a : ListEntry (List ℕ)). a .«val_time») e;
       unit = ap (λ (a : ListEntry (List ℕ)). a .unit) e;
       scaler = ap (λ (a : ListEntry (List ℕ)). a .scaler) e;
       value = value-says s t (x .value) (y .value) (ap (λ (a : ListEntry (List ℕ)). a .value) e);
-      signature = ap (λ (a : ListEntry (List ℕ)). a .signature) e;
+      «value_signature» = ap (λ (a : ListEntry (List ℕ)). a .«value_signature») e;
     }
 
 same-entry : (s t : List ℕ) (x y : ListEntry Span) → EntryAlike s t x y → entryMeans s x ≡ entryMeans t y
 same-entry s t x y h =
     let st : each statusMeans (x .status) ≡ each statusMeans (y .status) = sym (status-wide (x .status)) ∙ ap (each (λ (n : ℕ). record { width = 8; number = n })) (h .status) ∙ status-wide (y .status) in
-    rw (h .name, st, h .time, h .unit, h .scaler, value-means s t (x .value) (y .value) (h .value), h .signature)
+    rw (h .«obj_name», st, h .«val_time», h .unit, h .scaler, value-means s t (x .value) (y .value) (h .value), h .«value_signature»)
 
 -- two bodies alike: of one kind, with the same fields
 abbrev pub BodyAlike : List ℕ → List ℕ → Body Span → Body Span → Type 0
@@ -120,32 +120,32 @@ same-body s t (closeBody a) y h = ap closeBody (sym (h .has)) ∙ ap (bodyMeans 
 same-body s t (listBody a) y h = ap listBody (sym (h .has)) ∙ ap (bodyMeans t) (sym (h .is))
 
 pub record StartAlike (s t : List ℕ) (x y : MessageStart Span) : Type 0 where
-  pub transactionId : partOf s (x .transactionId) ≡ partOf t (y .transactionId)
-  pub groupNo : x .groupNo ≡ y .groupNo
-  pub abortOnError : x .abortOnError ≡ y .abortOnError
-  pub body : BodyAlike s t (x .body) (y .body)
+  pub «transaction_id» : partOf s (x .«transaction_id») ≡ partOf t (y .«transaction_id»)
+  pub «group_no» : x .«group_no» ≡ y .«group_no»
+  pub «abort_on_error» : x .«abort_on_error» ≡ y .«abort_on_error»
+  pub «message_body» : BodyAlike s t (x .«message_body») (y .«message_body»)
 
 start-alike : (s t : List ℕ) (x y : MessageStart Span) → startMeans s x ≡ startMeans t y → StartAlike s t x y
 start-alike s t x y e =
     record {
-      transactionId = ap (λ (a : MessageStart (List ℕ)). a .transactionId) e;
-      groupNo = ap (λ (a : MessageStart (List ℕ)). a .groupNo) e;
-      abortOnError = ap (λ (a : MessageStart (List ℕ)). a .abortOnError) e;
-      body = body-alike s t (x .body) (y .body) (ap (λ (a : MessageStart (List ℕ)). a .body) e);
+      «transaction_id» = ap (λ (a : MessageStart (List ℕ)). a .«transaction_id») e;
+      «group_no» = ap (λ (a : MessageStart (List ℕ)). a .«group_no») e;
+      «abort_on_error» = ap (λ (a : MessageStart (List ℕ)). a .«abort_on_error») e;
+      «message_body» = body-alike s t (x .«message_body») (y .«message_body») (ap (λ (a : MessageStart (List ℕ)). a .«message_body») e);
     }
 
 same-start : (s t : List ℕ) (x y : MessageStart Span) → StartAlike s t x y → startMeans s x ≡ startMeans t y
-same-start s t x y h = rw (h .transactionId, h .groupNo, h .abortOnError, same-body s t (x .body) (y .body) (h .body))
+same-start s t x y h = rw (h .«transaction_id», h .«group_no», h .«abort_on_error», same-body s t (x .«message_body») (y .«message_body») (h .«message_body»))
 
 pub record EndAlike (s t : List ℕ) (x y : ListEnd Span) : Type 0 where
-  pub signature : each (partOf s) (x .signature) ≡ each (partOf t) (y .signature)
-  pub time : x .time ≡ y .time
+  pub «list_signature» : each (partOf s) (x .«list_signature») ≡ each (partOf t) (y .«list_signature»)
+  pub «act_gateway_time» : x .«act_gateway_time» ≡ y .«act_gateway_time»
 
 end-alike : (s t : List ℕ) (x y : ListEnd Span) → listEndMeans s x ≡ listEndMeans t y → EndAlike s t x y
-end-alike s t x y e = record { signature = ap (λ (a : ListEnd (List ℕ)). a .signature) e; time = ap (λ (a : ListEnd (List ℕ)). a .time) e }
+end-alike s t x y e = record { «list_signature» = ap (λ (a : ListEnd (List ℕ)). a .«list_signature») e; «act_gateway_time» = ap (λ (a : ListEnd (List ℕ)). a .«act_gateway_time») e }
 
 end-one : (s t : List ℕ) (x y : ListEnd Span) → EndAlike s t x y → listEndMeans s x ≡ listEndMeans t y
-end-one s t x y h = rw (h .signature, h .time)
+end-one s t x y h = rw (h .«list_signature», h .«act_gateway_time»)
 
 -- two events alike: of one kind, and alike field by field
 abbrev pub EventAlike : List ℕ → List ℕ → MessageEvent Span → MessageEvent Span → Type 0

@@ -35,12 +35,12 @@ unfoldable pub entryOf : List ℕ → Read (MessageEvent (List ℕ))
 entryOf s = then (entryAt s 0) λ e n. got (meaning s (entryEvent e)) n
 
 abbrev seven : MessageEvent (List ℕ)
-seven = entryEvent (record { name = 9 ∷ []; status = some (record { width = 8; number = 5 }); time = none; unit = none; scaler = none; value = unsigned 8 7; signature = none })
+seven = entryEvent (record { «obj_name» = 9 ∷ []; status = some (record { width = 8; number = 5 }); «val_time» = none; unit = none; scaler = none; value = unsigned 8 7; «value_signature» = none })
 
 pub record Meanings : Type 0 where
-  pub open-means : meaningsOf openMessage ≡ startEvent (record { transactionId = 1 ∷ []; groupNo = 1; abortOnError = 2; body = openBody (record { codepage = some (10 ∷ 11 ∷ []); clientId = some (12 ∷ []); fileId = 13 ∷ 14 ∷ []; serverId = 15 ∷ []; time = some 42; version = some 1 }) }) ∷ []
-  pub list-means : meaningsOf listMessage ≡ startEvent (record { transactionId = 7 ∷ []; groupNo = 0; abortOnError = 0; body = listBody (record { clientId = some (1 ∷ []); serverId = 2 ∷ 3 ∷ []; name = some (4 ∷ []); time = some 43; count = 2 }) }) ∷ entryEvent (record { name = 5 ∷ []; status = some (record { width = 8; number = 384 }); time = some 256; unit = some 30; scaler = some (negsuc 0); value = bytes (6 ∷ 7 ∷ []); signature = some (8 ∷ []) }) ∷ entryEvent (record { name = 9 ∷ []; status = some (record { width = 8; number = 5 }); time = none; unit = none; scaler = none; value = signed 8 (negsuc 65534); signature = none }) ∷ endEvent (record { signature = some (10 ∷ []); time = some 9 }) ∷ []
-  pub close-means : meaningsOf closeMessage ≡ startEvent (record { transactionId = 0xdd ∷ 0x43 ∷ []; groupNo = 0; abortOnError = 0; body = closeBody (record { signature = none }) }) ∷ []
+  pub open-means : meaningsOf openMessage ≡ startEvent (record { «transaction_id» = 1 ∷ []; «group_no» = 1; «abort_on_error» = 2; «message_body» = openBody (record { codepage = some (10 ∷ 11 ∷ []); «client_id» = some (12 ∷ []); «req_file_id» = 13 ∷ 14 ∷ []; «server_id» = 15 ∷ []; «ref_time» = some 42; «sml_version» = some 1 }) }) ∷ []
+  pub list-means : meaningsOf listMessage ≡ startEvent (record { «transaction_id» = 7 ∷ []; «group_no» = 0; «abort_on_error» = 0; «message_body» = listBody (record { «client_id» = some (1 ∷ []); «server_id» = 2 ∷ 3 ∷ []; «list_name» = some (4 ∷ []); «act_sensor_time» = some 43; «num_vals» = 2 }) }) ∷ entryEvent (record { «obj_name» = 5 ∷ []; status = some (record { width = 8; number = 384 }); «val_time» = some 256; unit = some 30; scaler = some (negsuc 0); value = bytes (6 ∷ 7 ∷ []); «value_signature» = some (8 ∷ []) }) ∷ entryEvent (record { «obj_name» = 9 ∷ []; status = some (record { width = 8; number = 5 }); «val_time» = none; unit = none; scaler = none; value = signed 8 (negsuc 65534); «value_signature» = none }) ∷ endEvent (record { «list_signature» = some (10 ∷ []); «act_gateway_time» = some 9 }) ∷ []
+  pub close-means : meaningsOf closeMessage ≡ startEvent (record { «transaction_id» = 0xdd ∷ 0x43 ∷ []; «group_no» = 0; «abort_on_error» = 0; «message_body» = closeBody (record { «global_signature» = none }) }) ∷ []
   pub short-form : entryOf (0x77 ∷ 0x02 ∷ 0x09 ∷ 0x62 ∷ 0x05 ∷ 0x01 ∷ 0x01 ∷ 0x01 ∷ 0x62 ∷ 0x07 ∷ 0x01 ∷ []) ≡ got seven 11
   pub long-form : entryOf (0x77 ∷ 0x80 ∷ 0x03 ∷ 0x09 ∷ 0x63 ∷ 0x00 ∷ 0x05 ∷ 0x01 ∷ 0x01 ∷ 0x01 ∷ 0x65 ∷ 0x00 ∷ 0x00 ∷ 0x00 ∷ 0x07 ∷ 0x01 ∷ []) ≡ got seven 16
 

@@ -32,15 +32,15 @@ valueStrings (unsigned w n) l = l
 valueStrings (listTime n) l = l
 
 abbrev pub bodyStrings : {T : Type 0} → Body T → List T
-bodyStrings (openBody b) = opt (b .codepage) (opt (b .clientId) (b .fileId ∷ b .serverId ∷ []))
-bodyStrings (closeBody b) = opt (b .signature) []
-bodyStrings (listBody b) = opt (b .clientId) (b .serverId ∷ opt (b .name) [])
+bodyStrings (openBody b) = opt (b .codepage) (opt (b .«client_id») (b .«req_file_id» ∷ b .«server_id» ∷ []))
+bodyStrings (closeBody b) = opt (b .«global_signature») []
+bodyStrings (listBody b) = opt (b .«client_id») (b .«server_id» ∷ opt (b .«list_name») [])
 
 -- all strings of an event, in the order of its fields
 abbrev pub stringsOf : {T : Type 0} → MessageEvent T → List T
-stringsOf (startEvent m) = m .transactionId ∷ bodyStrings (m .body)
-stringsOf (entryEvent e) = e .name ∷ valueStrings (e .value) (opt (e .signature) [])
-stringsOf (endEvent e) = opt (e .signature) []
+stringsOf (startEvent m) = m .«transaction_id» ∷ bodyStrings (m .«message_body»)
+stringsOf (entryEvent e) = e .«obj_name» ∷ valueStrings (e .value) (opt (e .«value_signature») [])
+stringsOf (endEvent e) = opt (e .«list_signature») []
 
 map-opt : {A B : Type 0} (f : A → B) (m : Option A) (l : List A) → map f (opt m l) ≡ opt (each f m) (map f l)
 map-opt f (some a) l = refl
@@ -54,16 +54,16 @@ map-value s (unsigned w n) l = refl
 map-value s (listTime n) l = refl
 
 map-body : (s : List ℕ) (b : Body Span) → map (partOf s) (bodyStrings b) ≡ bodyStrings (bodyMeans s b)
-map-body s (openBody b) = rw (map-opt (partOf s) (b .codepage), map-opt (partOf s) (b .clientId))
-map-body s (closeBody b) = map-opt (partOf s) (b .signature) []
-map-body s (listBody b) = rw (map-opt (partOf s) (b .clientId), map-opt (partOf s) (b .name))
+map-body s (openBody b) = rw (map-opt (partOf s) (b .codepage), map-opt (partOf s) (b .«client_id»))
+map-body s (closeBody b) = map-opt (partOf s) (b .«global_signature») []
+map-body s (listBody b) = rw (map-opt (partOf s) (b .«client_id»), map-opt (partOf s) (b .«list_name»))
 
 -- a meaning's strings are the parts of the event's, one for one
 pub strings-are : (s : List ℕ) (e : MessageEvent Span) → stringsOf (meaning s e) ≡ map (partOf s) (stringsOf e)
 unfolding meaning
-strings-are s (startEvent m) = rw (map-body s (m .body))
-strings-are s (entryEvent e) = rw (map-value s (e .value), map-opt (partOf s) (e .signature))
-strings-are s (endEvent e) = rw (map-opt (partOf s) (e .signature))
+strings-are s (startEvent m) = rw (map-body s (m .«message_body»))
+strings-are s (entryEvent e) = rw (map-value s (e .value), map-opt (partOf s) (e .«value_signature»))
+strings-are s (endEvent e) = rw (map-opt (partOf s) (e .«list_signature»))
 
 -- so events of one meaning have the same strings
 pub same-strings : (s t : List ℕ) (x y : MessageEvent Span) → meaning s x ≡ meaning t y → map (partOf s) (stringsOf x) ≡ map (partOf t) (stringsOf y)
@@ -93,17 +93,17 @@ all-value s (unsigned w n) l h k = k
 all-value s (listTime n) l h k = k
 
 all-body : (s : List ℕ) (b : Body Span) → BodyWithin s b → All (Good s) (bodyStrings b)
-all-body s (openBody b) h = all-opt s (b .codepage) _ (h .codepage) (all-opt s (b .clientId) _ (h .clientId) (is-good (h .fileId), (is-good (h .serverId), tt)))
-all-body s (closeBody b) h = all-opt s (b .signature) [] (h .signature) tt
-all-body s (listBody b) h = all-opt s (b .clientId) _ (h .clientId) (is-good (h .serverId), all-opt s (b .name) [] (h .name) tt)
+all-body s (openBody b) h = all-opt s (b .codepage) _ (h .codepage) (all-opt s (b .«client_id») _ (h .«client_id») (is-good (h .«req_file_id»), (is-good (h .«server_id»), tt)))
+all-body s (closeBody b) h = all-opt s (b .«global_signature») [] (h .«global_signature») tt
+all-body s (listBody b) h = all-opt s (b .«client_id») _ (h .«client_id») (is-good (h .«server_id»), all-opt s (b .«list_name») [] (h .«list_name») tt)
 
 all-event : (s : List ℕ) (e : MessageEvent Span) → EventWithin s e → All (Good s) (stringsOf e)
-all-event s (startEvent m) h = (is-good (h .transactionId), all-body s (m .body) (h .body))
-all-event s (entryEvent e) h = (is-good (h .name), all-value s (e .value) _ (h .value) (all-opt s (e .signature) [] (h .signature) tt))
-all-event s (endEvent e) h = all-opt s (e .signature) [] (h .signature) tt
+all-event s (startEvent m) h = (is-good (h .«transaction_id»), all-body s (m .«message_body») (h .«message_body»))
+all-event s (entryEvent e) h = (is-good (h .«obj_name»), all-value s (e .value) _ (h .value) (all-opt s (e .«value_signature») [] (h .«value_signature») tt))
+all-event s (endEvent e) h = all-opt s (e .«list_signature») [] (h .«list_signature») tt
 
 -- every string of an event that a sound reader's call answers is good
-pub next-strings : (s : List ℕ) (at start pending : ℕ) (e : MessageEvent Span) → SoundReader s at start pending → nextAt s at start pending .said ≡ event e → All (Good s) (stringsOf e)
+pub next-strings : (s : List ℕ) (at start pending : ℕ) (e : MessageEvent Span) → SoundReader s at start pending → nextAt s at start pending .answer ≡ event e → All (Good s) (stringsOf e)
 next-strings s at start pending e h q =
     let k = next-kept s at start pending h in
     let w = rw q at (k .strings) in

@@ -38,12 +38,12 @@ pub record Kept (s : List ℕ) (at : ℕ) (r : ReaderAfter) : Type 0 where
   pub high : r .place ≤ length s
   pub begun : r .start ≤ r .place
   pub few : r .pending ≤ 4294967297
-  pub strings : SaidWithin s at (r .place) (r .said)
+  pub strings : SaidWithin s at (r .place) (r .answer)
 
 few-pending : (s : List ℕ) (b : Body Span) → BodyWithin s b → pendingOf b ≤ 4294967297
 few-pending s (openBody b) h = omega arith
 few-pending s (closeBody b) h = omega arith
-few-pending s (listBody b) h = let c = h .count in omega arith
+few-pending s (listBody b) h = let c = h .«num_vals» in omega arith
 
 kept-on : {A : Type 0} {P : A → Type 0} {s : List ℕ} {at m : ℕ} (start pending : ℕ) (r : Read A) (k : A → ℕ → ReaderAfter) → Ok (Found P s m) r
     → at ≤ length s → start ≤ length s → pending ≤ 4294967297 → ((a : A) (n : ℕ) → P a → m < n → n ≤ length s → Kept s at (k a n)) → Kept s at (onward (length s) start pending r k)
@@ -55,12 +55,12 @@ begin-kept : (s : List ℕ) (old at start : ℕ) → old ≤ at → at ≤ lengt
 unfolding beginAt
 begin-kept s old at start o p q = by (leb (length s) at)
   where
-    by : (t : Bool) → Kept s old (cond t (record { said = noEvent; place = at; start = start; pending = 0 })
-        (onward (length s) at 0 (startAt s at) λ m n. record { said = event (startEvent m); place = n; start = at; pending = pendingOf (m .body) }))
+    by : (t : Bool) → Kept s old (cond t (record { answer = noEvent; place = at; start = start; pending = 0 })
+        (onward (length s) at 0 (startAt s at) λ m n. record { answer = event (startEvent m); place = n; start = at; pending = pendingOf (m .«message_body») }))
     by true = record { low = o; high = p; begun = q; few = omega arith; strings = tt }
     by false =
         kept-on at 0 _ _ (start-found s at) (omega arith) p (omega arith)
-        (λ m n h i j. record { low = omega arith; high = j; begun = omega arith; few = few-pending s (m .body) (h .body); strings = (h, omega arith) })
+        (λ m n h i j. record { low = omega arith; high = j; begun = omega arith; few = few-pending s (m .«message_body») (h .«message_body»); strings = (h, omega arith) })
 
 step-kept : (s : List ℕ) (at start pending : ℕ) → SoundReader s at start pending → Kept s at (stepAt s at start pending)
 unfolding stepAt trailerNext endNext entryNext
@@ -95,7 +95,7 @@ next-sound s at start pending h =
 
 -- at an entry: the old place is the entry's first byte, the new one is behind its last
 pub record AtEntry (s : List ℕ) (at : ℕ) (r : ReaderAfter) : Type 0 where
-  pub spans : (e : ListEntry Span) → r .said ≡ event (entryEvent e) → entryAt s at ≡ got e (r .place)
+  pub spans : (e : ListEntry Span) → r .answer ≡ event (entryEvent e) → entryAt s at ≡ got e (r .place)
 
 abbrev isEntry : Said → ℕ
 isEntry (event (startEvent m)) = 0
@@ -113,7 +113,7 @@ theEntry d noEvent = d
 theEntry d (failed f) = d
 theEntry d (alone n) = d
 
-no-entry : {s : List ℕ} {at : ℕ} {r : ReaderAfter} → isEntry (r .said) ≡ 0 → AtEntry s at r
+no-entry : {s : List ℕ} {at : ℕ} {r : ReaderAfter} → isEntry (r .answer) ≡ 0 → AtEntry s at r
 no-entry {r = r} h = record { spans = λ e p. let z : _≡_ {A = ℕ} 1 0 = sym (ap isEntry p) ∙ h in absurd (omega arith) }
 
 no-entry-on : {A : Type 0} {s : List ℕ} {at : ℕ} (end start pending : ℕ) (r : Read A) (k : A → ℕ → ReaderAfter) → ((a : A) (n : ℕ) → AtEntry s at (k a n)) → AtEntry s at (onward end start pending r k)
@@ -125,13 +125,13 @@ begin-no-entry : (s : List ℕ) (old at start : ℕ) → AtEntry s old (beginAt 
 unfolding beginAt
 begin-no-entry s old at start = by (leb (length s) at)
   where
-    by : (t : Bool) → AtEntry s old (cond t (record { said = noEvent; place = at; start = start; pending = 0 })
-        (onward (length s) at 0 (startAt s at) λ m n. record { said = event (startEvent m); place = n; start = at; pending = pendingOf (m .body) }))
+    by : (t : Bool) → AtEntry s old (cond t (record { answer = noEvent; place = at; start = start; pending = 0 })
+        (onward (length s) at 0 (startAt s at) λ m n. record { answer = event (startEvent m); place = n; start = at; pending = pendingOf (m .«message_body») }))
     by true = no-entry refl
     by false = no-entry-on _ _ _ (startAt s at) _ (λ m n. no-entry refl)
 
 entry-on : {s : List ℕ} {at : ℕ} (end start pending left : ℕ) (r : Read (ListEntry Span)) → entryAt s at ≡ r
-    → AtEntry s at (onward end start pending r λ e n. record { said = event (entryEvent e); place = n; start = start; pending = left })
+    → AtEntry s at (onward end start pending r λ e n. record { answer = event (entryEvent e); place = n; start = start; pending = left })
 unfolding onward
 entry-on end start pending left (got e n) h = record { spans = λ e′ p. h ∙ ap (λ (x : ListEntry Span). got x n) (ap (theEntry e) p) }
 entry-on end start pending left (refused f) h = no-entry refl

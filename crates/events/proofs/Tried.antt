@@ -77,7 +77,7 @@ unfolding typed lengthBytes number reflect polynomial bitStep bitSteps byteStep 
 close-crc = unsigned-field 2 (0x0f ∷ 0x5b ∷ []) (omega arith) (omega arith) (omega arith)
 
 pub close-message : Reads messageAt (MessageHas CloseStarts (ContentHas (Is []) (Is none))) closeMessage
-close-message = message-reads closeHead [] close-start (λ s x h. close-body-rest (h .body)) close-crc message-end-reads
+close-message = message-reads closeHead [] close-start (λ s x h. close-body-rest (h .«message_body»)) close-crc message-end-reads
 
 -- a list response up to its entries' list, and its entries and end
 abbrev listHead : List ℕ
@@ -166,6 +166,6 @@ list-crc = unsigned-field 2 (0x29 ∷ 0x11 ∷ []) (omega arith) (omega arith) (
 pub list-message : Reads messageAt (MessageHas ListStarts (ContentHas (OneMore FirstEntry (OneMore SecondEntry (Is []))) (Made some (ListEndHas (Made some (Part (10 ∷ []))) (Made some (Is 9)))))) listMessage
 list-message =
     message-reads listHead listContent list-start
-    (λ s x h. list-body-rest (h .body) (more-reads 1 first-entry (more-reads 0 second-entry (none-reads entryAt))) list-end)
+    (λ s x h. list-body-rest (h .«message_body») (more-reads 1 first-entry (more-reads 0 second-entry (none-reads entryAt))) list-end)
     list-crc
     message-end-reads

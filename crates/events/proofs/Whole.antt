@@ -66,7 +66,7 @@ content-tells : (b : Body Span) (s : List ℕ) (at : ℕ) (k : ℕ → Answers) 
 unfolding contentOf contentFrom entryEvents saysAll
 content-tells (openBody b) s at k = record { tells = refl }
 content-tells (closeBody b) s at k = record { tells = refl }
-content-tells (listBody b) s at k = list-tells (length s) (entriesAt (b .count) s at) _ _ k (entries-tell (b .count) s at _)
+content-tells (listBody b) s at k = list-tells (length s) (entriesAt (b .«num_vals») s at) _ _ k (entries-tell (b .«num_vals») s at _)
 
 trailer-tells : (end : ℕ) (m : MessageStart Span) (c : Content Span) (r : Read (Unit {0})) (a : Answers) (k : ℕ → Answers)
     → a ≡ saysAll (contentEvents c) (inside end r λ t n. k n)
@@ -94,4 +94,4 @@ pub message-tells : (many : ℕ) (s : List ℕ) (at : ℕ) → at < length s →
 unfolding messageAt messagesFrom
 message-tells many s at h =
     rw (lt-leb (length s) at h)
-    (start-tells (length s) (startAt s at) (λ m n. contentOf (m .body) s n) (λ i. trailerAt s at i) _ (messagesFrom many s) (λ m n. content-tells (m .body) s n _))
+    (start-tells (length s) (startAt s at) (λ m n. contentOf (m .«message_body») s n) (λ i. trailerAt s at i) _ (messagesFrom many s) (λ m n. content-tells (m .«message_body») s n _))

@@ -4,13 +4,13 @@ use mathlib.Core.List.{List, [], _∷_}
 use mathlib.Core.Bool.{cond}
 use lib.ListN.{length}
 use lib.Dec.{ltb, leb}
-use Rattle.refusals.specs.Numbers.{inputTooLongNo, limit}
+use Rattle.refusals.specs.Numbers.{badStateNo, inputTooLongNo, limit}
 use Rattle.refusals.specs.Read.{Read, got, refused, eof}
 use Rattle.refusals.specs.declared.Span.{Span}
 use Rattle.common.specs.Fields.{entryAt}
 use Rattle.message.specs.Messages.{MessageStart, Body, openBody, closeBody, listBody, startAt, listEndAt}
 use Rattle.trailer.specs.Trailer.{trailerAt}
-use Rattle.streaming.specs.Next.{MessageEvent, startEvent, entryEvent, endEvent, Said, event, noEvent, failed, alone}
+use Rattle.streaming.specs.Next.{MessageEvent, startEvent, entryEvent, endEvent, Said, event, noEvent, failed, alone, isSound}
 
 -- the answers of the first calls, and that of every later one
 pub record Answers : Type 0 where
@@ -53,7 +53,7 @@ unfoldable pub contentFrom : Body Span → List ℕ → ℕ → (ℕ → Answers
 contentFrom (openBody b) s at k = k at
 contentFrom (closeBody b) s at k = k at
 contentFrom (listBody b) s at k =
-    entriesFrom (b .count) s at λ n.
+    entriesFrom (b .«num_vals») s at λ n.
     inside (length s) (listEndAt s n) λ e m.
     saysFirst (endEvent e) (k m)
 
@@ -64,7 +64,7 @@ messagesFrom (suc many) s at =
     cond (leb (length s) at) noMore
     (atStart (startAt s at) λ m n₁.
     saysFirst (startEvent m)
-    (contentFrom (m .body) s n₁ λ n₂.
+    (contentFrom (m .«message_body») s n₁ λ n₂.
     inside (length s) (trailerAt s at n₂) λ trailer n₃.
     messagesFrom many s n₃))
 
@@ -73,3 +73,28 @@ unfoldable pub eventsOf : List ℕ → Answers
 eventsOf s =
     cond (ltb limit (length s)) (record { first = []; later = alone inputTooLongNo })
     (messagesFrom (suc (length s)) s 0)
+
+-- ---- a reader that has read a part
+
+-- one answer for ever
+abbrev pub forEver : Said → Answers
+forEver x = record { first = []; later = x }
+
+-- at the trailer of the message that began at `start`
+unfoldable pub trailerFrom : List ℕ → ℕ → ℕ → Answers
+trailerFrom s start at = inside (length s) (trailerAt s start at) λ trailer n. messagesFrom (suc (length s)) s n
+
+-- what a sound reader has before it: nothing pending, a message's start; 1, the trailer; else the entries that are left, the list's end and the trailer
+unfoldable pub restFrom : List ℕ → ℕ → ℕ → ℕ → Answers
+restFrom s at start zero = messagesFrom (suc (length s)) s at
+restFrom s at start (suc zero) = trailerFrom s start at
+restFrom s at start (suc (suc left)) =
+    entriesFrom left s at λ n.
+    inside (length s) (listEndAt s n) λ e m.
+    saysFirst (endEvent e) (trailerFrom s start m)
+
+-- of any three numbers: 9 and 4 are said for ever
+unfoldable pub answersFrom : List ℕ → ℕ → ℕ → ℕ → Answers
+answersFrom s at start pending =
+    cond (ltb limit (length s)) (forEver (alone inputTooLongNo))
+    (cond (isSound (length s) at start pending) (restFrom s at start pending) (forEver (alone badStateNo)))

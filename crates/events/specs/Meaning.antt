@@ -27,41 +27,41 @@ valueMeans s (listTime t) = listTime t
 abbrev pub entryMeans : List ℕ → ListEntry Span → ListEntry (List ℕ)
 entryMeans s x =
     record {
-      name = partOf s (x .name);
+      «obj_name» = partOf s (x .«obj_name»);
       status = each statusMeans (x .status);
-      time = x .time;
+      «val_time» = x .«val_time»;
       unit = x .unit;
       scaler = x .scaler;
       value = valueMeans s (x .value);
-      signature = each (partOf s) (x .signature);
+      «value_signature» = each (partOf s) (x .«value_signature»);
     }
 
 abbrev pub openMeans : List ℕ → OpenResponse Span → OpenResponse (List ℕ)
 openMeans s x =
     record {
       codepage = each (partOf s) (x .codepage);
-      clientId = each (partOf s) (x .clientId);
-      fileId = partOf s (x .fileId);
-      serverId = partOf s (x .serverId);
-      time = x .time;
-      version = x .version;
+      «client_id» = each (partOf s) (x .«client_id»);
+      «req_file_id» = partOf s (x .«req_file_id»);
+      «server_id» = partOf s (x .«server_id»);
+      «ref_time» = x .«ref_time»;
+      «sml_version» = x .«sml_version»;
     }
 
 abbrev pub closeMeans : List ℕ → CloseResponse Span → CloseResponse (List ℕ)
-closeMeans s x = record { signature = each (partOf s) (x .signature) }
+closeMeans s x = record { «global_signature» = each (partOf s) (x .«global_signature») }
 
 abbrev pub listStartMeans : List ℕ → ListStart Span → ListStart (List ℕ)
 listStartMeans s x =
     record {
-      clientId = each (partOf s) (x .clientId);
-      serverId = partOf s (x .serverId);
-      name = each (partOf s) (x .name);
-      time = x .time;
-      count = x .count;
+      «client_id» = each (partOf s) (x .«client_id»);
+      «server_id» = partOf s (x .«server_id»);
+      «list_name» = each (partOf s) (x .«list_name»);
+      «act_sensor_time» = x .«act_sensor_time»;
+      «num_vals» = x .«num_vals»;
     }
 
 abbrev pub listEndMeans : List ℕ → ListEnd Span → ListEnd (List ℕ)
-listEndMeans s x = record { signature = each (partOf s) (x .signature); time = x .time }
+listEndMeans s x = record { «list_signature» = each (partOf s) (x .«list_signature»); «act_gateway_time» = x .«act_gateway_time» }
 
 abbrev pub bodyMeans : List ℕ → Body Span → Body (List ℕ)
 bodyMeans s (openBody b) = openBody (openMeans s b)
@@ -71,10 +71,10 @@ bodyMeans s (listBody b) = listBody (listStartMeans s b)
 abbrev pub startMeans : List ℕ → MessageStart Span → MessageStart (List ℕ)
 startMeans s x =
     record {
-      transactionId = partOf s (x .transactionId);
-      groupNo = x .groupNo;
-      abortOnError = x .abortOnError;
-      body = bodyMeans s (x .body);
+      «transaction_id» = partOf s (x .«transaction_id»);
+      «group_no» = x .«group_no»;
+      «abort_on_error» = x .«abort_on_error»;
+      «message_body» = bodyMeans s (x .«message_body»);
     }
 
 -- an event's strings as bytes, value and status as kind and number; `s` is the input

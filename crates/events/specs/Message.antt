@@ -25,7 +25,7 @@ unfoldable pub contentOf : Body Span → List ℕ → ℕ → Read (Content Span
 contentOf (openBody b) s at = got (record { entries = []; end = none }) at
 contentOf (closeBody b) s at = got (record { entries = []; end = none }) at
 contentOf (listBody b) s at =
-    then (entriesAt (b .count) s at) λ entries n.
+    then (entriesAt (b .«num_vals») s at) λ entries n.
     then (listEndAt s n) λ end m.
     got (record { entries = entries; end = some end }) m
 
@@ -33,6 +33,6 @@ contentOf (listBody b) s at =
 unfoldable pub messageAt : List ℕ → ℕ → Read (Message Span)
 messageAt s at =
     then (startAt s at) λ start n₁.
-    then (contentOf (start .body) s n₁) λ content n₂.
+    then (contentOf (start .«message_body») s n₁) λ content n₂.
     then (trailerAt s at n₂) λ trailer n₃.
     got (record { start = start; content = content }) n₃

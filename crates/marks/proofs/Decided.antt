@@ -8,6 +8,7 @@ use Rattle.encoder.proofs.Decided as Encoder
 use Rattle.decoder.proofs.Decided as Decoder
 use Rattle.in_place.proofs.Decided as InPlace
 use Rattle.decoder_slice.proofs.Decided as Slice
+use Rattle.lines.proofs.Decided as Lines
 use Rattle.value.proofs.Decided as Value
 use Rattle.common.proofs.Decided as Common
 use Rattle.message.proofs.Decided as Message
@@ -27,6 +28,7 @@ views =
       decoder = Decoder.views;
       in-place = InPlace.views;
       decoder-slice = Slice.views;
+      lines = Lines.views;
       value = Value.views;
       common = Common.views;
       message = Message.views;
@@ -46,6 +48,7 @@ decided =
       decoder = Decoder.decided;
       in-place = InPlace.decided;
       decoder-slice = Slice.decided;
+      lines = Lines.decided;
       value = Value.decided;
       common = Common.decided;
       message = Message.decided;

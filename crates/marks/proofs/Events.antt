@@ -16,10 +16,10 @@ use Rattle.trailer.specs.Trailer.{trailerAt}
 use Rattle.streaming.specs.Next.{MessageEvent, startEvent, entryEvent, endEvent, Said, event, noEvent, failed, alone}
 use Rattle.events.specs.Events.{Answers, nth, answer, saysFirst, atStart, inside, entriesFrom, contentFrom, messagesFrom, eventsOf}
 use Rattle.events.specs.Calls.{call}
-use Rattle.events.proofs.Calls.{calls-are-events}
+use Rattle.events.proofs.Calls.{calls-from, calls-are-events}
 use Rattle.events.proofs.Lists.{Listing, stops, listsOne, atEnd, list-content}
 use Rattle.marks.specs.Events as E
-use Rattle.marks.specs.Events.{Reader, ourReader, ourParser, saysAt, ReaderGives, Follows, refuses, closes, ListsEntries}
+use Rattle.marks.specs.Events.{Reader, ourReader, ourParser, saysAt, ReaderGives, GoesOn, readerWith, parserWith, Follows, refuses, closes, ListsEntries}
 
 -- ---- our two readers are the calls of crate events
 
@@ -40,6 +40,12 @@ reader-gives s k = reader-calls s 0 0 0 k ∙ calls-are-events s k
 pub parser-gives : ReaderGives ourParser
 parser-gives i k = parser-calls i 0 0 0 k ∙ calls-are-events (now i) k
 
+pub reader-goes-on : GoesOn ourReader readerWith
+reader-goes-on s n k = reader-calls s (n .place) (n .start) (n .pending) k ∙ calls-from s (n .place) (n .start) (n .pending) k
+
+pub parser-goes-on : GoesOn ourParser parserWith
+parser-goes-on i n k = parser-calls i (n .place) (n .start) (n .pending) k ∙ calls-from (now i) (n .place) (n .start) (n .pending) k
+
 -- ---- lists, in what the tables say
 
 -- what is said one call later
@@ -58,7 +64,7 @@ listing-follows (atEnd e a) = closes e refl
 
 -- every list start in the answers is followed so
 pub record Listed (a : Answers) : Type 0 where
-  pub listed′ : (k : ℕ) (m : MessageStart Span) (b : ListStart Span) → answer a k ≡ event (startEvent m) → m .body ≡ listBody b → Follows (answer a) (b .count) (suc k)
+  pub listed′ : (k : ℕ) (m : MessageStart Span) (b : ListStart Span) → answer a k ≡ event (startEvent m) → m .«message_body» ≡ listBody b → Follows (answer a) (b .«num_vals») (suc k)
 
 -- a message start that an answer is
 isStart : Said → Bool
@@ -86,8 +92,8 @@ listed-then : (x y : Said) → isStart x ≡ false → isStart y ≡ false → L
 unfolding answer nth
 listed-then x y h g = record { listed′ = by }
   where
-    by : (k : ℕ) (m : MessageStart Span) (b : ListStart Span) → answer (record { first = x ∷ []; later = y }) k ≡ event (startEvent m) → m .body ≡ listBody b
-        → Follows (answer (record { first = x ∷ []; later = y })) (b .count) (suc k)
+    by : (k : ℕ) (m : MessageStart Span) (b : ListStart Span) → answer (record { first = x ∷ []; later = y }) k ≡ event (startEvent m) → m .«message_body» ≡ listBody b
+        → Follows (answer (record { first = x ∷ []; later = y })) (b .«num_vals») (suc k)
     by zero m b e f = no-start h e
     by (suc k) m b e f = no-start g e
 
@@ -99,16 +105,16 @@ listed-says : (v : MessageEvent Span) (a : Answers) → isStart (event v) ≡ fa
 unfolding answer nth saysFirst
 listed-says v a h g = record { listed′ = by }
   where
-    by : (k : ℕ) (m : MessageStart Span) (b : ListStart Span) → answer (saysFirst v a) k ≡ event (startEvent m) → m .body ≡ listBody b → Follows (answer (saysFirst v a)) (b .count) (suc k)
+    by : (k : ℕ) (m : MessageStart Span) (b : ListStart Span) → answer (saysFirst v a) k ≡ event (startEvent m) → m .«message_body» ≡ listBody b → Follows (answer (saysFirst v a)) (b .«num_vals») (suc k)
     by zero m b e f = no-start h e
     by (suc k) m b e f = follows-later a v (g .listed′ k m b e f)
 
-listed-starts : (x : MessageStart Span) (a : Answers) → ((b : ListStart Span) → x .body ≡ listBody b → Follows (answer a) (b .count) 0) → Listed a → Listed (saysFirst (startEvent x) a)
+listed-starts : (x : MessageStart Span) (a : Answers) → ((b : ListStart Span) → x .«message_body» ≡ listBody b → Follows (answer a) (b .«num_vals») 0) → Listed a → Listed (saysFirst (startEvent x) a)
 unfolding answer nth saysFirst startIn
 listed-starts x a h g = record { listed′ = by }
   where
-    by : (k : ℕ) (m : MessageStart Span) (b : ListStart Span) → answer (saysFirst (startEvent x) a) k ≡ event (startEvent m) → m .body ≡ listBody b → Follows (answer (saysFirst (startEvent x) a)) (b .count) (suc k)
-    by zero m b e f = follows-later a (startEvent x) (h b (ap (λ (s : Said). startIn x s .body) e ∙ f))
+    by : (k : ℕ) (m : MessageStart Span) (b : ListStart Span) → answer (saysFirst (startEvent x) a) k ≡ event (startEvent m) → m .«message_body» ≡ listBody b → Follows (answer (saysFirst (startEvent x) a)) (b .«num_vals») (suc k)
+    by zero m b e f = follows-later a (startEvent x) (h b (ap (λ (s : Said). startIn x s .«message_body») e ∙ f))
     by (suc k) m b e f = follows-later a (startEvent x) (g .listed′ k m b e f)
 
 listed-inside : {A : Type 0} (end : ℕ) (r : Read A) (k : A → ℕ → Answers) → ((x : A) (n : ℕ) → Listed (k x n)) → Listed (inside end r k)
@@ -130,7 +136,7 @@ listed-content : (b : Body Span) (s : List ℕ) (at : ℕ) (k : ℕ → Answers)
 unfolding contentFrom isStart
 listed-content (openBody b) s at k h = h at
 listed-content (closeBody b) s at k h = h at
-listed-content (listBody b) s at k h = listed-entries (b .count) s at _ (λ n. listed-inside (length s) (listEndAt s n) _ (λ e m. listed-says (endEvent e) _ refl (h m)))
+listed-content (listBody b) s at k h = listed-entries (b .«num_vals») s at _ (λ n. listed-inside (length s) (listEndAt s n) _ (λ e m. listed-says (endEvent e) _ refl (h m)))
 
 listed-messages : (many : ℕ) (s : List ℕ) (at : ℕ) → Listed (messagesFrom many s at)
 unfolding messagesFrom isStart
@@ -139,7 +145,7 @@ listed-messages (suc many) s at =
     by-test Listed (leb (length s) at) _ _ (λ e. listed-ever noEvent refl)
     (λ e. listed-at-start (startAt s at) _
     (λ m n. listed-starts m _ (λ b f. rw f (listing-follows (list-content b s n _)))
-    (listed-content (m .body) s n _ (λ n₂. listed-inside (length s) (trailerAt s at n₂) _ (λ t n₃. listed-messages many s n₃)))))
+    (listed-content (m .«message_body») s n _ (λ n₂. listed-inside (length s) (trailerAt s at n₂) _ (λ t n₃. listed-messages many s n₃)))))
 
 tables-list : (s : List ℕ) → Listed (eventsOf s)
 unfolding eventsOf isStart

@@ -1,10 +1,10 @@
 -- Each fake falls: one small run, computed, is not what the claim says.
 use mathlib.Core.Path.{_≡_, refl, ap, sym, _∙_}
 use mathlib.Core.Bool.{Bool, true, false, cond, false≢true}
-use mathlib.Core.List.{List, [], _∷_, map}
+use mathlib.Core.List.{List, [], _∷_, _++_, append-nil, map}
 use Prim.Native.Nat.{ℕ, zero, suc, _+_, _≤_, _<_}
 use native.Mathlib.Omega.{arith}
-use lib.ListN.{length, getD, take, replicate}
+use lib.ListN.{length, getD, take, replicate, length-append}
 use lib.Dec.{ltb}
 use Rattle.frame.proofs.Cases.{by-lt}
 use Rattle.crc_x25.specs.Crc.{reflect, polynomial, bitStep, bitSteps, byteStep, register, finalXor, crcOf}
@@ -14,8 +14,12 @@ use Rattle.encoder.specs.Encoder.{NextAnswer, byte, finished}
 use Rattle.encoder.specs.Encoder as N
 use Rattle.decoder.specs.Push.{sized, searching, store, same, finish, judge, step, finalized}
 use Rattle.decoder.specs.Record.{DecoderAnswer, nothing, payload, count, refusal, wrote, badDecoder, wrongBuffer, pushed, pushRecord, finalizeRecord, newRecord, hasPayload, payloadRecord}
-use Rattle.decoder.specs.Run.{push, act}
+use Rattle.decoder.specs.Run.{Op, push, act}
+use Rattle.decoder.specs.declared.DecodeState.{DecodeState}
+use Rattle.decoder.specs.declared.DecodeState.the-variants.{LookingForMessageStart, ParsingNormal, ParsingEscChars, ParsingEscPayload, Done}
+use Rattle.decoder.specs.declared.Decoder.{Decoder}
 use Rattle.decoder.specs.declared.Setup.{Setup}
+use Rattle.decoder_slice.specs.Slice.{pushesFrom, sliceRecord}
 use Rattle.refusals.specs.Read.{then, guard, need, byteAt, spanAt}
 use Rattle.tlf.specs.Lengths.{tlfAt, lengthFrom, lessOwn, listOfAt}
 use Rattle.numbers.specs.Numbers.{number, bytesAt, rawFrom, rawAt, unsignedAt, signedOf, signedAt}
@@ -24,16 +28,19 @@ use Rattle.octet_string.specs.Optional.{absentAt, optional}
 use Rattle.value.specs.Values.{timeAt, statusOf, statusAt, signedValue, unsignedValue, listTypeAt, valueOf, valueAt}
 use Rattle.common.specs.Fields.{entryAt}
 use Rattle.message.specs.Messages.{listStartAt, contentAt, bodyAt, startAt}
+use Rattle.trailer.specs.Trailer.{trailerAt}
 use Rattle.streaming.specs.Next.{Said, event, startEvent, entryEvent, endEvent, noEvent, failed, alone, onward, beginAt, entryNext, stepAt, nextAt}
-use Rattle.events.specs.Events.{nth, answer, saysFirst, atStart, inside, entriesFrom, contentFrom, messagesFrom, eventsOf}
-use Rattle.marks.specs.Decoders.{answers, behindOf, countFrom, ours}
-use Rattle.marks.specs.Mark2.{PushesBytes, Soundness, Completeness, OurSearch}
+use Rattle.events.specs.Events.{nth, answer, saysFirst, atStart, inside, entriesFrom, contentFrom, messagesFrom, eventsOf, trailerFrom, restFrom, answersFrom}
+use Rattle.marks.specs.Decoders.{LeftBehind, answers, behindOf, leftBehind, bytesFrom, countFrom, ours}
+use Rattle.marks.specs.Mark2.{PushesBytes, Soundness, Completeness, Unmatched, nothingMatched, behindPayload, OurSearch}
 use Rattle.marks.specs.Mark3.{Job, framesFor, restSays, Mark3, Suits}
-use Rattle.marks.specs.Encoders.{callsOf, SameBytes}
+use Rattle.marks.specs.Hides.{Hides}
+use Rattle.marks.specs.Chunks.{bySlices, Chunks}
+use Rattle.marks.specs.Encoders.{callsOf, ourEncoder, SameBytes}
 use Rattle.marks.specs.Bench.{Outcome, sheetEncoded, sheetEvents, sheetField, sheetString, sheetSigned, sheetUnsigned, saidFrom, Holds, payload1, frame1, b1, b2, b3, b6}
 use Rattle.marks.specs.Events as Ev
-use Rattle.marks.specs.Events.{saysAt, ReaderGives, Follows, ListsEntries}
-use Rattle.marks.specs.Fakes.{refusesAll, constant, idle, invents, once, writesNothing, refusesToEncode, finishedAtOnce, withoutEvents, noEntries, Fall}
+use Rattle.marks.specs.Events.{saysAt, ReaderGives, GoesOn, readerWith, Follows, ListsEntries}
+use Rattle.marks.specs.Fakes.{refusesAll, constant, idle, invents, once, firstOnce, stale, hasty, forgiving, lastOf, swallows, takesNone, Withheld, withholds, shrugs, forgetful, writesNothing, refusesToEncode, finishedAtOnce, withoutEvents, noEntries, Fall}
 use Rattle.marks.proofs.Completeness.{new-searches}
 
 -- a number for an answer, in which the fakes differ from what is claimed
@@ -127,8 +134,77 @@ below-is (b ∷ l) = by-lt (λ (t : Bool). t ≡ true → (b < 256) × PushesByt
 constant-mark2 : Soundness constant → ⊥
 unfolding below behindOf payloadRecord hasPayload reflect polynomial bitStep bitSteps byteStep register finalXor crcOf searching store same finish judge step finalized wrote badDecoder wrongBuffer pushed pushRecord finalizeRecord act
 constant-mark2 h =
-    let e = h C zeros refl (omega arith) (map push (take 19 frame1)) (push 0x7b) (0x2a ∷ []) (below-is frame1 refl) refl .1 in
+    let e = h C zeros .1 (map push (take 19 frame1)) (push 0x7b) .0 in
     let z : _≡_ {A = ℕ} 0x12 0x2a = ap (λ (l : List ℕ). getD l 0 0) e in
+    omega arith
+
+-- a new decoder has no payload to hand back
+stale-mark2 : Soundness stale → ⊥
+unfolding hasPayload badDecoder wrongBuffer
+stale-mark2 h = let z : _≡_ {A = ℕ} 0x2a 0 = ap (λ (l : List ℕ). getD l 0 0) (h C zeros .0) in omega arith
+
+-- no frame has one byte
+frame-long : (frame P : List ℕ) → Sound frame P → 8 ≤ length frame
+unfolding framed closed
+frame-long frame P s = let e = ap length (s .whole) in omega (arith, e)
+
+hasty-mark2 : Soundness hasty → ⊥
+unfolding behindOf bytesFrom
+hasty-mark2 h =
+    let f = h C zeros .1 [] (push 0x00) .1 (0x2a ∷ []) (omega arith, tt) refl in
+    let l = frame-long (f .frame) (0x2a ∷ []) (f .sound) in
+    let e = ap length (f .ends) ∙ length-append (f .before) (f .frame) in
+    omega (arith, l, e)
+
+-- ---- a stray 1b
+
+-- behind 1b and a start it is in a frame, where a search with nothing matched is claimed
+stateCode : DecodeState → ℕ
+stateCode (LookingForMessageStart n noise) = 1
+stateCode ParsingNormal = 0
+stateCode (ParsingEscChars n) = 0
+stateCode (ParsingEscPayload n) = 0
+stateCode Done = 0
+
+unmatched-code : {s : DecodeState} {noise : ℕ} → Unmatched s noise → stateCode s ≡ 0 → noise ≡ 9 → ⊥
+unfolding stateCode
+unmatched-code (nothingMatched e) z n = let x : _≡_ {A = ℕ} 1 0 = ap stateCode (sym e) ∙ z in omega arith
+unmatched-code (behindPayload e y) z n = omega arith
+
+forgiving-hides : Hides forgiving OurSearch → ⊥
+unfolding stateCode answers leftBehind reflect polynomial bitStep bitSteps byteStep register finalXor crcOf searching store same finish judge step finalized wrote badDecoder wrongBuffer pushed pushRecord finalizeRecord act
+forgiving-hides h = unmatched-code (h C (newRecord C) zeros 0 (new-searches C zeros refl (omega arith)) .1 .searches) refl refl
+
+-- ---- slices
+
+-- B1's frame and a byte, in one slice: the payload is at place 19
+swallows-chunks : Chunks swallows → ⊥
+unfolding codeAt answerCode answers leftBehind bySlices lastOf reflect polynomial bitStep bitSteps byteStep register finalXor crcOf searching store same finish judge step finalized wrote badDecoder wrongBuffer pushed pushRecord finalizeRecord act
+swallows-chunks h =
+    let s = h C zeros refl (omega arith) [] (frame1 ++ 0x00 ∷ []) (21 ∷ []) in
+    let w : s .took ≡ frame1 ++ 0x00 ∷ [] = sym (append-nil (s .took)) ∙ s .parts in
+    let e = s .same-answers ∙ ap (λ (l : List ℕ). answers ours (newRecord C) zeros (map push l)) w in
+    let z : _≡_ {A = ℕ} 0 1018 = ap (codeAt 19) e in
+    omega arith
+
+-- single pushes withhold nothing
+never-hidden : (os : List Op) (d : Decoder) (m : List ℕ) → leftBehind (withholds .machine) (record { decoder = d; hidden = false }) m os .decoder .hidden ≡ false
+unfolding leftBehind
+never-hidden [] d m = refl
+never-hidden (o ∷ os) d m = never-hidden os (ours .act d m o .decoder) (ours .act d m o .memory)
+
+withholds-chunks : Chunks withholds → ⊥
+unfolding leftBehind bySlices pushesFrom sliceRecord reflect polynomial bitStep bitSteps byteStep register finalXor crcOf searching store same finish judge step finalized wrote badDecoder wrongBuffer pushed pushRecord finalizeRecord act
+withholds-chunks h =
+    let s = h C zeros refl (omega arith) [] (frame1 ++ 0x00 ∷ []) (21 ∷ []) in
+    let e : _≡_ {A = Bool} true (leftBehind (withholds .machine) (record { decoder = newRecord C; hidden = false }) zeros (map push (s .took)) .decoder .hidden) = ap (λ (k : LeftBehind Withheld). k .decoder .hidden) (s .same-kept) in
+    false≢true (sym (e ∙ never-hidden (map push (s .took)) (newRecord C) zeros))
+
+takes-none-chunks : Chunks takesNone → ⊥
+unfolding leftBehind bySlices
+takes-none-chunks h =
+    let e = h C zeros refl (omega arith) [] (0x00 ∷ []) (1 ∷ []) .all-taken (omega arith, tt) (omega arith) in
+    let z : _≡_ {A = ℕ} 1 0 = ap length e in
     omega arith
 
 -- ---- mark 3
@@ -161,6 +237,15 @@ invents-mark3 h =
     let z : _≡_ {A = ℕ} 3014 3013 = ap (codeAt 20) e in
     omega arith
 
+-- right for its first frame, and for what it hands back of it
+once-b3 : Holds once encodeTo b3
+unfolding answers saidFrom reflect polynomial bitStep bitSteps byteStep register finalXor crcOf searching store same finish judge step finalized wrote badDecoder wrongBuffer pushed pushRecord finalizeRecord act
+once-b3 = refl
+
+once-first : once .payloadOf (firstOnce .decoder) (firstOnce .memory) ≡ payload1
+unfolding behindOf payloadRecord hasPayload reflect polynomial bitStep bitSteps byteStep register finalXor crcOf searching store same finish judge step finalized wrote badDecoder wrongBuffer pushed pushRecord finalizeRecord act
+once-first = refl
+
 -- the second frame's last byte is at place 52
 once-mark3 : Mark3 once encodeTo → ⊥
 unfolding codeAt answerCode answers framesFor restSays countFrom reflect polynomial bitStep bitSteps byteStep register finalXor crcOf escaped closed frameOf encodeTo searching store same finish judge step finalized wrote badDecoder wrongBuffer pushed pushRecord finalizeRecord act
@@ -184,6 +269,13 @@ firstIsByte [] = 0
 firstIsByte (byte b ∷ l) = 1
 firstIsByte (finished ∷ l) = 0
 firstIsByte (N.noByte k ∷ l) = 0
+
+writes-nothing-bytes : SameBytes ourEncoder writesNothing → ⊥
+unfolding reflect polynomial bitStep bitSteps byteStep register finalXor crcOf escaped closed frameOf
+writes-nothing-bytes h =
+    let e = h job (omega arith) roomLeft .0 in
+    let z : _≡_ {A = ℕ} 0 20 = ap length e in
+    omega arith
 
 finished-at-once : SameBytes finishedAtOnce encodeTo → ⊥
 unfolding firstIsByte callsOf reflect polynomial bitStep bitSteps byteStep register finalXor crcOf escaped closed frameOf encodeTo
@@ -226,6 +318,16 @@ no-entries-lists : ListsEntries noEntries → ⊥
 unfolding then guard need byteAt spanAt tlfAt lengthFrom lessOwn listOfAt number bytesAt rawFrom rawAt unsignedAt signedOf signedAt octetsAt absentAt optional timeAt statusOf statusAt signedValue unsignedValue listTypeAt valueOf valueAt entryAt listStartAt contentAt bodyAt startAt saysAt onward beginAt entryNext stepAt nextAt
 no-entries-lists h = no-list _ refl (h message 0 _ _ refl refl)
 
+-- place 1 of no input
+shrugs-goes-on : GoesOn shrugs readerWith → ⊥
+unfolding saidCode saysAt nth answer answersFrom nextAt
+shrugs-goes-on h = let z : _≡_ {A = ℕ} 0 5 = ap saidCode (h [] (record { place = 1; start = 0; pending = 0 }) 0) in omega arith
+
+-- a trailer is pending, and the input has ended: 10
+forgetful-goes-on : GoesOn forgetful readerWith → ⊥
+unfolding saidCode saysAt nth answer answersFrom restFrom trailerFrom inside trailerAt unsignedAt rawAt tlfAt byteAt then guard beginAt stepAt nextAt
+forgetful-goes-on h = let z : _≡_ {A = ℕ} 0 4 = ap saidCode (h [] (record { place = 0; start = 0; pending = 1 }) 0) in omega arith
+
 pub fall : Fall
 fall =
     record {
@@ -234,16 +336,27 @@ fall =
       refuses-b1 = refuses-b1;
       refuses-b2 = refuses-b2;
       constant-mark2 = constant-mark2;
+      stale-mark2 = stale-mark2;
+      hasty-mark2 = hasty-mark2;
       constant-mark3 = constant-mark3;
       idle-mark2 = idle-mark2;
       idle-mark3 = idle-mark3;
       writes-nothing-b1 = writes-nothing-b1;
       writes-nothing-mark3 = writes-nothing-mark3;
+      writes-nothing-bytes = writes-nothing-bytes;
       finished-at-once = finished-at-once;
+      once-b3 = once-b3;
+      once-first = once-first;
       once-mark3 = once-mark3;
+      forgiving-hides = forgiving-hides;
+      swallows-chunks = swallows-chunks;
+      takes-none-chunks = takes-none-chunks;
+      withholds-chunks = withholds-chunks;
       invents-b6 = invents-b6;
       invents-mark3 = invents-mark3;
       silent-events = silent-events;
       no-entries-events = no-entries-events;
       no-entries-lists = no-entries-lists;
+      shrugs-goes-on = shrugs-goes-on;
+      forgetful-goes-on = forgetful-goes-on;
     }

@@ -3,6 +3,8 @@ pub mod Inside
 pub mod RoundTrip
 pub mod Recovery
 pub mod Soundness
+pub mod Hides
+pub mod Chunks
 pub mod Completeness
 pub mod Bench
 pub mod Encoders

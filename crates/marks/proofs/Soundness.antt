@@ -1,27 +1,27 @@
 -- A payload is given only at the last byte of a sound frame for it.
 use mathlib.Core.Path.{_≡_, refl, ap, sym, _∙_, subst}
+use mathlib.Core.Bool.{true, false}
 use mathlib.Core.List.{List, [], _∷_, _++_, append-assoc, append-nil}
 use Prim.Native.Nat.{ℕ, _≤_, _<_}
 use native.Mathlib.Omega.{arith}
-use lib.ListN.{length, take}
+use lib.ListN.{length}
 use Rattle.frame.specs.Frame.{Sound, startSeq}
 use Rattle.frame.proofs.Cases.{by-eq}
-use Rattle.decoder.specs.Push.{State, search, body, escape, done, PushEvent, silent, discarded, paysOut, memory, badEscape, badMessage, step, fresh, finalized}
-use Rattle.decoder.specs.Record.{DecoderAnswer, nothing, payload, count, refusal, numbered, After, after, stateAs, stateOf, newRecord, stands, hasPayload, payloadRecord}
+use Rattle.decoder.specs.Push.{State, search, body, escape, done, PushEvent, silent, discarded, paysOut, memory, badEscape, badMessage, step, fresh, finalized, resetCount}
+use Rattle.decoder.specs.Record.{DecoderAnswer, nothing, payload, count, refusal, numbered, After, after, setup, stateOf, newRecord, wrongBuffer, pushRecord, finalizeRecord, resetRecord, hasPayload, payloadRecord}
 use Rattle.decoder.specs.Run as R
-use Rattle.decoder.specs.Run.{Op, push, finalize, reset, act}
+use Rattle.decoder.specs.Run.{Op, push, finalize, reset, act, brought}
 use Rattle.decoder.proofs.States.{runState, stateBehind, actState, answerState}
-use Rattle.decoder.specs.declared.DecodeState.{DecodeState}
-use Rattle.decoder.specs.declared.DecodeState.the-variants.{LookingForMessageStart, ParsingNormal, ParsingEscChars, ParsingEscPayload, Done}
 use Rattle.decoder.specs.declared.Decoder.{Decoder}
 use Rattle.decoder.specs.declared.Setup.{Setup}
-use Rattle.decoder.proofs.Payload.{got-done}
-use Rattle.decoder.proofs.Faithful.{Fit}
+use Rattle.decoder.proofs.Payload.{heldPayload, act-brings, payload-held}
+use Rattle.decoder.proofs.Valid.{not-bad, right-buffer}
+use Rattle.decoder.proofs.Split.{cases}
 use Rattle.decoder.proofs.Runs.{acts, Leads, leads, new-fit}
 use Rattle.since.specs.Since.{grownSince, grownSinceOp, sinceFrom, frameHead, ReadSince, AllBytes, EventSays, goesOn, startFound, startInside, noRoom, noEscape, noMessage, frameEnds}
 use Rattle.since.proofs.Lists.{bytes-back}
 use Rattle.since.proofs.Kept.{kept, reads-fresh, reads-act, reads-behind}
-use Rattle.marks.specs.Decoders.{gave, ours, behindOf, bytesFrom}
+use Rattle.marks.specs.Decoders.{Gave, gave, ours, answers, behindOf, bytesFrom}
 use Rattle.marks.specs.Mark2.{PushesBytes, EndsFrame, Soundness}
 use Rattle.marks.proofs.Recovery.{answers-new}
 
@@ -120,20 +120,6 @@ got-back memory P h = cc
 got-back (badEscape w x y z) P h = cc
 got-back (badMessage w x y z) P h = cc
 
-first-bytes : (s : DecodeState) (d : Decoder) (m P : List ℕ) → stateAs s d m ≡ done P → take (d .fill) m ≡ P
-first-bytes (LookingForMessageStart n noise) d m P e = cc
-first-bytes ParsingNormal d m P e = cc
-first-bytes (ParsingEscChars n) d m P e = cc
-first-bytes (ParsingEscPayload n) d m P e = cc
-first-bytes Done d m P e = cc
-
-payload-back : (d : Decoder) (m P : List ℕ) → Fit d m → stateOf d m ≡ done P → payloadRecord d m ≡ P
-unfolding payloadRecord hasPayload
-payload-back d m P f e = rw (f .state, f .buffer, ap stands e) (first-bytes (d .state) d m P e)
-
-hands-back : (d : Decoder) (m P : List ℕ) → Fit d m → stateOf d m ≡ done P → ours .payloadOf d m ≡ P
-hands-back d m P f e = payload-back d m P f e
-
 -- an event that is no payload
 abbrev NoPayload : PushEvent → Type 0
 NoPayload silent = Unit {0}
@@ -156,9 +142,15 @@ never-final s P h = subst NoPayload (got-back (finalized s) P h) (plain-final s)
 never-count : (k : ℕ) (P : List ℕ) → count k ≡ payload P → ⊥
 never-count k P h = let z : _≡_ {A = ℕ} 0 1 = cc in omega arith
 
--- ---- the claim
+never-nothing : (P : List ℕ) → nothing ≡ payload P → ⊥
+never-nothing P h = let z : _≡_ {A = ℕ} 0 1 = cc in omega arith
 
-module _ (C : Setup) (m : List ℕ) (l : length m ≡ C .capacity) (le : C .capacity ≤ 1048576) (os : List Op) (P : List ℕ) where
+never-refusal : (k : ℕ) (P : List ℕ) → refusal k [] ≡ payload P → ⊥
+never-refusal k P h = let z : _≡_ {A = ℕ} 0 1 = cc in omega arith
+
+-- ---- the claim, where the buffer is as long as the capacity
+
+module _ (C : Setup) (m : List ℕ) (l : length m ≡ C .capacity) (le : C .capacity ≤ 1048576) (os : List Op) where
   -- behind the operations: the record and the memory, the state, the bytes
   abbrev x : After
   x = R.behind (after nothing (newRecord C) m) os
@@ -179,28 +171,82 @@ module _ (C : Setup) (m : List ℕ) (l : length m ≡ C .capacity) (le : C .capa
   answer-is : (o : Op) → act (x .decoder) (x .memory) o .answer ≡ answerState C s o
   answer-is o = acts (x .decoder) (x .memory) o (there .fit) .answer ∙ rw (there .setup′, there .view′)
 
+  -- what is handed back is what the answer brings
+  hands-back : (o : Op) → payloadRecord (act (x .decoder) (x .memory) o .decoder) (act (x .decoder) (x .memory) o .memory) ≡ brought (act (x .decoder) (x .memory) o .answer)
+  hands-back o =
+      let a = acts (x .decoder) (x .memory) o (there .fit) in
+      payload-held _ _ (a .fit) ∙ ap heldPayload (a .view′) ∙ act-brings (setup (x .decoder)) (stateOf (x .decoder) (x .memory)) o ∙ ap brought (sym (a .answer))
+
   -- the answer is a payload, so the push gave it
-  handed-out : (b : ℕ) → PushesBytes (os ++ push b ∷ []) → act (x .decoder) (x .memory) (push b) .answer ≡ payload P
-      → EndsFrame h (push b) P × (ours .payloadOf (act (x .decoder) (x .memory) (push b) .decoder) (act (x .decoder) (x .memory) (push b) .memory) ≡ P)
-  unfolding answerState actState
-  handed-out b bytes e =
+  ends-frame : (o : Op) (P : List ℕ) → PushesBytes (os ++ o ∷ []) → act (x .decoder) (x .memory) o .answer ≡ payload P → EndsFrame h o P
+  unfolding answerState
+  ends-frame (push b) P bytes e =
       let g : (step C s b) .event ≡ paysOut P = got-back _ P (sym (answer-is (push b)) ∙ e) in
-      let a = acts (x .decoder) (x .memory) (push b) (there .fit) in
       let k = ends-behind C os [] [] fresh (reads-fresh C) (nothing-left []) in
       let on : h ++ b ∷ [] ≡ k .pre ++ (since ++ b ∷ []) = rw (k .here) (append-assoc (k .pre) since (b ∷ [])) in
-      let fine : AllBytes (since ++ b ∷ []) = bytes-back (k .pre) (since ++ b ∷ []) (rw on at (bytes-behind C os [] fresh b tt bytes)) in (
-        record { last = b; pushes = refl; before = k .pre; frame = since ++ b ∷ []; ends = on; sound = told-sound ((step C s b) .event) P g (kept C since s b (reads-behind C os) .told) fine },
-        hands-back _ _ P (a .fit) (a .view′ ∙ rw (there .setup′, there .view′) (got-done C s b P g)),
-      )
+      let fine : AllBytes (since ++ b ∷ []) = bytes-back (k .pre) (since ++ b ∷ []) (rw on at (bytes-behind C os [] fresh b tt bytes)) in
+      record { last = b; pushes = refl; before = k .pre; frame = since ++ b ∷ []; ends = on; sound = told-sound ((step C s b) .event) P g (kept C since s b (reads-behind C os) .told) fine }
+  ends-frame finalize P bytes e = absurd (never-final s P (sym (answer-is finalize) ∙ e))
+  ends-frame reset P bytes e = absurd (never-count _ P (sym (answer-is reset) ∙ e))
 
-  only-push : (o : Op) → PushesBytes (os ++ o ∷ []) → act (x .decoder) (x .memory) o .answer ≡ payload P
-      → EndsFrame h o P × (ours .payloadOf (act (x .decoder) (x .memory) o .decoder) (act (x .decoder) (x .memory) o .memory) ≡ P)
-  unfolding answerState
-  only-push (push b) bytes e = handed-out b bytes e
-  only-push finalize bytes e = absurd (never-final s P (sym (answer-is finalize) ∙ e))
-  only-push reset bytes e = absurd (never-count _ P (sym (answer-is reset) ∙ e))
+-- ---- and where it is not: every push is 5, and the decoder stays new
+
+module _ (C : Setup) (m : List ℕ) (w : wrongBuffer (C .capacity) (length m) ≡ true) where
+  record Stays (a : After) : Type 0 where
+    decoder-is : a .decoder ≡ newRecord C
+    memory-is : a .memory ≡ m
+    brings-none : [] ≡ brought (a .answer)
+    no-payload : (P : List ℕ) → a .answer ≡ payload P → ⊥
+
+  stays-act : (o : Op) → Stays (act (newRecord C) m o)
+  unfolding act pushRecord finalizeRecord resetRecord finalized resetCount
+  stays-act (push b) = rw (not-bad C fresh (omega arith), w) (record { decoder-is = refl; memory-is = refl; brings-none = refl; no-payload = λ P e. never-refusal 5 P e })
+  stays-act finalize = rw (not-bad C fresh (omega arith)) (record { decoder-is = refl; memory-is = refl; brings-none = refl; no-payload = λ P e. never-nothing P e })
+  stays-act reset = record { decoder-is = refl; memory-is = refl; brings-none = refl; no-payload = λ P e. never-count 0 P e }
+
+  stays-behind : (os : List Op) (a : After) → a .decoder ≡ newRecord C → a .memory ≡ m → (o : Op) → Stays (act (R.behind a os .decoder) (R.behind a os .memory) o)
+  unfolding R.behind
+  stays-behind [] a d n o = rw (d, n) (stays-act o)
+  stays-behind (p ∷ os) a d n o =
+      let b : Stays (act (a .decoder) (a .memory) p) = rw (d, n) (stays-act p) in
+      stays-behind os (act (a .decoder) (a .memory) p) (b .decoder-is) (b .memory-is) o
+
+  new-empty : payloadRecord (newRecord C) m ≡ []
+  unfolding payloadRecord hasPayload
+  new-empty = rw (not-bad C fresh (omega arith), w)
+
+-- ---- either way
+
+-- the claim for one setup and one buffer
+abbrev ClaimFor : Setup → List ℕ → Type 0
+ClaimFor C m =
+    (payloadRecord (newRecord C) m ≡ [])
+    × ((os : List Op) (o : Op)
+    → let a : Gave Decoder = behindOf ours (newRecord C) m os o in
+    (payloadRecord (a .decoder) (a .memory) ≡ brought (a .answer))
+    × ((P : List ℕ) → PushesBytes (os ++ o ∷ []) → a .answer ≡ payload P → EndsFrame (bytesFrom [] os (answers ours (newRecord C) m os)) o P))
+
+wrong-sound : (C : Setup) (m : List ℕ) → wrongBuffer (C .capacity) (length m) ≡ true → ClaimFor C m
+wrong-sound C m w = (
+  new-empty C m w,
+  λ os o.
+      let x : After = R.behind (after nothing (newRecord C) m) os in
+      let b : Stays C m w (act (x .decoder) (x .memory) o) = stays-behind C m w os (after nothing (newRecord C) m) refl refl o in
+      rw (behind-is os (after nothing (newRecord C) m) o) (
+        rw (b .decoder-is, b .memory-is) (new-empty C m w) ∙ b .brings-none,
+        λ P bytes e. absurd (b .no-payload P e),
+      ),
+)
+
+right-sound : (C : Setup) (m : List ℕ) → wrongBuffer (C .capacity) (length m) ≡ false → ClaimFor C m
+right-sound C m w =
+    let r = right-buffer (C .capacity) (length m) w in
+    let le : C .capacity ≤ 1048576 = omega (arith, r .0, r .1) in (
+      payload-held _ _ (new-fit C m (r .0) le),
+      λ os o.
+          rw (answers-new C m os (r .0) le, behind-is os (after nothing (newRecord C) m) o)
+          (hands-back C m (r .0) le os o, ends-frame C m (r .0) le os o),
+    )
 
 pub soundness : Soundness ours
-soundness C m l le os o P bytes e =
-    let i = behind-is os (after nothing (newRecord C) m) o in
-    rw (answers-new C m os l le, i) (only-push C m l le os P o bytes (rw i at e))
+soundness C m = cases (wrongBuffer (C .capacity) (length m)) (wrong-sound C m) (right-sound C m)

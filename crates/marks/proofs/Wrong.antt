@@ -1,11 +1,13 @@
 -- What the claims rule out: each fake of docs/WRONG-READINGS.md falls, by one of the parts of Fall.
 use Rattle.encoder.specs.Encode.{encodeTo}
 use Rattle.marks.specs.Decoders.{ours}
-use Rattle.marks.specs.Mark2.{Soundness}
+use Rattle.marks.specs.Mark2.{Soundness, OurSearch}
 use Rattle.marks.specs.Mark3.{Mark3}
-use Rattle.marks.specs.Encoders.{SameBytes}
-use Rattle.marks.specs.Events.{ReaderGives, ListsEntries}
-use Rattle.marks.specs.Fakes.{refusesAll, constant, idle, invents, once, writesNothing, finishedAtOnce, withoutEvents, noEntries}
+use Rattle.marks.specs.Hides.{Hides}
+use Rattle.marks.specs.Chunks.{Chunks}
+use Rattle.marks.specs.Encoders.{ourEncoder, SameBytes}
+use Rattle.marks.specs.Events.{ReaderGives, GoesOn, readerWith, ListsEntries}
+use Rattle.marks.specs.Fakes.{refusesAll, constant, idle, invents, once, stale, hasty, forgiving, swallows, takesNone, withholds, shrugs, forgetful, writesNothing, finishedAtOnce, withoutEvents, noEntries}
 use Rattle.marks.proofs.Fakes.{fall}
 
 fake-refuses-everything : Mark3 refusesAll encodeTo → ⊥
@@ -34,3 +36,30 @@ fake-reader-without-events = fall .silent-events
 
 fake-list-start-and-no-entries : ListsEntries noEntries → ⊥
 fake-list-start-and-no-entries = fall .no-entries-lists
+
+fake-payload-where-none-stands : Soundness stale → ⊥
+fake-payload-where-none-stands = fall .stale-mark2
+
+fake-encode-gives-other-bytes : SameBytes ourEncoder writesNothing → ⊥
+fake-encode-gives-other-bytes = fall .writes-nothing-bytes
+
+fake-stray-1b-forgiven : Hides forgiving OurSearch → ⊥
+fake-stray-1b-forgiven = fall .forgiving-hides
+
+fake-slice-swallows-events : Chunks swallows → ⊥
+fake-slice-swallows-events = fall .swallows-chunks
+
+fake-slice-takes-no-byte : Chunks takesNone → ⊥
+fake-slice-takes-no-byte = fall .takes-none-chunks
+
+fake-reader-shrugs-at-bad-numbers : GoesOn shrugs readerWith → ⊥
+fake-reader-shrugs-at-bad-numbers = fall .shrugs-goes-on
+
+fake-payload-at-once : Soundness hasty → ⊥
+fake-payload-at-once = fall .hasty-mark2
+
+fake-slice-withholds-its-payload : Chunks withholds → ⊥
+fake-slice-withholds-its-payload = fall .withholds-chunks
+
+fake-reader-forgets-what-is-pending : GoesOn forgetful readerWith → ⊥
+fake-reader-forgets-what-is-pending = fall .forgetful-goes-on

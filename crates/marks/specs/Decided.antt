@@ -8,6 +8,7 @@ use Rattle.encoder.specs.Decided as Encoder
 use Rattle.decoder.specs.Decided as Decoder
 use Rattle.in_place.specs.Decided as InPlace
 use Rattle.decoder_slice.specs.Decided as Slice
+use Rattle.lines.specs.Decided as Lines
 use Rattle.value.specs.Decided as Value
 use Rattle.common.specs.Decided as Common
 use Rattle.message.specs.Decided as Message
@@ -25,6 +26,7 @@ pub record Views : Type 0 where
   pub decoder : Decoder.Views
   pub in-place : InPlace.Views
   pub decoder-slice : Slice.Views
+  pub lines : Lines.Views
   pub value : Value.Views
   pub common : Common.Views
   pub message : Message.Views
@@ -42,6 +44,7 @@ pub record Decided : Type 0 where
   pub decoder : Decoder.Decided
   pub in-place : InPlace.Decided
   pub decoder-slice : Slice.Decided
+  pub lines : Lines.Decided
   pub value : Value.Decided
   pub common : Common.Decided
   pub message : Message.Decided

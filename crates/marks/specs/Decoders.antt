@@ -45,6 +45,18 @@ behindOf M d m (p ∷ os) o =
     let a = M .act d m p in
     behindOf M (a .decoder) (a .memory) os o
 
+-- a decoder and the memory that it is used with
+pub record LeftBehind (S : Type 0) : Type 0 where
+  pub decoder : S
+  pub memory : List ℕ
+
+-- what the operations os leave of them
+unfoldable pub leftBehind : {S : Type 0} → Machine S → S → List ℕ → List Op → LeftBehind S
+leftBehind M d m [] = record { decoder = d; memory = m }
+leftBehind M d m (o ∷ os) =
+    let a = M .act d m o in
+    leftBehind M (a .decoder) (a .memory) os
+
 -- ---- what was pushed, told by the operations and their answers alone
 
 -- how many bytes were pushed since the last payload, refusal, finalize or reset, with n before these operations; the list `more` has their answers. Each operation has one, so the second case never occurs

@@ -10,7 +10,7 @@ use Rattle.message.specs.Messages.{MessageStart, ListStart, ListEnd, listBody}
 use Rattle.streaming.specs.Next.{startEvent, entryEvent, endEvent, Said, event, failed, ReaderAfter, nextAt}
 use Rattle.parser.specs.Reader.{readerOf, calledNext}
 use Rattle.parser.specs.declared.Parser.{Parser}
-use Rattle.events.specs.Events.{answer, eventsOf}
+use Rattle.events.specs.Events.{answer, eventsOf, answersFrom}
 
 -- what a call gave: what it says (an event, no event or a refusal), and the reader for the next call
 pub record Told (S : Type 0) : Type 0 where
@@ -33,7 +33,7 @@ pub record Numbers : Type 0 where
 
 -- what the definition of a call leaves of them, as such a call
 abbrev pub told : ReaderAfter → Told Numbers
-told a = record { said = a .said; reader = record { place = a .place; start = a .start; pending = a .pending } }
+told a = record { said = a .answer; reader = record { place = a .place; start = a .start; pending = a .pending } }
 
 -- by the definition that the contracts of parse_next and next_from cite: the first call has 0, 0, 0, each later one the numbers that the one before gave
 abbrev pub ourReader : Reader (List ℕ) Numbers
@@ -63,6 +63,17 @@ hears R i k = saysAt R i (R .new i) k
 abbrev pub ReaderGives : {I S : Type 0} → Reader I S → Type 0
 ReaderGives {I} R = (i : I) (k : ℕ) → hears R i k ≡ answer (eventsOf (R .bytes i)) k
 
+-- From any three numbers on, those of a reader that has read a part, or that no call leaves (`from` makes the reader of an input with them): for every k, call k says what the message rules say from there, and 4 for ever where the numbers are not sound
+abbrev pub GoesOn : {I S : Type 0} → Reader I S → (I → Numbers → S) → Type 0
+GoesOn {I} R from = (i : I) (n : Numbers) (k : ℕ) → saysAt R i (from i n) k ≡ answer (answersFrom (R .bytes i) (n .place) (n .start) (n .pending)) k
+
+-- ours, with these numbers
+abbrev pub readerWith : List ℕ → Numbers → Numbers
+readerWith s n = n
+
+abbrev pub parserWith : RefT (List ℕ) → Numbers → Parser
+parserWith i n = record { input = i; place = n .place; start = n .start; pending = n .pending }
+
 -- the calls from k on say n entries and then the end, or a refusal before that
 pub data Follows (says : ℕ → Said) : ℕ → ℕ → Type 0 where
   refuses : {n k : ℕ} (f : Refusal) → says k ≡ failed f → Follows says n k
@@ -72,5 +83,5 @@ pub data Follows (says : ℕ → Said) : ℕ → ℕ → Type 0 where
 -- For every input: where call k says the start of a list response with n entries, the calls behind it say n entries and the end, or a refusal
 abbrev pub ListsEntries : {I S : Type 0} → Reader I S → Type 0
 ListsEntries {I} R =
-    (i : I) (k : ℕ) (m : MessageStart Span) (b : ListStart Span) → hears R i k ≡ event (startEvent m) → m .body ≡ listBody b
-    → Follows (hears R i) (b .count) (suc k)
+    (i : I) (k : ℕ) (m : MessageStart Span) (b : ListStart Span) → hears R i k ≡ event (startEvent m) → m .«message_body» ≡ listBody b
+    → Follows (hears R i) (b .«num_vals») (suc k)

@@ -1,21 +1,29 @@
--- check: the fakes of document 01, each a small decoder, encoder or reader of messages, and which claim or row of the bench sheet is false of it.
-use mathlib.Core.Bool.{Bool, true, false, cond}
-use mathlib.Core.List.{List, [], _∷_}
+-- check: fakes, those of document 01 and others that a claim must stop, each a small decoder, encoder or reader of messages, and which claim or row of the bench sheet is false of it.
+use mathlib.Core.Bool.{Bool, true, false, cond, not, _&&_}
+use mathlib.Core.Path.{_≡_}
+use mathlib.Core.List.{List, [], _∷_, map}
 use Prim.Native.Nat.{ℕ, suc}
+use lib.ListN.{length, take, replicate}
+use lib.Dec.{eqb, ltb}
 use Rattle.refusals.specs.Numbers.{payloadTooLongNo, badStateNo}
 use Rattle.encoder.specs.Encode.{encodeTo, length-is, afterEncode}
 use Rattle.encoder.specs.Encode as E
 use Rattle.encoder.specs.Encoder.{finished}
-use Rattle.decoder.specs.Record.{DecoderAnswer, nothing, payload, count, refusal, payloadRecord}
+use Rattle.decoder.specs.Push.{sized}
+use Rattle.decoder.specs.Record.{DecoderAnswer, nothing, payload, count, refusal, badDecoder, wrongBuffer, hasPayload, payloadRecord}
 use Rattle.decoder.specs.Run.{Op, push, finalize, reset}
+use Rattle.decoder.specs.declared.DecodeState.{DecodeState}
+use Rattle.decoder.specs.declared.DecodeState.the-variants.{LookingForMessageStart, ParsingNormal, ParsingEscChars, ParsingEscPayload, Done}
 use Rattle.decoder.specs.declared.Decoder.{Decoder}
 use Rattle.streaming.specs.Next.{Said, event, startEvent, entryEvent, endEvent, noEvent, failed, alone}
-use Rattle.marks.specs.Decoders.{Gave, Machine, ours}
+use Rattle.marks.specs.Decoders.{Gave, Machine, ours, behindOf}
 use Rattle.marks.specs.Mark2.{Soundness, Completeness, OurSearch}
 use Rattle.marks.specs.Mark3.{Encode, Mark3}
-use Rattle.marks.specs.Encoders.{Caller, SameBytes}
-use Rattle.marks.specs.Events.{Reader, Numbers, ourReader, ReaderGives, ListsEntries}
-use Rattle.marks.specs.Bench.{Holds, b1, b2, b3, b6}
+use Rattle.marks.specs.Hides.{Hides}
+use Rattle.marks.specs.Chunks.{GaveSlice, Slicer, ourSlicer, Chunks}
+use Rattle.marks.specs.Encoders.{Caller, ourEncoder, SameBytes}
+use Rattle.marks.specs.Events.{Reader, Numbers, ourReader, ReaderGives, GoesOn, readerWith, ListsEntries}
+use Rattle.marks.specs.Bench.{Holds, payload1, frame1, b1, b2, b3, b6}
 
 -- ours, but for what it answers; what it hands back is by the definition that payload's contract cites
 abbrev pub retold : (DecoderAnswer → DecoderAnswer) → Machine Decoder
@@ -29,6 +37,14 @@ retold f =
 -- refuses everything, as if every record were a bad one (4)
 abbrev pub refusesAll : Machine Decoder
 refusesAll = record { new = ours .new; act = λ d m o. record { answer = refusal badStateNo []; decoder = d; memory = m }; payloadOf = λ d m. [] }
+
+-- four start bytes are matched
+abbrev pub isFour : DecodeState → Bool
+isFour (LookingForMessageStart n noise) = eqb n 4
+isFour ParsingNormal = false
+isFour (ParsingEscChars n) = false
+isFour (ParsingEscPayload n) = false
+isFour Done = false
 
 -- what it answers: at each payload the one byte 2a
 abbrev pub constantly : DecoderAnswer → DecoderAnswer
@@ -64,35 +80,101 @@ inventing (refusal k (n ∷ more ∷ values)) = refusal k (n ∷ more ∷ values
 abbrev pub invents : Machine Decoder
 invents = retold inventing
 
--- what it keeps: a decoder, and whether it gave a payload
+-- what it keeps: a decoder, and how many payloads it gave
 pub record Spent : Type 0 where
   pub decoder : Decoder
-  pub spent : Bool
+  pub spent : ℕ
 
 -- its answer: once it gave a payload, every later one is empty
-abbrev pub emptied : Bool → DecoderAnswer → DecoderAnswer
-emptied b nothing = nothing
-emptied b (payload bytes) = cond b (payload []) (payload bytes)
-emptied b (count k) = count k
-emptied b (refusal k values) = refusal k values
+abbrev pub emptied : ℕ → DecoderAnswer → DecoderAnswer
+emptied n nothing = nothing
+emptied n (payload bytes) = payload (cond (eqb n 0) bytes [])
+emptied n (count k) = count k
+emptied n (refusal k values) = refusal k values
 
--- whether it gave a payload, with this answer
-abbrev pub spends : Bool → DecoderAnswer → Bool
-spends b nothing = b
-spends b (payload bytes) = true
-spends b (count k) = b
-spends b (refusal k values) = b
+-- how many it gave, with this answer
+abbrev pub spends : ℕ → DecoderAnswer → ℕ
+spends n nothing = n
+spends n (payload bytes) = suc n
+spends n (count k) = n
+spends n (refusal k values) = n
 
--- right for the first frame, and empty afterwards
+-- right for the first frame, what it hands back included, and empty afterwards
 abbrev pub once : Machine Spent
 once =
     record {
-      new = λ C. record { decoder = ours .new C; spent = false };
+      new = λ C. record { decoder = ours .new C; spent = 0 };
       act = λ d m o.
           let a = ours .act (d .decoder) m o in
           record { answer = emptied (d .spent) (a .answer); decoder = record { decoder = a .decoder; spent = spends (d .spent) (a .answer) }; memory = a .memory };
-      payloadOf = λ d m. cond (d .spent) [] (ours .payloadOf (d .decoder) m);
+      payloadOf = λ d m. cond (ltb (d .spent) 2) (ours .payloadOf (d .decoder) m) [];
     }
+
+-- what it gives at the last byte of B1's frame, its first
+abbrev pub firstOnce : Gave Spent
+firstOnce = behindOf once (once .new (sized 8)) (replicate 8 0x00) (map push (take 19 frame1)) (push 0x7b)
+
+-- ours, but where no payload stands it hands back the byte 2a
+abbrev pub stale : Machine Decoder
+stale = record { new = ours .new; act = ours .act; payloadOf = λ d m. cond (hasPayload d m) (ours .payloadOf d m) (0x2a ∷ []) }
+
+-- what it gives: of a push the payload 2a, of finalize nothing, of reset 0
+abbrev pub hastily : Bool → List ℕ → Op → Gave Bool
+hastily d m (push b) = record { answer = payload (0x2a ∷ []); decoder = true; memory = m }
+hastily d m finalize = record { answer = nothing; decoder = false; memory = m }
+hastily d m reset = record { answer = count 0; decoder = false; memory = m }
+
+-- hands out a payload at once, and hands back what it said
+abbrev pub hasty : Machine Bool
+hasty = record { new = λ C. false; act = hastily; payloadOf = λ d m. cond d (0x2a ∷ []) [] }
+
+-- what it gives: a fifth 1b at the start is passed over, as if it had not come
+abbrev pub forgivingly : Decoder → List ℕ → Op → Gave Decoder
+forgivingly d m (push b) =
+    cond (eqb b 0x1b && isFour (d .state) && not (badDecoder d) && not (wrongBuffer (d .capacity) (length m)))
+    (record { answer = nothing; decoder = d; memory = m })
+    (ours .act d m (push b))
+forgivingly d m finalize = ours .act d m finalize
+forgivingly d m reset = ours .act d m reset
+
+-- behind a stray 1b it finds the frame
+abbrev pub forgiving : Machine Decoder
+forgiving = record { new = ours .new; act = forgivingly; payloadOf = ours .payloadOf }
+
+-- ours by single bytes; a slice is taken to its end, and only its last byte's answer is told
+unfoldable pub lastOf : Decoder → List ℕ → DecoderAnswer → List ℕ → ℕ → GaveSlice Decoder
+lastOf d m a [] n = record { answer = a; taken = n; decoder = d; memory = m }
+lastOf d m a (b ∷ bytes) n =
+    let g : Gave Decoder = ours .act d m (push b) in
+    lastOf (g .decoder) (g .memory) (g .answer) bytes (suc n)
+
+abbrev pub swallows : Slicer Decoder
+swallows = record { machine = ours; pushSlice = λ d m bytes. lastOf d m nothing bytes 0 }
+
+-- what it keeps: a decoder, and whether its payload is withheld
+pub record Withheld : Type 0 where
+  pub decoder : Decoder
+  pub hidden : Bool
+
+-- ours, but where a slice stops before its end, what is handed back is empty until the next push
+abbrev pub withholds : Slicer Withheld
+withholds =
+    record {
+      machine = record {
+        new = λ C. record { decoder = ours .new C; hidden = false };
+        act = λ d m o.
+            let a = ours .act (d .decoder) m o in
+            record { answer = a .answer; decoder = record { decoder = a .decoder; hidden = false }; memory = a .memory };
+        payloadOf = λ d m. cond (d .hidden) [] (ours .payloadOf (d .decoder) m);
+      };
+      pushSlice = λ d m bytes.
+          let t = ourSlicer .pushSlice (d .decoder) m bytes in
+          record { answer = t .answer; taken = t .taken; decoder = record { decoder = t .decoder; hidden = ltb (t .taken) (length bytes) }; memory = t .memory };
+    }
+
+-- ours by single bytes; of a slice it takes none
+abbrev pub takesNone : Slicer Decoder
+takesNone = record { machine = ours; pushSlice = λ d m bytes. record { answer = nothing; taken = 0; decoder = d; memory = m } }
 
 -- an encode that does nothing and says that it wrote nothing
 abbrev pub writesNothing : Encode
@@ -132,22 +214,53 @@ entryless (alone n) = alone n
 abbrev pub noEntries : Reader (List ℕ) Numbers
 noEntries = resaid entryless
 
--- each of them falls: a row of the bench sheet or a mark that is false of it
+-- what it says: no event where ours refuses the numbers
+abbrev pub shrugging : Said → Said
+shrugging (event e) = event e
+shrugging noEvent = noEvent
+shrugging (failed f) = failed f
+shrugging (alone n) = cond (eqb n badStateNo) noEvent (alone n)
+
+-- a reader that shrugs at numbers that no call leaves
+abbrev pub shrugs : Reader (List ℕ) Numbers
+shrugs = resaid shrugging
+
+-- a reader that forgets what is pending: wrong of a new reader's later calls too
+abbrev pub forgetful : Reader (List ℕ) Numbers
+forgetful =
+    record {
+      bytes = ourReader .bytes;
+      new = ourReader .new;
+      next = λ s r. ourReader .next s (record { place = r .place; start = r .start; pending = 0 });
+    }
+
+-- each of them falls: a row of the bench sheet or a mark that is false of it. The one that is right for its first frame has row B3, and hands that payload back
 pub record Fall : Type 0 where
   pub refuses-b3 : Holds refusesAll encodeTo b3 → ⊥
   pub refuses-mark3 : Mark3 refusesAll encodeTo → ⊥
   pub refuses-b1 : Holds ours refusesToEncode b1 → ⊥
   pub refuses-b2 : Holds ours refusesToEncode b2 → ⊥
   pub constant-mark2 : Soundness constant → ⊥
+  pub stale-mark2 : Soundness stale → ⊥
+  pub hasty-mark2 : Soundness hasty → ⊥
   pub constant-mark3 : Mark3 constant encodeTo → ⊥
   pub idle-mark2 : Completeness idle OurSearch → ⊥
   pub idle-mark3 : Mark3 idle encodeTo → ⊥
   pub writes-nothing-b1 : Holds ours writesNothing b1 → ⊥
   pub writes-nothing-mark3 : Mark3 ours writesNothing → ⊥
+  pub writes-nothing-bytes : SameBytes ourEncoder writesNothing → ⊥
   pub finished-at-once : SameBytes finishedAtOnce encodeTo → ⊥
+  pub once-b3 : Holds once encodeTo b3
+  pub once-first : once .payloadOf (firstOnce .decoder) (firstOnce .memory) ≡ payload1
   pub once-mark3 : Mark3 once encodeTo → ⊥
+  pub forgiving-hides : Hides forgiving OurSearch → ⊥
+  pub swallows-chunks : Chunks swallows → ⊥
+  pub takes-none-chunks : Chunks takesNone → ⊥
+  pub withholds-chunks : Chunks withholds → ⊥
   pub invents-b6 : Holds invents encodeTo b6 → ⊥
   pub invents-mark3 : Mark3 invents encodeTo → ⊥
   pub silent-events : ReaderGives withoutEvents → ⊥
   pub no-entries-events : ReaderGives noEntries → ⊥
   pub no-entries-lists : ListsEntries noEntries → ⊥
+  pub shrugs-goes-on : GoesOn shrugs readerWith → ⊥
+  pub forgetful-goes-on : GoesOn forgetful readerWith → ⊥

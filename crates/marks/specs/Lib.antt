@@ -1,6 +1,8 @@
 pub mod Decoders
 pub mod Mark2
 pub mod Mark3
+pub mod Hides
+pub mod Chunks
 pub mod Encoders
 pub mod Events
 pub mod Bench

@@ -8,7 +8,7 @@ use lib.Dec.{eqb}
 use Rattle.refusals.specs.Numbers.{decoderOutOfMemoryNo, discardedBytesNo, limit}
 use Rattle.frame.specs.Frame.{Sound}
 use Rattle.decoder.specs.Record.{DecoderAnswer, nothing, payload, refusal, setup, badDecoder, wrongBuffer}
-use Rattle.decoder.specs.Run.{Op, push, finalize, reset}
+use Rattle.decoder.specs.Run.{Op, push, finalize, reset, brought}
 use Rattle.decoder.specs.declared.DecodeState.{DecodeState}
 use Rattle.decoder.specs.declared.DecodeState.the-variants.{LookingForMessageStart, Done}
 use Rattle.decoder.specs.declared.Decoder.{Decoder}
@@ -33,15 +33,16 @@ pub record EndsFrame (since : List ℕ) (o : Op) (P : List ℕ) : Type 0 where
   pub ends : since ++ last ∷ [] ≡ before ++ frame
   pub sound : Sound frame P
 
--- Any operations on a new decoder, and one more that answers with a payload: it pushes the last byte of a sound frame for it, which ends the bytes pushed since the last payload, finalize or reset, or else since the start; and
--- what is handed back from the memory of that same run is that payload
+-- Any operations on a new decoder, and one more, all with one buffer, of whatever length. What is handed back is what the last answer brings: its payload, and behind every other answer, and of the new decoder, the empty part.
+-- And where that answer is a payload, the operation pushes the last byte of a sound frame for it, which ends the bytes pushed since the last payload, finalize or reset, or else since the start
 abbrev pub Soundness : {S : Type 0} → Machine S → Type 0
 Soundness {S} M =
-    (C : Setup) (m : List ℕ) → length m ≡ C .capacity → C .capacity ≤ limit
-    → (os : List Op) (o : Op) (P : List ℕ) → PushesBytes (os ++ o ∷ [])
+    (C : Setup) (m : List ℕ)
+    → (M .payloadOf (M .new C) m ≡ [])
+    × ((os : List Op) (o : Op)
     → let a : Gave S = behindOf M (M .new C) m os o in
-    a .answer ≡ payload P
-    → EndsFrame (bytesSince os (answers M (M .new C) m os)) o P × (M .payloadOf (a .decoder) (a .memory) ≡ P)
+    (M .payloadOf (a .decoder) (a .memory) ≡ brought (a .answer))
+    × ((P : List ℕ) → PushesBytes (os ++ o ∷ []) → a .answer ≡ payload P → EndsFrame (bytesSince os (answers M (M .new C) m os)) o P))
 
 -- ---- completeness
 

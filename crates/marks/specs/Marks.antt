@@ -11,8 +11,10 @@ use Rattle.marks.specs.Decided.{Views, Decided}
 use Rattle.marks.specs.Decoders.{Gave, ours, behindOf}
 use Rattle.marks.specs.Mark2.{Soundness, Completeness, Unmatched, OurSearch}
 use Rattle.marks.specs.Mark3.{ourEncode, Mark3}
+use Rattle.marks.specs.Hides.{Hides}
+use Rattle.marks.specs.Chunks.{ourSlicer, Chunks}
 use Rattle.marks.specs.Encoders.{ourEncoder, SameBytes}
-use Rattle.marks.specs.Events.{ourReader, ourParser, ReaderGives, ListsEntries}
+use Rattle.marks.specs.Events.{ourReader, ourParser, ReaderGives, GoesOn, readerWith, parserWith, ListsEntries}
 use Rattle.marks.specs.Bench.{Bench}
 use Rattle.marks.specs.Fakes.{Fall}
 
@@ -27,13 +29,19 @@ pub record Marks : Type 0 where
   pub reached-searches : (C : Setup) (m : List ℕ) → length m ≡ C .capacity → C .capacity ≤ limit → (os : List Op) (o : Op) (noise : ℕ)
       → let a : Gave Decoder = behindOf ours (ours .new C) m os o in
       Unmatched (a .decoder .state) noise → OurSearch C (a .decoder) (a .memory) noise
+  -- and what a stray 1b does to them
+  pub hides : Hides ours OurSearch
+  -- slices, cut anyhow, say what single pushes say
+  pub chunks : Chunks ourSlicer
   -- encode and the Encoder give the same bytes
   pub same-bytes : SameBytes ourEncoder ourEncode
   -- mark 3: behind zero bytes every frame is heard
   pub mark3 : Mark3 ours ourEncode
-  -- message events: those of the tables, call by call, and of a list as many entries as its start says, or a refusal
+  -- message events: those of the tables, call by call, from any numbers on; and of a list as many entries as its start says, or a refusal
   pub reader-gives : ReaderGives ourReader
   pub parser-gives : ReaderGives ourParser
+  pub reader-goes-on : GoesOn ourReader readerWith
+  pub parser-goes-on : GoesOn ourParser parserWith
   pub reader-lists : ListsEntries ourReader
   pub parser-lists : ListsEntries ourParser
   -- B1 to B14

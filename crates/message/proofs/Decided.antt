@@ -25,11 +25,11 @@ use Rattle.message.specs.Decided.{Views, Decided}
 pub listStartFrom : ListStart Span → GetListResponseStart
 listStartFrom x =
     record {
-      «client_id» = fieldFrom Present Absent (x .clientId);
-      «server_id» = x .serverId;
-      «list_name» = fieldFrom Present Absent (x .name);
-      «act_sensor_time» = fieldFrom (λ n. OptTimeC.Present (timeFrom n)) OptTimeC.Absent (x .time);
-      «num_vals» = x .count;
+      «client_id» = fieldFrom Present Absent (x .«client_id»);
+      «server_id» = x .«server_id»;
+      «list_name» = fieldFrom Present Absent (x .«list_name»);
+      «act_sensor_time» = fieldFrom (λ n. OptTimeC.Present (timeFrom n)) OptTimeC.Absent (x .«act_sensor_time»);
+      «num_vals» = x .«num_vals»;
     }
 
 pub list-start-back : (x : GetListResponseStart) → listStartFrom (listStart x) ≡ x
@@ -46,8 +46,8 @@ list-start-back x =
 pub listEndFrom : ListEnd Span → GetListResponseEnd
 listEndFrom x =
     record {
-      «list_signature» = fieldFrom Present Absent (x .signature);
-      «act_gateway_time» = fieldFrom (λ n. OptTimeC.Present (timeFrom n)) OptTimeC.Absent (x .time);
+      «list_signature» = fieldFrom Present Absent (x .«list_signature»);
+      «act_gateway_time» = fieldFrom (λ n. OptTimeC.Present (timeFrom n)) OptTimeC.Absent (x .«act_gateway_time»);
     }
 
 pub list-end-back : (x : GetListResponseEnd) → listEndFrom (listEnd x) ≡ x
@@ -66,7 +66,7 @@ body-back (BodyC.CloseResponse x) = ap BodyC.CloseResponse (close-back x)
 body-back (BodyC.GetListResponse x) = ap BodyC.GetListResponse (list-start-back x)
 
 pub startFrom : MessageStart Span → Starts.MessageStart
-startFrom x = record { «transaction_id» = x .transactionId; «group_no» = x .groupNo; «abort_on_error» = x .abortOnError; «message_body» = bodyFrom (x .body) }
+startFrom x = record { «transaction_id» = x .«transaction_id»; «group_no» = x .«group_no»; «abort_on_error» = x .«abort_on_error»; «message_body» = bodyFrom (x .«message_body») }
 
 pub start-back : (x : Starts.MessageStart) → startFrom (messageStart x) ≡ x
 unfolding startFrom

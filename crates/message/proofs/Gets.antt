@@ -19,11 +19,11 @@ use Rattle.message.specs.Messages.{ListStart, ListEnd, Body, openBody, c
 -- each field has its own property, and n entries are announced
 pub record ListStartHas (P₁ : List ℕ → Option Span → Type 0) (P₂ : List ℕ → Span → Type 0) (P₃ : List ℕ → Option Span → Type 0) (P₄ : List ℕ → Option ℕ → Type 0) (n : ℕ) (s : List ℕ) (x : ListStart Span)
     : Type 0 where
-  pub clientId : P₁ s (x .clientId)
-  pub serverId : P₂ s (x .serverId)
-  pub name : P₃ s (x .name)
-  pub time : P₄ s (x .time)
-  pub count : x .count ≡ n
+  pub «client_id» : P₁ s (x .«client_id»)
+  pub «server_id» : P₂ s (x .«server_id»)
+  pub «list_name» : P₃ s (x .«list_name»)
+  pub «act_sensor_time» : P₄ s (x .«act_sensor_time»)
+  pub «num_vals» : x .«num_vals» ≡ n
 
 pub list-start-reads : {P₁ : List ℕ → Option Span → Type 0} {P₂ : List ℕ → Span → Type 0} {P₃ : List ℕ → Option Span → Type 0} {P₄ : List ℕ → Option ℕ → Type 0} {n : ℕ} {b₀ b₁ b₂ b₃ b₄ b₅ : List ℕ}
     → Reads (listOfAt 7) (Is tt) b₀
@@ -43,12 +43,12 @@ list-start-reads r₀ r₁ r₂ r₃ r₄ r₅ =
           gets-then _ _ (r₃ .reads _ k₂) (λ a₃ n₃ h₃ k₃.
           gets-then _ _ (r₄ .reads _ k₃) (λ a₄ n₄ h₄ k₄.
           gets-is _ _ (r₅ .reads l k₄) (λ n₅ k₅. gets-guard _ _ _ refl
-          (gets-got (record { clientId = h₁; serverId = h₂; name = h₃; time = h₄; count = refl }) k₅)))))));
+          (gets-got (record { «client_id» = h₁; «server_id» = h₂; «list_name» = h₃; «act_sensor_time» = h₄; «num_vals» = refl }) k₅)))))));
     }
 
 pub record ListEndHas (P₁ : List ℕ → Option Span → Type 0) (P₂ : List ℕ → Option ℕ → Type 0) (s : List ℕ) (x : ListEnd Span) : Type 0 where
-  pub signature : P₁ s (x .signature)
-  pub time : P₂ s (x .time)
+  pub «list_signature» : P₁ s (x .«list_signature»)
+  pub «act_gateway_time» : P₂ s (x .«act_gateway_time»)
 
 pub list-end-reads : {P₁ : List ℕ → Option Span → Type 0} {P₂ : List ℕ → Option ℕ → Type 0} {b₁ b₂ : List ℕ}
     → Reads (optional octetsAt) P₁ b₁
@@ -60,7 +60,7 @@ list-end-reads r₁ r₂ =
       reads = λ l h.
           gets-then _ _ (r₁ .reads _ (simp append-assoc at h)) (λ a₁ n₁ h₁ k₁.
           gets-then _ _ (r₂ .reads l k₁) (λ a₂ n₂ h₂ k₂.
-          gets-got (record { signature = h₁; time = h₂ }) k₂));
+          gets-got (record { «list_signature» = h₁; «act_gateway_time» = h₂ }) k₂));
     }
 
 -- the content that each tag names
@@ -92,10 +92,10 @@ body-reads tag r₀ r₁ r₂ =
     }
 
 pub record StartHas (P₁ : List ℕ → Span → Type 0) (P₂ P₃ : List ℕ → ℕ → Type 0) (P₄ : List ℕ → Body Span → Type 0) (s : List ℕ) (x : MessageStart Span) : Type 0 where
-  pub transactionId : P₁ s (x .transactionId)
-  pub groupNo : P₂ s (x .groupNo)
-  pub abortOnError : P₃ s (x .abortOnError)
-  pub body : P₄ s (x .body)
+  pub «transaction_id» : P₁ s (x .«transaction_id»)
+  pub «group_no» : P₂ s (x .«group_no»)
+  pub «abort_on_error» : P₃ s (x .«abort_on_error»)
+  pub «message_body» : P₄ s (x .«message_body»)
 
 pub start-reads : {P₁ : List ℕ → Span → Type 0} {P₂ P₃ : List ℕ → ℕ → Type 0} {P₄ : List ℕ → Body Span → Type 0} {b₀ b₁ b₂ b₃ b₄ : List ℕ}
     → Reads (listOfAt 6) (Is tt) b₀
@@ -113,5 +113,5 @@ start-reads r₀ r₁ r₂ r₃ r₄ =
           gets-then _ _ (r₂ .reads _ k₁) (λ a₂ n₂ h₂ k₂.
           gets-then _ _ (r₃ .reads _ k₂) (λ a₃ n₃ h₃ k₃.
           gets-then _ _ (r₄ .reads l k₃) (λ a₄ n₄ h₄ k₄.
-          gets-got (record { transactionId = h₁; groupNo = h₂; abortOnError = h₃; body = h₄ }) k₄)))));
+          gets-got (record { «transaction_id» = h₁; «group_no» = h₂; «abort_on_error» = h₃; «message_body» = h₄ }) k₄)))));
     }

@@ -25,31 +25,31 @@ tlf-found : (s : List ℕ) (at : ℕ) → Ok (Found (λ (t : TypeLengthField). t
 tlf-found s at = ok-both (tlf-small s at) (tlf-ok s at)
 
 pub record ListStartWithin (s : List ℕ) (x : ListStart Span) : Type 0 where
-  pub clientId : Has (Within s) (x .clientId)
-  pub serverId : Within s (x .serverId)
-  pub name : Has (Within s) (x .name)
-  pub count : x .count < 2 ^ 32
+  pub «client_id» : Has (Within s) (x .«client_id»)
+  pub «server_id» : Within s (x .«server_id»)
+  pub «list_name» : Has (Within s) (x .«list_name»)
+  pub «num_vals» : x .«num_vals» < 2 ^ 32
 
 pub list-start-found : (s : List ℕ) (at : ℕ) → Ok (Found (ListStartWithin s) s at) (listStartAt s at)
 unfolding listStartAt
 list-start-found s at =
     from s at (any (list-of-ok 7 s at)) (λ list n₀ h₀ p₀ q₀.
-    on s at n₀ (opt-octets s n₀) (omega arith) (λ clientId n₁ h₁ p₁ q₁.
-    on s at n₁ (octets-found s n₁) (omega arith) (λ serverId n₂ h₂ p₂ q₂.
-    on s at n₂ (opt-octets s n₂) (omega arith) (λ name n₃ h₃ p₃ q₃.
-    on s at n₃ (opt-time s n₃) (omega arith) (λ time n₄ h₄ p₄ q₄.
+    on s at n₀ (opt-octets s n₀) (omega arith) (λ «client_id» n₁ h₁ p₁ q₁.
+    on s at n₁ (octets-found s n₁) (omega arith) (λ «server_id» n₂ h₂ p₂ q₂.
+    on s at n₂ (opt-octets s n₂) (omega arith) (λ «list_name» n₃ h₃ p₃ q₃.
+    on s at n₃ (opt-time s n₃) (omega arith) (λ «act_sensor_time» n₄ h₄ p₄ q₄.
     on s at n₄ (tlf-found s n₄) (omega arith) (λ entries n₅ h₅ p₅ q₅. ok-guard _ _ _ (λ e.
-    found s at _ n₅ (record { clientId = h₁; serverId = h₂; name = h₃; count = h₅ }) p₅ q₅)))))))
+    found s at _ n₅ (record { «client_id» = h₁; «server_id» = h₂; «list_name» = h₃; «num_vals» = h₅ }) p₅ q₅)))))))
 
 pub record ListEndWithin (s : List ℕ) (x : ListEnd Span) : Type 0 where
-  pub signature : Has (Within s) (x .signature)
+  pub «list_signature» : Has (Within s) (x .«list_signature»)
 
 pub list-end-found : (s : List ℕ) (at : ℕ) → Ok (Found (ListEndWithin s) s at) (listEndAt s at)
 unfolding listEndAt
 list-end-found s at =
-    from s at (opt-octets s at) (λ signature n₁ h₁ p₁ q₁.
-    on s at n₁ (opt-time s n₁) (omega arith) (λ time n₂ h₂ p₂ q₂.
-    found s at _ n₂ (record { signature = h₁ }) p₂ q₂))
+    from s at (opt-octets s at) (λ «list_signature» n₁ h₁ p₁ q₁.
+    on s at n₁ (opt-time s n₁) (omega arith) (λ «act_gateway_time» n₂ h₂ p₂ q₂.
+    found s at _ n₂ (record { «list_signature» = h₁ }) p₂ q₂))
 
 abbrev pub BodyWithin : List ℕ → Body Span → Type 0
 BodyWithin s (openBody b) = OpenWithin s b
@@ -72,15 +72,15 @@ body-found s at =
     found-on s at n₁ (omega arith) (content-found s n₀ tag n₁)))
 
 pub record StartWithin (s : List ℕ) (x : MessageStart Span) : Type 0 where
-  pub transactionId : Within s (x .transactionId)
-  pub body : BodyWithin s (x .body)
+  pub «transaction_id» : Within s (x .«transaction_id»)
+  pub «message_body» : BodyWithin s (x .«message_body»)
 
 pub start-found : (s : List ℕ) (at : ℕ) → Ok (Found (StartWithin s) s at) (startAt s at)
 unfolding startAt
 start-found s at =
     from s at (any (list-of-ok 6 s at)) (λ list n₀ h₀ p₀ q₀.
-    on s at n₀ (octets-found s n₀) (omega arith) (λ transactionId n₁ h₁ p₁ q₁.
-    on s at n₁ (unsigned-found 1 s n₁) (omega arith) (λ groupNo n₂ h₂ p₂ q₂.
-    on s at n₂ (unsigned-found 1 s n₂) (omega arith) (λ abortOnError n₃ h₃ p₃ q₃.
-    on s at n₃ (body-found s n₃) (omega arith) (λ body n₄ h₄ p₄ q₄.
-    found s at _ n₄ (record { transactionId = h₁; body = h₄ }) p₄ q₄)))))
+    on s at n₀ (octets-found s n₀) (omega arith) (λ «transaction_id» n₁ h₁ p₁ q₁.
+    on s at n₁ (unsigned-found 1 s n₁) (omega arith) (λ «group_no» n₂ h₂ p₂ q₂.
+    on s at n₂ (unsigned-found 1 s n₂) (omega arith) (λ «abort_on_error» n₃ h₃ p₃ q₃.
+    on s at n₃ (body-found s n₃) (omega arith) (λ «message_body» n₄ h₄ p₄ q₄.
+    found s at _ n₄ (record { «transaction_id» = h₁; «message_body» = h₄ }) p₄ q₄)))))

@@ -23,22 +23,22 @@ use Rattle.message.specs.declared.StartRead.the-variants as StartR
 abbrev pub listStart : GetListResponseStart → ListStart Span
 listStart x =
     record {
-      clientId = optSpan (x .«client_id»);
-      serverId = x .«server_id»;
-      name = optSpan (x .«list_name»);
-      time = optTime (x .«act_sensor_time»);
-      count = x .«num_vals»;
+      «client_id» = optSpan (x .«client_id»);
+      «server_id» = x .«server_id»;
+      «list_name» = optSpan (x .«list_name»);
+      «act_sensor_time» = optTime (x .«act_sensor_time»);
+      «num_vals» = x .«num_vals»;
     }
 
 abbrev pub listStartRead : ListStartRead → Read (ListStart Span)
-listStartRead (ListStartR.Is x next) = got (listStart x) next
+listStartRead (ListStartR.Is response next) = got (listStart response) next
 listStartRead (ListStartR.Refused f) = refused (faultOf f)
 
 abbrev pub listEnd : GetListResponseEnd → ListEnd Span
-listEnd x = record { signature = optSpan (x .«list_signature»); time = optTime (x .«act_gateway_time») }
+listEnd x = record { «list_signature» = optSpan (x .«list_signature»); «act_gateway_time» = optTime (x .«act_gateway_time») }
 
 abbrev pub listEndRead : ListEndRead → Read (ListEnd Span)
-listEndRead (ListEndR.Is x next) = got (listEnd x) next
+listEndRead (ListEndR.Is response next) = got (listEnd response) next
 listEndRead (ListEndR.Refused f) = refused (faultOf f)
 
 abbrev pub messageBody : MessageBody → Body Span
@@ -47,18 +47,18 @@ messageBody (BodyC.CloseResponse x) = closeBody (closeResponse x)
 messageBody (BodyC.GetListResponse x) = listBody (listStart x)
 
 abbrev pub bodyRead : BodyRead → Read (Body Span)
-bodyRead (BodyR.Is x next) = got (messageBody x) next
+bodyRead (BodyR.Is body next) = got (messageBody body) next
 bodyRead (BodyR.Refused f) = refused (faultOf f)
 
 abbrev pub messageStart : Starts.MessageStart → MessageStart Span
 messageStart x =
     record {
-      transactionId = x .«transaction_id»;
-      groupNo = x .«group_no»;
-      abortOnError = x .«abort_on_error»;
-      body = messageBody (x .«message_body»);
+      «transaction_id» = x .«transaction_id»;
+      «group_no» = x .«group_no»;
+      «abort_on_error» = x .«abort_on_error»;
+      «message_body» = messageBody (x .«message_body»);
     }
 
 abbrev pub startRead : StartRead → Read (MessageStart Span)
-startRead (StartR.Is x next) = got (messageStart x) next
+startRead (StartR.Is message next) = got (messageStart message) next
 startRead (StartR.Refused f) = refused (faultOf f)

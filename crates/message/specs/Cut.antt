@@ -9,7 +9,7 @@ use Rattle.tlf.specs.declared.TypeLengthField.{TypeLengthField}
 use Rattle.message.specs.Messages.{ListStart}
 
 unfoldable pub listStartRest : Option Span → Span → Option Span → Option ℕ → List ℕ → ℕ → Read (ListStart Span)
-listStartRest clientId serverId name time s n₄ =
+listStartRest «client_id» «server_id» «list_name» «act_sensor_time» s n₄ =
     then (tlfAt s n₄) λ entries n₅.
     guard (isList (entries .ty)) (mismatch n₄)
-    (got (record { clientId = clientId; serverId = serverId; name = name; time = time; count = entries .len }) n₅)
+    (got (record { «client_id» = «client_id»; «server_id» = «server_id»; «list_name» = «list_name»; «act_sensor_time» = «act_sensor_time»; «num_vals» = entries .len }) n₅)

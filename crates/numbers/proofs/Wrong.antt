@@ -3,9 +3,13 @@ use mathlib.Core.Path.{_≡_, ap, _∙_}
 use mathlib.Core.List.{List, [], _∷_}
 use Prim.Native.Nat.{ℕ}
 use native.Mathlib.Omega.{arith}
-use Rattle.refusals.specs.Read.{Read, got, refused}
-use Rattle.numbers.specs.Numbers.{unsignedAt}
-use Rattle.numbers.specs.Answers.{u16Read}
+use Rattle.refusals.specs.Read.{Read, got, refused, then, guard, need, byteAt, spanAt}
+use Rattle.refusals.specs.declared.ParseError.the-variants.{UnexpectedEOF, TlfMismatch}
+use Rattle.refusals.proofs.Codes.{refusalNumber, refusalPlace}
+use Rattle.tlf.specs.Lengths.{tlfAt, lengthFrom, lessOwn}
+use Rattle.numbers.specs.Numbers.{number, bytesAt, rawFrom, rawAt, unsignedAt}
+use Rattle.numbers.specs.Answers.{u8Read, u16Read}
+use Rattle.numbers.specs.declared.U8Read.the-variants as U8R
 use Rattle.numbers.specs.declared.U16Read.the-variants as U16R
 use Rattle.numbers.proofs.Examples.{number-examples}
 
@@ -17,3 +21,24 @@ numberRead (refused f) = 0
 low-byte-first : u16Read (U16R.Is 513 3) ≡ unsignedAt 2 (0x63 ∷ 0x01 ∷ 0x02 ∷ []) 0 → ⊥
 unfolding numberRead
 low-byte-first h = let n : _≡_ {A = ℕ} 513 258 = ap numberRead (h ∙ number-examples .high-first) in omega (arith, n)
+
+-- ---- refusals, and where they stand
+
+-- 63 00 as u8: too wide comes before too short
+eof-before-mismatch : u8Read (U8R.Refused (record { error = UnexpectedEOF; place = 2 })) ≡ unsignedAt 1 (0x63 ∷ 0x00 ∷ []) 0 → ⊥
+unfolding then guard need byteAt spanAt tlfAt lengthFrom lessOwn number bytesAt rawFrom rawAt unsignedAt
+eof-before-mismatch h = let n : _≡_ {A = ℕ} 10 12 = ap refusalNumber h in omega (arith, n)
+
+-- and 12 names the first length byte
+mismatch-named-behind-the-length : u8Read (U8R.Refused (record { error = TlfMismatch; place = 1 })) ≡ unsignedAt 1 (0x63 ∷ 0x00 ∷ 0x05 ∷ []) 0 → ⊥
+unfolding then guard need byteAt spanAt tlfAt lengthFrom lessOwn number bytesAt rawFrom rawAt unsignedAt
+mismatch-named-behind-the-length h = let n : _≡_ {A = ℕ} 1 0 = ap refusalPlace h in omega (arith, n)
+
+-- 10 names the input's length
+eof-named-at-the-element : u16Read (U16R.Refused (record { error = UnexpectedEOF; place = 0 })) ≡ unsignedAt 2 (0x63 ∷ 0x01 ∷ []) 0 → ⊥
+eof-named-at-the-element h = let n : _≡_ {A = ℕ} 0 2 = ap refusalPlace (h ∙ number-examples .cut) in omega (arith, n)
+
+-- 10 as u8: no type comes before no number
+mismatch-before-the-length-rules : u8Read (U8R.Refused (record { error = TlfMismatch; place = 0 })) ≡ unsignedAt 1 (0x10 ∷ []) 0 → ⊥
+unfolding then guard need byteAt spanAt tlfAt lengthFrom lessOwn number bytesAt rawFrom rawAt unsignedAt
+mismatch-before-the-length-rules h = let n : _≡_ {A = ℕ} 12 11 = ap refusalNumber h in omega (arith, n)

@@ -6,3 +6,4 @@ pub mod Gets
 pub mod Examples
 pub mod Ends
 pub mod Decided
+pub mod Wrong

@@ -34,6 +34,10 @@ isWithin s p = leb (p .start) (length s) && leb (p .len) (length s - p .start)
 unfoldable pub partOf : List ℕ → Span → List ℕ
 partOf s p = cond (isWithin s p) (take (p .len) (drop (p .start) s)) []
 
+-- where it stands in the input; the empty part of a bad span stands at the input's start
+unfoldable pub partStart : List ℕ → Span → ℕ
+partStart s p = cond (isWithin s p) (p .start) 0
+
 -- a bad span is 16
 unfoldable pub spanRefusal : List ℕ → Span → Option ℕ
 spanRefusal s p = cond (isWithin s p) none (some badSpanNo)

@@ -2,8 +2,9 @@
 ghost use mathlib.Core.Path.{_≡_};
 ghost use Prim.Native.Nat.{_+_, _≤_, _<_};
 ghost use lib.ListN.{length, getD};
+ghost use Rattle.decided.specs.Part.{handed, partAt};
 ghost use Rattle.refusals.specs.Answers.{spanRead};
-ghost use Rattle.octet_string.specs.Strings.{isOctets, octetsAt, isWithin, partOf, spanRefusal};
+ghost use Rattle.octet_string.specs.Strings.{isOctets, octetsAt, isWithin, partOf, partStart, spanRefusal};
 ghost use Rattle.octet_string.specs.Optional.{absentAt, optional};
 ghost use Rattle.octet_string.specs.Answers.{spanCheck, optSpanRead};
 use refusals::Fault;
@@ -87,9 +88,9 @@ fn is_within(input: &[u8], span: Span) -> bool
     }
 }
 
-// The part of the input that a span is; a bad span has the empty part, and check_span says that it is bad.
+// The part of the input that a span is; a bad span has the empty part at the input's start, and check_span says that it is bad.
 pub fn octet_str<'i>(input: &'i [u8], span: Span) -> &'i [u8]
-    ensures { λ r. ⌜ now r ≡ partOf (now (input .entry)) span ⌝ }
+    ensures { λ r. ⌜ handed r ≡ partAt (handed (input .entry)) (partStart (now (input .entry)) span) (partOf (now (input .entry)) span) ⌝ }
 {
     let start = span.start;
     let len = span.len;

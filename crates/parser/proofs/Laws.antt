@@ -11,10 +11,10 @@ use Rattle.parser.specs.declared.Parser.{Parser}
 
 module _ (p : Parser) where
   abbrev long : ReaderAfter
-  long = record { said = alone inputTooLongNo; place = p .place; start = p .start; pending = p .pending }
+  long = record { answer = alone inputTooLongNo; place = p .place; start = p .start; pending = p .pending }
 
   abbrev bad : ReaderAfter
-  bad = record { said = alone badStateNo; place = p .place; start = p .start; pending = p .pending }
+  bad = record { answer = alone badStateNo; place = p .place; start = p .start; pending = p .pending }
 
   abbrev step : ReaderAfter
   step = stepAt (now (p .input)) (p .place) (p .start) (p .pending)

@@ -18,7 +18,7 @@ pub record Called : Type 0 where
 
 -- the same input, and what a step in it says and leaves
 abbrev pub onwardBy : Parser → ReaderAfter → Called
-onwardBy p a = record { said = a .said; reader = record { input = p .input; place = a .place; start = a .start; pending = a .pending } }
+onwardBy p a = record { said = a .answer; reader = record { input = p .input; place = a .place; start = a .start; pending = a .pending } }
 
 -- the step from the reader's three numbers in the content of its input
 abbrev pub calledNext : Parser → Called

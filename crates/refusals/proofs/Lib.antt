@@ -4,3 +4,4 @@ pub mod Found
 pub mod Undone
 pub mod Decided
 pub mod Places
+pub mod Codes

@@ -47,7 +47,7 @@ said-back AnswerC.BadState = refl
 
 pub event-one : Injective readerAfter
 event-one r r′ h =
-    let a : r .answer ≡ r′ .answer = undone said answerFrom said-back _ _ (ap (λ (x : ReaderAfter). x .said) h) in
+    let a : r .answer ≡ r′ .answer = undone said answerFrom said-back _ _ (ap (λ (x : ReaderAfter). x .answer) h) in
     λ i. record { answer = a i; place = h i .place; start = h i .start; pending = h i .pending }
 
 pub views : Views

@@ -24,4 +24,4 @@ said AnswerC.InputTooLong = alone inputTooLongNo
 said AnswerC.BadState = alone badStateNo
 
 abbrev pub readerAfter : Next → ReaderAfter
-readerAfter r = record { said = said (r .answer); place = r .place; start = r .start; pending = r .pending }
+readerAfter r = record { answer = said (r .answer); place = r .place; start = r .start; pending = r .pending }

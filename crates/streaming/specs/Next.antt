@@ -26,7 +26,7 @@ pub data Said : Type 0 where
 
 -- what a call says, and the reader's three numbers behind it
 pub record ReaderAfter : Type 0 where
-  pub said : Said
+  pub answer : Said
   pub place : ℕ
   pub start : ℕ
   pub pending : ℕ
@@ -34,31 +34,31 @@ pub record ReaderAfter : Type 0 where
 -- a refusal drops the rest of the input, and keeps `start` and `pending`; else it goes on with what was read
 unfoldable pub onward : {A : Type 0} → ℕ → ℕ → ℕ → Read A → (A → ℕ → ReaderAfter) → ReaderAfter
 onward end start pending (got a n) k = k a n
-onward end start pending (refused f) k = record { said = failed f; place = end; start = start; pending = pending }
+onward end start pending (refused f) k = record { answer = failed f; place = end; start = start; pending = pending }
 
 -- what is pending behind a message's start: the trailer, and of a list the entries and the end
 abbrev pub pendingOf : {T : Type 0} → Body T → ℕ
 pendingOf (openBody b) = 1
 pendingOf (closeBody b) = 1
-pendingOf (listBody b) = b .count + 2
+pendingOf (listBody b) = b .«num_vals» + 2
 
 -- between messages: no event where the input is empty, else a message's start; refused there, nothing is pending
 unfoldable pub beginAt : List ℕ → ℕ → ℕ → ReaderAfter
 beginAt s at start =
-    cond (leb (length s) at) (record { said = noEvent; place = at; start = start; pending = 0 })
-    (onward (length s) at 0 (startAt s at) λ m n. record { said = event (startEvent m); place = n; start = at; pending = pendingOf (m .body) })
+    cond (leb (length s) at) (record { answer = noEvent; place = at; start = start; pending = 0 })
+    (onward (length s) at 0 (startAt s at) λ m n. record { answer = event (startEvent m); place = n; start = at; pending = pendingOf (m .«message_body») })
 
 -- the trailer has no event: the next message's start follows in the same call
 unfoldable pub trailerNext : List ℕ → ℕ → ℕ → ReaderAfter
 trailerNext s at start = onward (length s) start 1 (trailerAt s start at) λ done n. beginAt s n start
 
 unfoldable pub endNext : List ℕ → ℕ → ℕ → ReaderAfter
-endNext s at start = onward (length s) start 2 (listEndAt s at) λ e n. record { said = event (endEvent e); place = n; start = start; pending = 1 }
+endNext s at start = onward (length s) start 2 (listEndAt s at) λ e n. record { answer = event (endEvent e); place = n; start = start; pending = 1 }
 
 -- an entry, behind which `left` are pending
 unfoldable pub entryNext : List ℕ → ℕ → ℕ → ℕ → ReaderAfter
 entryNext s at start left =
-    onward (length s) start (suc left) (entryAt s at) λ e n. record { said = event (entryEvent e); place = n; start = start; pending = left }
+    onward (length s) start (suc left) (entryAt s at) λ e n. record { answer = event (entryEvent e); place = n; start = start; pending = left }
 
 -- pending: 0 between messages, 1 at the trailer, 2 at a list's end, more at an entry
 unfoldable pub stepAt : List ℕ → ℕ → ℕ → ℕ → ReaderAfter
@@ -74,6 +74,6 @@ isSound end at start pending = leb at end && (leb start at && leb pending 429496
 -- 9, 4, then the step; both leave the reader unchanged
 unfoldable pub nextAt : List ℕ → ℕ → ℕ → ℕ → ReaderAfter
 nextAt s at start pending =
-    cond (ltb limit (length s)) (record { said = alone inputTooLongNo; place = at; start = start; pending = pending })
+    cond (ltb limit (length s)) (record { answer = alone inputTooLongNo; place = at; start = start; pending = pending })
     (cond (isSound (length s) at start pending) (stepAt s at start pending)
-    (record { said = alone badStateNo; place = at; start = start; pending = pending }))
+    (record { answer = alone badStateNo; place = at; start = start; pending = pending }))

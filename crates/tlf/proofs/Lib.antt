@@ -3,3 +3,4 @@ pub mod Short
 pub mod Gets
 pub mod Ends
 pub mod Decided
+pub mod Wrong

@@ -3,3 +3,4 @@ pub mod Ranges
 pub mod Narrow
 pub mod Gets
 pub mod Decided
+pub mod Wrong

@@ -3,7 +3,9 @@ use mathlib.Core.Path.{ap, sym, _∙_}
 use native.Mathlib.Nat.{add-sub-cancel-left}
 use lib.ListN.{length, take, drop}
 use denote.Ref.{now}
-use Rattle.octet_string.specs.Strings.{partOf}
+use Rattle.decided.specs.Part.{handed}
+use Rattle.decided.proofs.Parts.{handed-is}
+use Rattle.octet_string.specs.Strings.{partOf, partStart}
 use Rattle.octet_string.proofs.Strings.{within-end}
 use borrow.Author.Needs.{needs}
 use Rattle.octet_string.proofs.octet_str.Statement.{statement}
@@ -39,15 +41,23 @@ part-result-end-2 : tie.Need-part-result-end-2
 part-result-end-2 c = search needs
 
 returns : tie.Need-returns
-unfolding partOf
+unfolding partOf partStart
 returns c =
     let a = c .before .before .before .before .args in
-    rw (← c .before .before .is-within .ensures, c .before .if1 .taken)
-    (ap (λ (k : ℕ). take k (drop (a .span .start) (now (a .input)))) (add-sub-cancel-left (a .span .start) (a .span .len)))
+    handed-is _ (handed (a .input)) (partStart (now (a .input)) (a .span)) (partOf (now (a .input)) (a .span))
+    (search needs)
+    (rw (← c .before .before .is-within .ensures, c .before .if1 .taken) (search needs))
+    (rw (← c .before .before .is-within .ensures, c .before .if1 .taken)
+    (ap (λ (k : ℕ). take k (drop (a .span .start) (now (a .input)))) (add-sub-cancel-left (a .span .start) (a .span .len))))
 
 returns-2 : tie.Need-returns-2
-unfolding partOf
-returns-2 c = rw (← c .before .before .is-within .ensures, c .before .if1 .left)
+unfolding partOf partStart
+returns-2 c =
+    let a = c .before .before .before .before .args in
+    handed-is _ (handed (a .input)) (partStart (now (a .input)) (a .span)) (partOf (now (a .input)) (a .span))
+    (search needs)
+    (rw (← c .before .before .is-within .ensures, c .before .if1 .left) (search needs))
+    (rw (← c .before .before .is-within .ensures, c .before .if1 .left))
 
 pub octet-str-spec : {M : Type 1} → statement M
 octet-str-spec =

@@ -85,7 +85,7 @@ Callee 𝓤 H A at-mem run = tripleOf 𝓤 H A callee.signature (callee.spec �
 
 -- a call's numbers, without the input that the reader holds
 abbrev numbers : Called → ReaderAfter
-numbers c = record { said = c .said; place = c .reader .place; start = c .reader .start; pending = c .reader .pending }
+numbers c = record { answer = c .said; place = c .reader .place; start = c .reader .start; pending = c .reader .pending }
 
 module _ {M : Type 1} (𝓤 : URA M) (H : Heap 𝓤) (A : Atoms 𝓤) (W : Given 𝓤 H A) (at-mem : Memory → SProp 𝓤) (run : Routine → Fun 𝓤) (κ : Lft) (q : Share) (s : RefT (List ℕ)) (a m p : ℕ) (a-fits : a < 2 ^ 64) (m-fits : m < 2 ^ 64) (p-fits : p < 2 ^ 64) where
   abbrev x : RefT (List ℕ) × (ℕ × (ℕ × (ℕ × Unit {0})))

@@ -1,11 +1,9 @@
-use mathlib.Core.Path.{_≡_}
-use lib.ListN.{length}
 use borrow.Author.Needs.{needs}
 use Rattle.smlcat.proofs.run.Statement.{statement}
 use Rattle.smlcat.proofs.run.Tie as tie
 
 abbrev Inv-loop : tie.InvT-loop
-Inv-loop buf₀ at₀ turns₀ buf at turns = length buf ≡ length buf₀
+Inv-loop buf₀ at₀ turns₀ buf at turns = Unit {0}
 
 abbrev μ-loop : tie.MeasureT-loop
 μ-loop buf₀ at₀ turns₀ buf at turns = turns
@@ -15,9 +13,6 @@ loop-holds c = search needs
 
 turn-requires : tie.Need-turn-requires Inv-loop μ-loop
 turn-requires c κs = search needs
-
-same-length : tie.Need-same-length Inv-loop μ-loop
-same-length c = search needs
 
 returns : tie.Need-returns Inv-loop μ-loop
 returns c = search needs
@@ -31,9 +26,6 @@ loop-less c = search needs
 loop-again : tie.Need-loop-again Inv-loop μ-loop
 loop-again c = search needs
 
-same-length-2 : tie.Need-same-length-2 Inv-loop μ-loop
-same-length-2 c = search needs
-
 returns-2 : tie.Need-returns-2 Inv-loop μ-loop
 returns-2 c = search needs
 
@@ -45,10 +37,8 @@ run-spec =
     μ-loop
     loop-holds
     turn-requires
-    same-length
     returns
     sub-turns
     loop-less
     loop-again
-    same-length-2
     returns-2)

@@ -2,6 +2,9 @@ use mathlib.Core.Path.{sym, _∙_}
 use denote.Ref.{now}
 use lib.ListN.{length}
 use lib.Seq.{length-take-le}
+use Rattle.decided.specs.Part.{handed}
+use Rattle.decided.proofs.Parts.{handed-is}
+use Rattle.decoder.specs.Record.{payloadRecord}
 use Rattle.decoder.proofs.Checks.{payload-room, payload-is, payload-no}
 use borrow.Author.Needs.{needs}
 use Rattle.decoder.proofs.Decoder.payload.Statement.{statement}
@@ -16,13 +19,17 @@ slice-aggregate-result c =
     sym (length-take-le (a .self .fill) (now (a .buf)) (payload-room (a .self) (length (now (a .buf))) (sym (c .before .before .payload-in .ensures) ∙ c .before .if1 .taken)))
 
 returns : tie.Need-returns
-returns c = payload-is (c .before .before .before .before .args .self) (now (c .before .before .before .before .args .buf)) (sym (c .before .before .payload-in .ensures) ∙ c .before .if1 .taken)
+returns c =
+    let a = c .before .before .before .before .args in
+    handed-is _ (handed (a .buf)) 0 (payloadRecord (a .self) (now (a .buf))) (search needs) (search needs) (payload-is (a .self) (now (a .buf)) (sym (c .before .before .payload-in .ensures) ∙ c .before .if1 .taken))
 
 slice-aggregate-result-2 : tie.Need-slice-aggregate-result-2
 slice-aggregate-result-2 c = search needs
 
 returns-2 : tie.Need-returns-2
-returns-2 c = payload-no (c .before .before .before .before .args .self) (now (c .before .before .before .before .args .buf)) (sym (c .before .before .payload-in .ensures) ∙ c .before .if1 .left)
+returns-2 c =
+    let a = c .before .before .before .before .args in
+    handed-is _ (handed (a .buf)) 0 (payloadRecord (a .self) (now (a .buf))) (search needs) (search needs) (payload-no (a .self) (now (a .buf)) (sym (c .before .before .payload-in .ensures) ∙ c .before .if1 .left))
 
 pub payload-spec : {M : Type 1} → statement M
 payload-spec =

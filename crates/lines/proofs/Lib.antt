@@ -1,0 +1,5 @@
+pub mod Laws
+pub mod Whole
+pub mod Examples
+pub mod Decided
+pub mod Wrong

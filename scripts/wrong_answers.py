@@ -1,0 +1,169 @@
+"""The wrong readings of docs/WRONG-READINGS.md: what is told of each, and both answers to the command that tells it from ours. Ours are those of the proved programs; the wrong one is that of
+the edited code, built and run without proof by `rt try`, on the interpreter and compiled three ways. bin/wrong and tests/test_answers.py share this."""
+import ast, glob, os, re, shutil, subprocess, tempfile
+import programs
+
+ROOT = programs.ROOT
+# the one form of the line
+LINE = re.compile(r"^Answers: `([^`]+)` gives `([^`]+)`; the wrong one `([^`]+)`\.$")
+# Which program answers a command, by its first word. A command that begins with no such word is told in words, and nothing runs it.
+PROGRAMS = {word: name for name, words in programs.COMMANDS.items() for word in words}
+PROGRAMS.update({"smlcat": "smlcat", "limits": "limits", "chunks": "probe", "memory": "probe", "long_sum": "probe"})
+PROBE = "probe: decoder decoder_slice in_place bench io libc"
+# A program that runs two ways side by side would only say that they differ. In the copy the decoder by value, which is the edited way, answers alone.
+ALONE = ("replay_wire/src/pushes.rt", "if !tried.agree {", "if false {")
+
+
+def told(name):
+    """the lines of docs/WRONG-READINGS.md: belief, bytes, answers, prover"""
+    text = open(os.path.join(ROOT, "docs/WRONG-READINGS.md"), encoding="utf-8").read()
+    m = re.search(r"^### %s\n(.*?)(?=^#|\Z)" % re.escape(name), text, re.M | re.S)
+    return [l[2:] for l in m.group(1).split("\n") if l.startswith("- ")] if m else []
+
+
+def answers(name):
+    """the command, our answer and the wrong one, as they are told, or None"""
+    found = [m.groups() for m in map(LINE.match, told(name)) if m]
+    return found[0] if len(found) == 1 else None
+
+
+def edits():
+    """the edits, by name: the crate, and the file"""
+    found = {}
+    for path in sorted(glob.glob(os.path.join(ROOT, "crates/*/must-fail/*.edit"))):
+        found[os.path.basename(path)[:-5]] = (path.split(os.sep)[-3], path)
+    return found
+
+
+def changes(edit):
+    """what an edit changes: file, old text, new text"""
+    target = old = None
+    for line in open(edit, encoding="utf-8").read().split("\n"):
+        if line.startswith("file: "):
+            target = line[6:]
+        elif line.startswith("old: "):
+            old = line[5:]
+        elif line.startswith("new:"):
+            yield target, old, line[4:].removeprefix(" ")
+
+
+def replace(path, old, new):
+    text = open(path, encoding="utf-8").read()
+    if text.count(old) != 1:
+        raise ValueError("the edit no longer fits " + path)
+    open(path, "w", encoding="utf-8").write(text.replace(old, new))
+
+
+def program_of(command):
+    return PROGRAMS.get(command.split(" ")[0])
+
+
+def can_run(name):
+    """Is it an edit of code, and not of a definition or a promise alone, whose command a program knows?"""
+    changed = changes(edits()[name][1]) if name in edits() else []
+    return any(target.startswith("src/") and "≡" not in old for target, old, _ in changed) and program_of(answers(name)[0]) is not None
+
+
+def input_of(command):
+    """what the program that answers reads"""
+    word, _, rest = command.partition(" ")
+    return bytes.fromhex(rest) if word == "smlcat" else b"" if word == "limits" else command.encode() + b"\n"
+
+
+def answer_in(command, wrote):
+    """the answer in what the program wrote: its lines, or of `limits` what stands behind the words of the command"""
+    word, _, rest = command.partition(" ")
+    lines = [l.strip() for l in wrote.split("\n")[:-1]]
+    if word == "limits":
+        lines = [l[len(rest) + 1 :].strip() for l in lines if l.startswith(rest + ":")]
+    return "; ".join(l for l in lines if l) or "nothing"
+
+
+def ours(commands):
+    """Our answers, by command: those of the proved programs. A program that isn't built, and the probe, is run as the code stands."""
+    found = {}
+    for name in dict.fromkeys(map(program_of, commands)):
+        asked = [c for c in commands if program_of(c) == name]
+        for part in [[c] for c in asked] if name == "smlcat" else [asked]:
+            given = b"".join(map(input_of, part))
+            if os.path.exists(os.path.join(ROOT, "target/bin", name)):
+                wrote = subprocess.run(programs.program(name), input=given, capture_output=True).stdout.decode()
+            else:
+                with tempfile.TemporaryDirectory() as tmp:
+                    copied(tmp)
+                    wrote = tried(tmp, name, given, limits() if name == "limits" else "")
+            # these two write more than a line
+            lines = [wrote] * len(part) if name in ("smlcat", "limits") else [line + "\n" for line in wrote.split("\n")]
+            found.update((c, answer_in(c, line)) for c, line in zip(part, lines))
+    return found
+
+
+def copied(copy):
+    """a repository that has the code alone, and the probe as a crate of it"""
+    for path in glob.glob(os.path.join(ROOT, "crates/*/src")):
+        shutil.copytree(path, os.path.join(copy, os.path.relpath(path, ROOT)))
+    crates = open(os.path.join(ROOT, "crates.txt"), encoding="utf-8").read()
+    open(os.path.join(copy, "crates.txt"), "w", encoding="utf-8").write(crates + PROBE + "\n")
+    src = os.path.join(copy, "crates/probe/src")
+    os.makedirs(src)
+    shutil.copy(os.path.join(ROOT, "scripts/probe.rattle"), os.path.join(src, "main.rt"))
+    shutil.copy(os.path.join(ROOT, "crates/replay_wire/src/line.rt"), src)
+
+
+def tried(copy, name, given, want):
+    """What a program of the copy writes, or a line that says why it stops. `rt try` shows 200 bytes of what differs from what was wanted; where there is more, what is known by then is wanted next."""
+    folder = os.path.join(copy, "crates", name)
+    open(os.path.join(folder, "stdin"), "wb").write(given)
+    open(os.path.join(folder, "stdout"), "w", encoding="utf-8").write(want)
+    said = subprocess.run(["rt", "try", name], cwd=copy, capture_output=True, text=True)
+    runs = re.findall(r"^((?:ok|FAIL): the (?:interpreter|native program) .*\n(?:(?!ok: |FAIL: ).*\n)*)", said.stdout, re.M)
+    if len(runs) != 4:
+        raise ValueError((said.stdout + said.stderr)[-2000:].replace(copy + os.sep, ""))
+    stop = re.search(r"undefined behavior \(.*?\): (.*)", runs[0])
+    if stop:
+        return f"stops: {stop[1].replace('`', '')}\n"
+    # the interpreter has ten million steps; what takes more is seen by the compiled code alone
+    wrote = {(want, False) if run.startswith("ok") else differing(run, want) for run in runs if " failed, " not in run}
+    if not wrote:
+        return "never ends\n"
+    if len(wrote) > 1:
+        # code that reads what isn't its own finds something else there each time
+        return "no answer: its four runs differ\n"
+    found, cut = wrote.pop()
+    # of limits one line is asked for, and the first that differs is the one
+    return tried(copy, name, given, found) if cut and name != "limits" else found
+
+
+def differing(run, want):
+    """what a run wrote, and whether more follows"""
+    at, found, cut = re.search(r"at byte (\d+), expected .*, found (\"(?:[^\"\\]|\\.)*\")( \(200 of )?", run).groups()
+    return want.encode()[: int(at)].decode() + ast.literal_eval(found), cut is not None
+
+
+def limits():
+    return open(os.path.join(ROOT, "crates/limits/stdout"), encoding="utf-8").read()
+
+
+def edited(crate, changed, command, guess):
+    """the answer of the code with these changes of a crate"""
+    name = program_of(command)
+    want = "" if guess == "nothing" else guess + "\n"
+    if name == "smlcat":
+        want = want.replace("; ", "\n")
+    if name == "limits":
+        want = limits()
+    with tempfile.TemporaryDirectory() as tmp:
+        copied(tmp)
+        for target, old, new in changed:
+            if target.startswith("src/"):
+                replace(os.path.join(tmp, "crates", crate, target), old, new)
+        target, old, new = ALONE
+        replace(os.path.join(tmp, "crates", target), old, new)
+        wrote = tried(tmp, name, input_of(command), want)
+    return wrote.strip() if re.match("stops: |never ends|no answer: ", wrote) else answer_in(command, wrote)
+
+
+def wrong(name):
+    """the answer of the edited code"""
+    (crate, edit), (command, _, guess) = edits()[name], answers(name)
+    return edited(crate, changes(edit), command, guess)
