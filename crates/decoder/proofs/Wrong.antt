@@ -41,6 +41,11 @@ search-taken-as-payload : answerAsked Good ≡ askRecord (newRecord (sized 8)) (
 unfolding askRecord hasPayload badDecoder wrongBuffer numberOf
 search-taken-as-payload h = let n : _≡_ {A = ℕ} 0 16 = ap numberOf h in omega (arith, n)
 
+-- the payload 12 stands in a buffer of eight: one of nine has none
+other-buffer-has-payload : answerAsked Good ≡ askRecord (recordOf (sized 8) (done (0x12 ∷ []))) (0x12 ∷ replicate 8 0) → ⊥
+unfolding askRecord hasPayload badDecoder wrongBuffer numberOf
+other-buffer-has-payload h = let n : _≡_ {A = ℕ} 0 16 = ap numberOf h in omega (arith, n)
+
 -- 02 00 00 stand behind an escape, and 05 follows: whatever is answered, it is stored
 abbrev escaping : Decoder
 escaping = recordOf (sized 8) (escape 3 (record { stored = 0x02 ∷ 0x00 ∷ 0x00 ∷ []; reg = 0; idx = 0; raw = 15 }))
@@ -63,6 +68,11 @@ finalize-wrong-count k d other h = other (ap (λ (l : Left). firstValue (l .answ
 noise-without-matched : (e : Event) (m : List ℕ) → afterPush (record { decoder = recordOf (sized 8) (search 0 1 2); event = e }) m ≡ pushRecord (recordOf (sized 8) (search 1 0 1)) (replicate 8 0) 0x00 → ⊥
 unfolding pushRecord pushed badDecoder wrongBuffer step searching noiseOf
 noise-without-matched e m h = let n : _≡_ {A = ℕ} 1 2 = ap (λ (a : After). noiseOf (a .decoder .state)) h in omega (arith, n)
+
+-- at the eighth start byte the raw length is 8
+raw-not-restarted : (d : Decoder) (e : Event) (m : List ℕ) → d .«raw_msg_len» ≡ 0 → afterPush (record { decoder = d; event = e }) m ≡ pushRecord (recordOf (sized 8) (search 7 0 7)) (replicate 8 0) 0x01 → ⊥
+unfolding pushRecord pushed badDecoder wrongBuffer step searching
+raw-not-restarted d e m is h = let n : _≡_ {A = ℕ} (d .«raw_msg_len») 8 = ap (λ (a : After). a .decoder .«raw_msg_len») h in omega (arith, n, is)
 
 -- ---- BadState, clause by clause: capacity 8; fill, raw length, CRC register, CRC index, state
 

@@ -3,3 +3,4 @@ pub mod Skips
 pub mod Taken
 pub mod Examples
 pub mod Decided
+pub mod Wrong

@@ -7,11 +7,12 @@ use lib.ListN.{length}
 use lib.IntN.{pos, negsuc}
 use lib.Dec.{leb}
 use borrow.Author.Tests.{le-leb, lt-leb, le-ltb}
+use Rattle.crc_x25.specs.Crc.{start, reflect, polynomial, bitStep, bitSteps, byteStep, register}
 use Rattle.frame.specs.Frame.{frameOf}
 use Rattle.frame.proofs.Cases.{by-test}
 use Rattle.refusals.specs.Numbers.{limit}
 use Rattle.encoder.specs.Encode.{EncodeAnswer, length-is, noFrame, encodeAnswer, AfterEncode, afterEncode, encodeTo}
-use Rattle.encoder.specs.Encoder.{NextAnswer, byte, finished, noByte, Step, stepOf, encoderAt, freshEncoder, stepFrom, badEncoder, nextStep}
+use Rattle.encoder.specs.Encoder.{NextAnswer, byte, finished, noByte, Step, stepOf, encoderAt, freshEncoder, ended, stepFrom, badEncoder, nextStep}
 use Rattle.encoder.specs.declared.Encoded.the-variants.{Frame, PayloadTooLong, OutOfMemory}
 use Rattle.encoder.specs.declared.Encoder.{Encoder}
 use Rattle.encoder.specs.declared.EncoderState.{EncoderState}
@@ -30,6 +31,12 @@ refusedNext : NextAnswer → ℕ
 refusedNext (byte b) = 0
 refusedNext finished = 0
 refusedNext (noByte k) = k
+
+-- 1 for finished
+isOver : NextAnswer → ℕ
+isOver (byte b) = 0
+isOver finished = 1
+isOver (noByte k) = 0
 
 -- how much of the start an Encoder has given
 startsAt : EncoderState → ℕ
@@ -122,3 +129,13 @@ unfolding nextStep badEncoder stepFrom refusedNext
 encoder-at-the-limit-refused e P is h =
     let n : _≡_ {A = ℕ} 1 0 = rw (le-leb (length P) limit (omega (arith, is)), le-ltb (length P) 0 (omega arith)) at (ap (λ (s : Step). refusedNext (s .answer)) h) in
     omega (arith, n)
+
+-- its register stands behind the start's eight bytes, not behind four of them
+encoder-crc-without-start : (e : Encoder) → e .crc ≡ register start (0x01 ∷ 0x01 ∷ 0x01 ∷ 0x01 ∷ []) → e ≡ freshEncoder → ⊥
+unfolding freshEncoder reflect polynomial bitStep bitSteps byteStep register
+encoder-crc-without-start e is h = let n = sym is ∙ ap (λ (x : Encoder). x .crc) h in omega (arith, n)
+
+-- End 7 has a byte to give, the CRC's second
+finished-too-early : (e : Encoder) → stepOf (record { answer = Finished; encoder = e }) ≡ nextStep (encoderAt (End (pos 7)) 0 0) [] → ⊥
+unfolding nextStep badEncoder stepFrom ended isOver
+finished-too-early e h = let n : _≡_ {A = ℕ} 1 0 = ap (λ (s : Step). isOver (s .answer)) h in omega (arith, n)

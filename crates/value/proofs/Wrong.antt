@@ -11,14 +11,18 @@ use Rattle.refusals.proofs.Codes.{refusalNumber, refusalPlace}
 use Rattle.tlf.specs.Lengths.{tlfAt, lengthFrom, lessOwn, listOfAt}
 use Rattle.numbers.specs.Numbers.{number, bytesAt, rawFrom, rawAt, unsignedAt, signedOf, signedAt}
 use Rattle.octet_string.specs.Optional.{absentAt, optional}
-use Rattle.value.specs.Values.{timeAt, listTypeAt, valueOf, valueAt}
-use Rattle.value.specs.Answers.{timeRead, valueRead, optU8Read, optI8Read}
+use Rattle.value.specs.Values.{timeAt, statusOf, statusAt, listTypeAt, valueOf, valueAt}
+use Rattle.value.specs.Answers.{timeRead, valueRead, optU8Read, optI8Read, optTimeRead, optStatusRead}
 use Rattle.value.specs.declared.TimeRead.the-variants as TimeR
 use Rattle.value.specs.declared.ValueRead.the-variants as ValueR
 use Rattle.value.specs.declared.OptU8.the-variants as OptU8C
 use Rattle.value.specs.declared.OptU8Read.the-variants as OptU8R
 use Rattle.value.specs.declared.OptI8.the-variants as OptI8C
 use Rattle.value.specs.declared.OptI8Read.the-variants as OptI8R
+use Rattle.value.specs.declared.OptTime.the-variants as OptTimeC
+use Rattle.value.specs.declared.OptTimeRead.the-variants as OptTimeR
+use Rattle.value.specs.declared.OptStatus.the-variants as OptStatusC
+use Rattle.value.specs.declared.OptStatusRead.the-variants as OptStatusR
 
 -- is an optional field there?
 presence : {A : Type 0} → Read (Option A) → ℕ
@@ -54,3 +58,12 @@ absent-i8-is-zero h = let n : _≡_ {A = ℕ} 1 0 = ap presence h in omega (arit
 unsigned-taken-as-i8 : optI8Read (OptI8R.Is (OptI8C.Present (pos 5)) 2) ≡ optional (signedAt 1) (0x62 ∷ 0x05 ∷ []) 0 → ⊥
 unfolding optional absentAt presence then guard need byteAt spanAt tlfAt lengthFrom lessOwn number bytesAt rawFrom rawAt unsignedAt signedOf signedAt
 unsigned-taken-as-i8 h = let n : _≡_ {A = ℕ} 1 2 = ap presence h in omega (arith, n)
+
+-- a bare time of 7, and a status of 5, are there
+optional-time-skipped : optTimeRead (OptTimeR.Is OptTimeC.Absent 5) ≡ optional timeAt (0x65 ∷ 0x00 ∷ 0x00 ∷ 0x00 ∷ 0x07 ∷ []) 0 → ⊥
+unfolding optional absentAt presence then guard need byteAt spanAt tlfAt lengthFrom lessOwn number bytesAt rawFrom rawAt unsignedAt timeAt
+optional-time-skipped h = let n : _≡_ {A = ℕ} 0 1 = ap presence h in omega (arith, n)
+
+optional-status-skipped : optStatusRead (OptStatusR.Is OptStatusC.Absent 2) ≡ optional statusAt (0x62 ∷ 0x05 ∷ []) 0 → ⊥
+unfolding optional absentAt presence then guard need byteAt spanAt tlfAt lengthFrom lessOwn number bytesAt rawFrom rawAt unsignedAt statusOf statusAt
+optional-status-skipped h = let n : _≡_ {A = ℕ} 0 1 = ap presence h in omega (arith, n)
