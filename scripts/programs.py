@@ -1,13 +1,28 @@
 """What the commands of bin/ share: a program is proved and built where that hasn't been done, and run as `rt` runs it. Its input is standard input, or a file."""
-import os, platform, shutil, subprocess, sys
+import fcntl, os, platform, shutil, subprocess, sys, time
 
 ROOT = os.path.dirname(os.path.dirname(os.path.abspath(__file__)))
 # which program behind bin/replay answers a command, by its first word
 COMMANDS = {"replay_wire": ["encode", "encode_cap", "stream", "crc", "push"], "replay_messages": ["leaf", "places", "events"]}
 
 
+def turn():
+    """The lock of this directory, held until it is closed: two checks at once disturb each other, and the commands of a pipe begin at once."""
+    lock, began, told = os.open(ROOT, os.O_RDONLY), time.monotonic(), False
+    while True:
+        try:
+            fcntl.flock(lock, fcntl.LOCK_EX | fcntl.LOCK_NB)
+            return lock
+        except BlockingIOError:
+            if not told and time.monotonic() - began > 5:
+                told = True
+                print("waiting for another command of bin/, which proves", file=sys.stderr, flush=True)
+            time.sleep(0.05)
+
+
 def build(names, seconds):
     """Proves and builds what isn't. Where nothing is left to do that takes less than a second, and nothing is said."""
+    lock = turn()
     left = [name for name in names if not os.path.exists(os.path.join(ROOT, "target/bin", name))]
     try:
         check = subprocess.Popen(["rt", "check", *names], cwd=ROOT, stdin=subprocess.DEVNULL, stdout=subprocess.PIPE, stderr=subprocess.STDOUT)
@@ -24,6 +39,7 @@ def build(names, seconds):
     for name in left:
         if not os.path.exists(os.path.join(ROOT, "target/bin", name)):
             refuse(f"target/bin/{name} is gone, though it is proved: remove target/ and start again")
+    os.close(lock)
 
 
 def program(name):

@@ -1,6 +1,6 @@
 -- Where messageAt refuses, a call refuses alike, and no call before it: of a reader at the message's first byte.
 use mathlib.Core.Path.{_≡_, refl, ap, _∙_, subst}
-use mathlib.Core.Bool.{Bool, true, false}
+use mathlib.Core.Bool.{false}
 use mathlib.Core.List.{List, [], _∷_}
 use mathlib.Core.Option.{some}
 use Prim.Native.Nat.{ℕ, zero, suc, _<_}
@@ -11,16 +11,10 @@ use Rattle.refusals.specs.declared.Span.{Span}
 use Rattle.streaming.specs.Next.{Said, event, noEvent, failed, alone}
 use Rattle.events.specs.Message.{Message, messageAt}
 use Rattle.events.specs.Events.{Answers, nth, answer, messagesFrom}
-use Rattle.events.specs.Telling.{messageEvents, firstRefusal, Tells}
+use Rattle.events.specs.Telling.{messageEvents, isRefused, firstRefusal, Tells}
 use Rattle.events.specs.Calls.{call}
 use Rattle.events.proofs.Calls.{SoundReader, messages-give}
 use Rattle.events.proofs.Whole.{message-tells}
-
-abbrev pub isRefused : Said → Bool
-isRefused (event e) = false
-isRefused noEvent = false
-isRefused (failed f) = true
-isRefused (alone n) = true
 
 -- call k is refused with f, and no call before it is refused
 pub record RefusesFirst (says : ℕ → Said) (f : Refusal) : Type 0 where

@@ -1,6 +1,7 @@
 -- claim: how the answers of the calls tell what a whole message says.
 use Prim.Native.Nat.{ℕ}
 use mathlib.Core.Path.{_≡_}
+use mathlib.Core.Bool.{Bool, true, false}
 use mathlib.Core.List.{List, [], _∷_}
 use mathlib.Core.Option.{Option, some, none}
 use Rattle.refusals.specs.Read.{Read, got, refused, Refusal}
@@ -28,6 +29,12 @@ endEvents none = []
 -- the events of a message: its start, its entries, its end
 unfoldable pub messageEvents : Message Span → List (MessageEvent Span)
 messageEvents m = startEvent (m .start) ∷ entryEvents (m .content .entries) (endEvents (m .content .end))
+
+abbrev pub isRefused : Said → Bool
+isRefused (event e) = false
+isRefused noEvent = false
+isRefused (failed f) = true
+isRefused (alone n) = true
 
 -- the first answer that is a refusal, if it stands at a place
 unfoldable pub firstRefusal : List Said → Option Refusal

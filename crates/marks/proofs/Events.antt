@@ -8,7 +8,7 @@ use lib.Dec.{ltb, leb}
 use denote.Ref.{RefT, now}
 use Rattle.frame.proofs.Cases.{by-test}
 use Rattle.refusals.specs.Numbers.{inputTooLongNo, limit}
-use Rattle.refusals.specs.Read.{Read, got, refused, eof}
+use Rattle.refusals.specs.Read.{Read, got, refused, Refusal, eof}
 use Rattle.refusals.specs.declared.Span.{Span}
 use Rattle.common.specs.Fields.{entryAt}
 use Rattle.message.specs.Messages.{MessageStart, ListStart, Body, openBody, closeBody, listBody, startAt, listEndAt}
@@ -18,8 +18,10 @@ use Rattle.events.specs.Events.{Answers, nth, answer, saysFirst, atStart, insid
 use Rattle.events.specs.Calls.{call}
 use Rattle.events.proofs.Calls.{calls-from, calls-are-events}
 use Rattle.events.proofs.Lists.{Listing, stops, listsOne, atEnd, list-content}
+use Rattle.places.specs.Calls.{Why, theFirst, repeated}
+use Rattle.places.proofs.Calls.{call-broke, events-why, ten-again}
 use Rattle.marks.specs.Events as E
-use Rattle.marks.specs.Events.{Reader, ourReader, ourParser, saysAt, ReaderGives, GoesOn, readerWith, parserWith, Follows, refuses, closes, ListsEntries}
+use Rattle.marks.specs.Events.{Reader, ourReader, ourParser, saysAt, hears, ReaderGives, GoesOn, readerWith, parserWith, Follows, refuses, closes, ListsEntries, SaysWhere, CallSaysWhere, TenAgain}
 
 -- ---- our two readers are the calls of crate events
 
@@ -166,3 +168,36 @@ reader-lists = lists-entries ourReader reader-gives
 
 pub parser-lists : ListsEntries ourParser
 parser-lists = lists-entries ourParser parser-gives
+
+-- ---- where it broke
+
+why-as : {s : List ℕ} (says said : ℕ → Said) (k : ℕ) (f : Refusal) → ((j : ℕ) → says j ≡ said j) → Why s said k f → Why s says k f
+why-as says said k f e (theFirst y h b z a v) = theFirst (e k ∙ y) (λ j g i x. h j g i (sym (e j) ∙ x)) b z a (λ j i. e j ∙ v j i)
+why-as says said k f e (repeated y j g i x q) = repeated (e k ∙ y) j g i (e j ∙ x) q
+
+-- a reader that gives the events of the tables says where it broke
+gives-where : {I S : Type 0} (R : Reader I S) → ReaderGives R → SaysWhere R
+gives-where R h i k f e = why-as (hears R i) (answer (eventsOf (R .bytes i))) k f (h i) (events-why (R .bytes i) k f (sym (h i k) ∙ e))
+
+pub reader-says-where : SaysWhere ourReader
+reader-says-where = gives-where ourReader reader-gives
+
+pub parser-says-where : SaysWhere ourParser
+parser-says-where = gives-where ourParser parser-gives
+
+pub reader-call-says-where : CallSaysWhere ourReader readerWith
+unfolding call
+reader-call-says-where s n f e = call-broke s (n .place) (n .start) (n .pending) f (sym (reader-calls s (n .place) (n .start) (n .pending) 0) ∙ e)
+
+pub parser-call-says-where : CallSaysWhere ourParser parserWith
+unfolding call
+parser-call-says-where i n f e = call-broke (now i) (n .place) (n .start) (n .pending) f (sym (parser-calls i (n .place) (n .start) (n .pending) 0) ∙ e)
+
+goes-on-ten : {I S : Type 0} (R : Reader I S) (from : I → E.Numbers → S) → GoesOn R from → TenAgain R from
+goes-on-ten R from h i n j k g f l x e = ten-again (R .bytes i) (n .place) (n .start) (n .pending) j k g f l (sym (h i n j) ∙ x) (sym (h i n k) ∙ e)
+
+pub reader-ten-again : TenAgain ourReader readerWith
+reader-ten-again = goes-on-ten ourReader readerWith reader-goes-on
+
+pub parser-ten-again : TenAgain ourParser parserWith
+parser-ten-again = goes-on-ten ourParser parserWith parser-goes-on

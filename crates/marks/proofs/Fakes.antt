@@ -1,5 +1,5 @@
 -- Each fake falls: one small run, computed, is not what the claim says.
-use mathlib.Core.Path.{_≡_, refl, ap, sym, _∙_}
+use mathlib.Core.Path.{_≡_, refl, ap, sym, subst, _∙_}
 use mathlib.Core.Bool.{Bool, true, false, cond, false≢true}
 use mathlib.Core.List.{List, [], _∷_, _++_, append-nil, map}
 use Prim.Native.Nat.{ℕ, zero, suc, _+_, _≤_, _<_}
@@ -20,7 +20,9 @@ use Rattle.decoder.specs.declared.DecodeState.the-variants.{LookingForMessageSt
 use Rattle.decoder.specs.declared.Decoder.{Decoder}
 use Rattle.decoder.specs.declared.Setup.{Setup}
 use Rattle.decoder_slice.specs.Slice.{pushesFrom, sliceRecord}
-use Rattle.refusals.specs.Read.{then, guard, need, byteAt, spanAt}
+use Rattle.refusals.specs.Read.{got, refused, Refusal, then, guard, need, byteAt, spanAt}
+use Rattle.refusals.specs.declared.Span.{Span}
+use Rattle.refusals.proofs.Codes.{refusalNumber, refusalPlace}
 use Rattle.tlf.specs.Lengths.{tlfAt, lengthFrom, lessOwn, listOfAt}
 use Rattle.numbers.specs.Numbers.{number, bytesAt, rawFrom, rawAt, unsignedAt, signedOf, signedAt}
 use Rattle.octet_string.specs.Strings.{octetsAt}
@@ -31,6 +33,9 @@ use Rattle.message.specs.Messages.{listStartAt, contentAt, bodyAt, startAt}
 use Rattle.trailer.specs.Trailer.{trailerAt}
 use Rattle.streaming.specs.Next.{Said, event, startEvent, entryEvent, endEvent, noEvent, failed, alone, onward, beginAt, entryNext, stepAt, nextAt}
 use Rattle.events.specs.Events.{nth, answer, saysFirst, atStart, inside, entriesFrom, contentFrom, messagesFrom, eventsOf, trailerFrom, restFrom, answersFrom}
+use Rattle.events.specs.Message.{Message, messageAt}
+use Rattle.places.specs.Calls.{Why, theFirst, repeated}
+use Rattle.places.proofs.Calls.{only-first, broke-in-start}
 use Rattle.marks.specs.Decoders.{LeftBehind, answers, behindOf, leftBehind, bytesFrom, countFrom, ours}
 use Rattle.marks.specs.Mark2.{PushesBytes, Soundness, Completeness, Unmatched, nothingMatched, behindPayload, OurSearch}
 use Rattle.marks.specs.Mark3.{Job, framesFor, restSays, Mark3, Suits}
@@ -39,8 +44,8 @@ use Rattle.marks.specs.Chunks.{bySlices, Chunks}
 use Rattle.marks.specs.Encoders.{callsOf, ourEncoder, SameBytes}
 use Rattle.marks.specs.Bench.{Outcome, sheetEncoded, sheetEvents, sheetField, sheetString, sheetSigned, sheetUnsigned, saidFrom, Holds, payload1, frame1, b1, b2, b3, b6}
 use Rattle.marks.specs.Events as Ev
-use Rattle.marks.specs.Events.{saysAt, ReaderGives, GoesOn, readerWith, Follows, ListsEntries}
-use Rattle.marks.specs.Fakes.{refusesAll, constant, idle, invents, once, firstOnce, stale, hasty, forgiving, lastOf, swallows, takesNone, Withheld, withholds, shrugs, forgetful, writesNothing, refusesToEncode, finishedAtOnce, withoutEvents, noEntries, Fall}
+use Rattle.marks.specs.Events.{saysAt, hears, ReaderGives, GoesOn, readerWith, Follows, ListsEntries, SaysWhere, CallSaysWhere, TenAgain}
+use Rattle.marks.specs.Fakes.{refusesAll, constant, idle, invents, once, firstOnce, stale, hasty, forgiving, lastOf, swallows, takesNone, Withheld, withholds, shrugs, forgetful, blamesTheMessage, saysItAgain, writesNothing, refusesToEncode, finishedAtOnce, withoutEvents, noEntries, Fall}
 use Rattle.marks.proofs.Completeness.{new-searches}
 
 -- a number for an answer, in which the fakes differ from what is claimed
@@ -328,6 +333,48 @@ forgetful-goes-on : GoesOn forgetful readerWith → ⊥
 unfolding saidCode saysAt nth answer answersFrom restFrom trailerFrom inside trailerAt unsignedAt rawAt tlfAt byteAt then guard beginAt stepAt nextAt
 forgetful-goes-on h = let z : _≡_ {A = ℕ} 0 4 = ap saidCode (h [] (record { place = 0; start = 0; pending = 1 }) 0) in omega arith
 
+-- 76 10: the fault stands at 1
+faulty : List ℕ
+faulty = 0x76 ∷ 0x10 ∷ []
+
+faulty-whole : (m : Message Span) (n : ℕ) → messageAt faulty 0 ≡ got m n → ⊥
+unfolding faulty then guard need byteAt spanAt tlfAt lengthFrom lessOwn listOfAt octetsAt startAt messageAt
+faulty-whole m n e = let z : _≡_ {A = ℕ} 11 0 = ap refusalNumber e in omega (arith, z)
+
+blames-where : SaysWhere blamesTheMessage → ⊥
+unfolding faulty then guard need byteAt spanAt tlfAt lengthFrom lessOwn listOfAt octetsAt startAt messageAt saysAt onward beginAt stepAt nextAt
+blames-where h = by _ (h faulty 0 _ refl) refl
+  where
+    by : (f : Refusal) → Why faulty (hears blamesTheMessage faulty) 0 f → f .place ≡ 0 → ⊥
+    by f (theFirst y k w z a v) e =
+        let o = only-first faulty faulty-whole (w .start) (w .begins) in
+        let b = w .broke in
+        let z : _≡_ {A = ℕ} 1 (f .place) = ap refusalPlace (subst (λ (p : ℕ). messageAt faulty p ≡ refused f) o (b .refuses)) in
+        omega (arith, z)
+    by f (repeated y j g k x q) e = omega arith
+
+blames-call-where : CallSaysWhere blamesTheMessage readerWith → ⊥
+unfolding faulty then guard need byteAt spanAt tlfAt lengthFrom lessOwn listOfAt octetsAt startAt saysAt onward beginAt stepAt nextAt
+blames-call-where h =
+    let b = broke-in-start (h faulty (record { place = 0; start = 0; pending = 0 }) _ refl) refl in
+    let z : _≡_ {A = ℕ} 1 0 = ap refusalPlace (b .refuses) in
+    omega (arith, z)
+
+-- 10, a length byte of no type, again and again
+again-where : SaysWhere saysItAgain → ⊥
+unfolding then guard need byteAt tlfAt listOfAt startAt saysAt onward beginAt stepAt nextAt
+again-where h = by _ (h (0x10 ∷ []) 1 _ refl) refl
+  where
+    by : (f : Refusal) → Why (0x10 ∷ []) (hears saysItAgain (0x10 ∷ [])) 1 f → f .number ≡ 11 → ⊥
+    by f (theFirst y k w z a v) e = k 0 _ (omega arith) refl
+    by f (repeated y j g k x q) e = let z : _≡_ {A = ℕ} (f .number) 10 = ap (λ (r : Refusal). r .number) q in omega (arith, z)
+
+again-ten : TenAgain saysItAgain readerWith → ⊥
+unfolding then guard need byteAt tlfAt listOfAt startAt saysAt onward beginAt stepAt nextAt
+again-ten h =
+    let z : _≡_ {A = ℕ} 11 10 = ap (λ (r : Refusal). r .number) (h (0x10 ∷ []) (record { place = 0; start = 0; pending = 0 }) 0 1 _ _ (omega arith) refl refl) in
+    omega (arith, z)
+
 pub fall : Fall
 fall =
     record {
@@ -359,4 +406,8 @@ fall =
       no-entries-lists = no-entries-lists;
       shrugs-goes-on = shrugs-goes-on;
       forgetful-goes-on = forgetful-goes-on;
+      blames-where = blames-where;
+      blames-call-where = blames-call-where;
+      again-where = again-where;
+      again-ten = again-ten;
     }

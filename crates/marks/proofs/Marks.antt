@@ -1,4 +1,6 @@
 -- All that is claimed, together.
+use Rattle.places.proofs.Readers.{readers}
+use Rattle.places.proofs.Fakes.{fall-readers}
 use Rattle.marks.specs.Marks.{Marks}
 use Rattle.marks.proofs.Decided.{views, decided}
 use Rattle.marks.proofs.Soundness.{soundness}
@@ -7,7 +9,7 @@ use Rattle.marks.proofs.Hides.{hides}
 use Rattle.marks.proofs.Chunks.{chunks}
 use Rattle.marks.proofs.Encoders.{same-bytes}
 use Rattle.marks.proofs.Recovery.{mark3}
-use Rattle.marks.proofs.Events.{reader-gives, parser-gives, reader-goes-on, parser-goes-on, reader-lists, parser-lists}
+use Rattle.marks.proofs.Events.{reader-gives, parser-gives, reader-goes-on, parser-goes-on, reader-lists, parser-lists, reader-says-where, parser-says-where, reader-call-says-where, parser-call-says-where, reader-ten-again, parser-ten-again}
 use Rattle.marks.proofs.Bench.{bench}
 use Rattle.marks.proofs.Fakes.{fall}
 
@@ -30,6 +32,14 @@ marks =
       parser-goes-on = parser-goes-on;
       reader-lists = reader-lists;
       parser-lists = parser-lists;
+      readers = readers;
+      reader-says-where = reader-says-where;
+      parser-says-where = parser-says-where;
+      reader-call-says-where = reader-call-says-where;
+      parser-call-says-where = parser-call-says-where;
+      reader-ten-again = reader-ten-again;
+      parser-ten-again = parser-ten-again;
+      fall-readers = fall-readers;
       bench = bench;
       fall = fall;
     }

@@ -6,8 +6,8 @@ use Rattle.marks.specs.Mark3.{Mark3}
 use Rattle.marks.specs.Hides.{Hides}
 use Rattle.marks.specs.Chunks.{Chunks}
 use Rattle.marks.specs.Encoders.{ourEncoder, SameBytes}
-use Rattle.marks.specs.Events.{ReaderGives, GoesOn, readerWith, ListsEntries}
-use Rattle.marks.specs.Fakes.{refusesAll, constant, idle, invents, once, stale, hasty, forgiving, swallows, takesNone, withholds, shrugs, forgetful, writesNothing, finishedAtOnce, withoutEvents, noEntries}
+use Rattle.marks.specs.Events.{ReaderGives, GoesOn, readerWith, ListsEntries, SaysWhere}
+use Rattle.marks.specs.Fakes.{refusesAll, constant, idle, invents, once, stale, hasty, forgiving, swallows, takesNone, withholds, shrugs, forgetful, blamesTheMessage, saysItAgain, writesNothing, finishedAtOnce, withoutEvents, noEntries}
 use Rattle.marks.proofs.Fakes.{fall}
 
 fake-refuses-everything : Mark3 refusesAll encodeTo → ⊥
@@ -63,3 +63,9 @@ fake-slice-withholds-its-payload = fall .withholds-chunks
 
 fake-reader-forgets-what-is-pending : GoesOn forgetful readerWith → ⊥
 fake-reader-forgets-what-is-pending = fall .forgetful-goes-on
+
+fake-reader-blames-the-message : SaysWhere blamesTheMessage → ⊥
+fake-reader-blames-the-message = fall .blames-where
+
+fake-refusal-said-again : SaysWhere saysItAgain → ⊥
+fake-refusal-said-again = fall .again-where

@@ -1,9 +1,10 @@
--- claim: message events. Repeated calls of a reader, whichever reader it is, give the events that the tables define; a list start with n is followed by n entries and the end, or by a refusal.
+-- claim: message events. Repeated calls of a reader, whichever reader it is, give the events that the tables define; a list start with n is followed by n entries and the end, or by a refusal; and a refusal says where it broke.
 use mathlib.Core.Path.{_≡_}
 use mathlib.Core.List.{List}
-use Prim.Native.Nat.{ℕ, zero, suc}
+use Prim.Native.Nat.{ℕ, zero, suc, _<_}
+use lib.ListN.{length}
 use denote.Ref.{RefT, now}
-use Rattle.refusals.specs.Read.{Refusal}
+use Rattle.refusals.specs.Read.{Refusal, eof}
 use Rattle.refusals.specs.declared.Span.{Span}
 use Rattle.common.specs.Fields.{ListEntry}
 use Rattle.message.specs.Messages.{MessageStart, ListStart, ListEnd, listBody}
@@ -11,6 +12,7 @@ use Rattle.streaming.specs.Next.{startEvent, entryEvent, endEvent, Said, event,
 use Rattle.parser.specs.Reader.{readerOf, calledNext}
 use Rattle.parser.specs.declared.Parser.{Parser}
 use Rattle.events.specs.Events.{answer, eventsOf, answersFrom}
+use Rattle.places.specs.Calls.{CallBroke, Why}
 
 -- what a call gave: what it says (an event, no event or a refusal), and the reader for the next call
 pub record Told (S : Type 0) : Type 0 where
@@ -85,3 +87,15 @@ abbrev pub ListsEntries : {I S : Type 0} → Reader I S → Type 0
 ListsEntries {I} R =
     (i : I) (k : ℕ) (m : MessageStart Span) (b : ListStart Span) → hears R i k ≡ event (startEvent m) → m .«message_body» ≡ listBody b
     → Follows (hears R i) (b .«num_vals») (suc k)
+
+-- For every input: a call that says a refusal with a place is the first that does, the message that it is in broke there, and the calls behind it say 10 at the input's length, or no event where that message's start was refused (crate places); or a call before it was refused, and it is 10 at the input's length
+abbrev pub SaysWhere : {I S : Type 0} → Reader I S → Type 0
+SaysWhere {I} R = (i : I) (k : ℕ) (f : Refusal) → hears R i k ≡ failed f → Why (R .bytes i) (hears R i) k f
+
+-- From any three numbers on: where the next call says a refusal with a place, the reading that the numbers ask for broke there
+abbrev pub CallSaysWhere : {I S : Type 0} → Reader I S → (I → Numbers → S) → Type 0
+CallSaysWhere {I} R from = (i : I) (n : Numbers) (f : Refusal) → saysAt R i (from i n) 0 ≡ failed f → CallBroke (R .bytes i) (n .place) (n .start) (n .pending) f
+
+-- From any three numbers on: a refusal with a place behind another is 10, at the input's length
+abbrev pub TenAgain : {I S : Type 0} → Reader I S → (I → Numbers → S) → Type 0
+TenAgain {I} R from = (i : I) (n : Numbers) (j k : ℕ) (g f : Refusal) → j < k → saysAt R i (from i n) j ≡ failed g → saysAt R i (from i n) k ≡ failed f → f ≡ eof (length (R .bytes i))

@@ -16,13 +16,14 @@ use Rattle.decoder.specs.declared.DecodeState.{DecodeState}
 use Rattle.decoder.specs.declared.DecodeState.the-variants.{LookingForMessageStart, ParsingNormal, ParsingEscChars, ParsingEscPayload, Done}
 use Rattle.decoder.specs.declared.Decoder.{Decoder}
 use Rattle.streaming.specs.Next.{Said, event, startEvent, entryEvent, endEvent, noEvent, failed, alone}
+use Rattle.events.specs.Telling.{isRefused}
 use Rattle.marks.specs.Decoders.{Gave, Machine, ours, behindOf}
 use Rattle.marks.specs.Mark2.{Soundness, Completeness, OurSearch}
 use Rattle.marks.specs.Mark3.{Encode, Mark3}
 use Rattle.marks.specs.Hides.{Hides}
 use Rattle.marks.specs.Chunks.{GaveSlice, Slicer, ourSlicer, Chunks}
 use Rattle.marks.specs.Encoders.{Caller, ourEncoder, SameBytes}
-use Rattle.marks.specs.Events.{Reader, Numbers, ourReader, ReaderGives, GoesOn, readerWith, ListsEntries}
+use Rattle.marks.specs.Events.{Told, Reader, Numbers, ourReader, ReaderGives, GoesOn, readerWith, ListsEntries, SaysWhere, CallSaysWhere, TenAgain}
 use Rattle.marks.specs.Bench.{Holds, payload1, frame1, b1, b2, b3, b6}
 
 -- ours, but for what it answers; what it hands back is by the definition that payload's contract cites
@@ -234,6 +235,39 @@ forgetful =
       next = λ s r. ourReader .next s (record { place = r .place; start = r .start; pending = 0 });
     }
 
+-- what it says: a refusal named at p
+abbrev pub namedAt : ℕ → Said → Said
+namedAt p (event e) = event e
+namedAt p noEvent = noEvent
+namedAt p (failed f) = failed (record { number = f .number; kind = f .kind; place = p })
+namedAt p (alone n) = alone n
+
+-- a reader that names every refusal at its message's first byte
+abbrev pub blamesTheMessage : Reader (List ℕ) Numbers
+blamesTheMessage =
+    record {
+      bytes = ourReader .bytes;
+      new = ourReader .new;
+      next = λ s r.
+          let t = ourReader .next s r in
+          record { said = namedAt (t .reader .start) (t .said); reader = t .reader };
+    }
+
+-- where a refused call leaves the numbers: unchanged
+abbrev pub notMoved : Numbers → Told Numbers → Numbers
+notMoved r t = cond (isRefused (t .said)) r (t .reader)
+
+-- a reader that stays where it was refused, and says that refusal again
+abbrev pub saysItAgain : Reader (List ℕ) Numbers
+saysItAgain =
+    record {
+      bytes = ourReader .bytes;
+      new = ourReader .new;
+      next = λ s r.
+          let t = ourReader .next s r in
+          record { said = t .said; reader = notMoved r t };
+    }
+
 -- each of them falls: a row of the bench sheet or a mark that is false of it. The one that is right for its first frame has row B3, and hands that payload back
 pub record Fall : Type 0 where
   pub refuses-b3 : Holds refusesAll encodeTo b3 → ⊥
@@ -264,3 +298,7 @@ pub record Fall : Type 0 where
   pub no-entries-lists : ListsEntries noEntries → ⊥
   pub shrugs-goes-on : GoesOn shrugs readerWith → ⊥
   pub forgetful-goes-on : GoesOn forgetful readerWith → ⊥
+  pub blames-where : SaysWhere blamesTheMessage → ⊥
+  pub blames-call-where : CallSaysWhere blamesTheMessage readerWith → ⊥
+  pub again-where : SaysWhere saysItAgain → ⊥
+  pub again-ten : TenAgain saysItAgain readerWith → ⊥

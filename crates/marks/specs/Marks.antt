@@ -7,6 +7,8 @@ use Rattle.refusals.specs.Numbers.{limit}
 use Rattle.decoder.specs.Run.{Op}
 use Rattle.decoder.specs.declared.Decoder.{Decoder}
 use Rattle.decoder.specs.declared.Setup.{Setup}
+use Rattle.places.specs.Readers.{Readers}
+use Rattle.places.specs.Fakes.{FallReaders}
 use Rattle.marks.specs.Decided.{Views, Decided}
 use Rattle.marks.specs.Decoders.{Gave, ours, behindOf}
 use Rattle.marks.specs.Mark2.{Soundness, Completeness, Unmatched, OurSearch}
@@ -14,7 +16,7 @@ use Rattle.marks.specs.Mark3.{ourEncode, Mark3}
 use Rattle.marks.specs.Hides.{Hides}
 use Rattle.marks.specs.Chunks.{ourSlicer, Chunks}
 use Rattle.marks.specs.Encoders.{ourEncoder, SameBytes}
-use Rattle.marks.specs.Events.{ourReader, ourParser, ReaderGives, GoesOn, readerWith, parserWith, ListsEntries}
+use Rattle.marks.specs.Events.{ourReader, ourParser, ReaderGives, GoesOn, readerWith, parserWith, ListsEntries, SaysWhere, CallSaysWhere, TenAgain}
 use Rattle.marks.specs.Bench.{Bench}
 use Rattle.marks.specs.Fakes.{Fall}
 
@@ -44,6 +46,15 @@ pub record Marks : Type 0 where
   pub parser-goes-on : GoesOn ourParser parserWith
   pub reader-lists : ListsEntries ourReader
   pub parser-lists : ListsEntries ourParser
+  -- a refusal says where it broke: of every reader, of the calls on an input, of one call from any numbers; and what that is false of
+  pub readers : Readers
+  pub reader-says-where : SaysWhere ourReader
+  pub parser-says-where : SaysWhere ourParser
+  pub reader-call-says-where : CallSaysWhere ourReader readerWith
+  pub parser-call-says-where : CallSaysWhere ourParser parserWith
+  pub reader-ten-again : TenAgain ourReader readerWith
+  pub parser-ten-again : TenAgain ourParser parserWith
+  pub fall-readers : FallReaders
   -- B1 to B14
   pub bench : Bench ours ourEncode
   -- and what they are false of

@@ -58,9 +58,9 @@ unfolding then guard need byteAt spanAt tlfAt lengthFrom lessOwn number bytesAt 
 eof-before-mismatch h = let n : _≡_ {A = ℕ} 10 12 = ap refusalNumber h in omega (arith, n)
 
 -- and 12 names the first length byte
-mismatch-named-behind-the-length : u8Read (U8R.Refused (record { error = TlfMismatch; place = 1 })) ≡ unsignedAt 1 (0x63 ∷ 0x00 ∷ 0x05 ∷ []) 0 → ⊥
+number-mismatch-behind-its-length : u8Read (U8R.Refused (record { error = TlfMismatch; place = 1 })) ≡ unsignedAt 1 (0x63 ∷ 0x00 ∷ 0x05 ∷ []) 0 → ⊥
 unfolding then guard need byteAt spanAt tlfAt lengthFrom lessOwn number bytesAt rawFrom rawAt unsignedAt
-mismatch-named-behind-the-length h = let n : _≡_ {A = ℕ} 1 0 = ap refusalPlace h in omega (arith, n)
+number-mismatch-behind-its-length h = let n : _≡_ {A = ℕ} 1 0 = ap refusalPlace h in omega (arith, n)
 
 -- 10 names the input's length
 eof-named-at-the-element : u16Read (U16R.Refused (record { error = UnexpectedEOF; place = 0 })) ≡ unsignedAt 2 (0x63 ∷ 0x01 ∷ []) 0 → ⊥

@@ -14,8 +14,8 @@ use Rattle.trailer.specs.Trailer.{messageEndAt, crcFrom, trailerAt}
 use Rattle.trailer.proofs.Examples.{closing, trailer-examples}
 
 -- a wrong CRC is named at its first length byte, not at the message's
-wrong-crc-named-at-the-message : placeRead (PlaceR.Refused (record { error = CrcMismatch; place = 0 })) ≡ trailerAt (closing 0x5b 0x0f 0x00) 0 14 → ⊥
-wrong-crc-named-at-the-message h = let n : _≡_ {A = ℕ} 0 14 = ap refusalPlace (h ∙ trailer-examples .crc-wrong) in omega (arith, n)
+crc-mismatch-named-at-the-message : placeRead (PlaceR.Refused (record { error = CrcMismatch; place = 0 })) ≡ trailerAt (closing 0x5b 0x0f 0x00) 0 14 → ⊥
+crc-mismatch-named-at-the-message h = let n : _≡_ {A = ℕ} 0 14 = ap refusalPlace (h ∙ trailer-examples .crc-wrong) in omega (arith, n)
 
 -- CRC and end byte both wrong: 15, not 14
 end-byte-judged-after-the-crc : placeRead (PlaceR.Refused (record { error = CrcMismatch; place = 14 })) ≡ trailerAt (closing 0x5b 0x0f 0x01) 0 14 → ⊥

@@ -31,9 +31,9 @@ presence (got none next) = 0
 presence (refused f) = 2
 
 -- 72 62 02: the tag 2 stands at place 1, and so does the refusal
-time-tag-named-at-its-list : timeRead (TimeR.Refused (record { error = UnexpectedVariant; place = 0 })) ≡ timeAt (0x72 ∷ 0x62 ∷ 0x02 ∷ []) 0 → ⊥
+time-tag-named-at-the-time : timeRead (TimeR.Refused (record { error = UnexpectedVariant; place = 0 })) ≡ timeAt (0x72 ∷ 0x62 ∷ 0x02 ∷ []) 0 → ⊥
 unfolding then guard need byteAt spanAt tlfAt lengthFrom lessOwn number bytesAt rawFrom rawAt unsignedAt timeAt
-time-tag-named-at-its-list h = let n : _≡_ {A = ℕ} 0 1 = ap refusalPlace h in omega (arith, n)
+time-tag-named-at-the-time h = let n : _≡_ {A = ℕ} 0 1 = ap refusalPlace h in omega (arith, n)
 
 -- the same of a list value
 list-value-tag-named-at-its-list : valueRead (ValueR.Refused (record { error = UnexpectedVariant; place = 0 })) ≡ valueAt (0x72 ∷ 0x62 ∷ 0x02 ∷ []) 0 → ⊥

@@ -1,0 +1,16 @@
+pub mod Before
+pub mod Seen
+pub mod Lengths
+pub mod Grows
+pub mod Locates
+pub mod Elements
+pub mod Fields
+pub mod Tags
+pub mod Values
+pub mod Records
+pub mod Trailer
+pub mod Readers
+pub mod Calls
+pub mod Named
+pub mod Fakes
+pub mod Wrong

@@ -1,0 +1,4 @@
+pub mod Stands
+pub mod Readers
+pub mod Calls
+pub mod Fakes
