@@ -18,6 +18,7 @@ use Rattle.common.specs.Fields.{entryAt}
 use Rattle.places.specs.Stands.{Closed}
 use Rattle.places.specs.Readers.{NotTen, Located}
 use Rattle.places.specs.Fakes.{namesTheEntry, namesTheLastByte, namesTheNext, tellsTen, tellsFifteen, namesItsOwnPlace, FallReaders}
+use Rattle.places.proofs.Seen.{isGot}
 use Rattle.places.proofs.Named.{bad-length-place, element-place, mismatch-instead, end-place}
 
 -- 77 10: the fault stands at 1
@@ -45,10 +46,6 @@ next-refuses : (x : List ℕ) (a : Span) (n : ℕ) → namesTheNext (0x62 ∷ 0x
 unfolding namesTheNext then
 next-refuses x a n e = by (tlfAt (0x62 ∷ 0x00 ∷ x) 2) refl
   where
-    isGot : Read Span → ℕ
-    isGot (got b m) = 1
-    isGot (refused f) = 0
-
     by : (r : Read TypeLengthField) → tlfAt (0x62 ∷ 0x00 ∷ x) 2 ≡ r → ⊥
     by (got t m) k =
         let y : namesTheNext (0x62 ∷ 0x00 ∷ x) ≡ refused (mismatch 2) = rw (one-byte-head x, span-room (0x62 ∷ 0x00 ∷ x) 1 1 (omega arith), k) in

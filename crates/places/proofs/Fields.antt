@@ -26,7 +26,7 @@ use Rattle.octet_string.proofs.Optional.{absent-room}
 use Rattle.places.specs.Stands.{SameBefore, Looked, Element, Instead, Whatever, Closed, EndByte}
 use Rattle.places.specs.Readers.{NotTen}
 use Rattle.places.proofs.Before.{same-cut, same-long, same-byte, same-whole, same-front, length-front, byte-front, one-fits}
-use Rattle.places.proofs.Seen.{Taken, Seen}
+use Rattle.places.proofs.Seen.{isGot, Taken, Seen}
 use Rattle.places.proofs.Lengths.{cut-eof}
 use Rattle.places.proofs.Grows.{number-bytes-is, number-bytes-short}
 use Rattle.places.proofs.Locates.{Stood, Locates, Maps, stands-map, locates-then, locates-got}
@@ -133,10 +133,6 @@ absent-is-no-refusal : (t : List ℕ) (at : ℕ) (f : Refusal) → tlfAt t at �
 absent-is-no-refusal t at f e k =
     let z : _≡_ {A = ℕ} 1 0 = ap isGot (sym (absent-is-string t at k) ∙ e) in
     absurd (omega (arith, z))
-  where
-    isGot : Read TypeLengthField → ℕ
-    isGot (got a n) = 1
-    isGot (refused x) = 0
 
 not-absent : (t : List ℕ) (at : ℕ) (f : Refusal) → tlfAt t at ≡ refused f → absentAt t at ≡ false
 not-absent t at f e = by (absentAt t at) refl
@@ -153,10 +149,6 @@ passes-optional read at p = record { passes = λ t f e. rw (not-absent t at f e,
 taken-past : {A : Type 0} {read : List ℕ → Read A} {s : List ℕ} {at n : ℕ} (a : A) → Passes read at → at ≤ length s → read s ≡ got a n → Taken read s at n → at < n
 taken-past {A} {read} {s} {at} {n} a p h e w = by (leb n at) refl
   where
-    isGot : Read A → ℕ
-    isGot (got b m) = 1
-    isGot (refused x) = 0
-
     by : (b : Bool) → leb n at ≡ b → at < n
     by true k =
         let l = leb-true n at k in
@@ -174,12 +166,8 @@ no-end-byte {A} {read} {s} {at} p h e =
     let l : at < length u = omega (arith, length-front s (0x10 ∷ []) at h) in
     let x : tlfAt u at ≡ refused (invalidTy at) = rw (lt-ltb at (length u) l, byte-front s [] 0x10 at h) in
     let y = e .judged u (same-front s (0x10 ∷ []) at h) l (λ z. let o : _≡_ {A = ℕ} 0x10 0 = sym (byte-front s [] 0x10 at h) ∙ z in absurd (omega (arith, o))) in
-    let n : _≡_ {A = ℕ} 11 15 = ap number (sym (p .passes u _ x) ∙ y) in
+    let n : _≡_ {A = ℕ} 11 15 = ap refusalNumber (sym (p .passes u _ x) ∙ y) in
     absurd (omega (arith, n))
-  where
-    number : Read A → ℕ
-    number (got b m) = 0
-    number (refused f) = f .number
 
 -- a field that is there
 there : {A : Type 0} → (List ℕ → ℕ → Read A) → ℕ → List ℕ → Read (Option A)

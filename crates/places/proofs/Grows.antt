@@ -17,7 +17,7 @@ use Rattle.trailer.specs.Trailer.{swapped, crcFrom}
 use Rattle.places.specs.Stands.{SameBefore, TagAt, CrcAt}
 use Rattle.places.proofs.Before.{same-long, same-part}
 use Rattle.places.proofs.Seen.{Taken, Seen, seen-weak, seen-then, looked-over}
-use Rattle.places.proofs.Lengths.{cut-eof, fixed-refused, tlf-seen}
+use Rattle.places.proofs.Lengths.{cut-eof, fixed-got, fixed-refused, tlf-seen}
 
 -- n bytes taken: their value, or 10
 pub bytes-seen : {A : Type 0} {P : Refusal → ℕ → Type 0} (read : List ℕ → Read A) (value : List ℕ → A) (at n : ℕ)
@@ -60,18 +60,15 @@ number-bytes-short at n t h k = rw (le-leb at (length t) h, lt-leb n (length t -
 pub number-bytes-seen : {P : Refusal → ℕ → Type 0} (at n : ℕ) (s : List ℕ) → P (eof (length s)) (length s + 1) → at ≤ length s → Seen P (λ t. bytesAt t at n) s at (bytesAt s at n)
 number-bytes-seen at n s over h = bytes-seen _ (number 0) at n (number-bytes-is at n) (number-bytes-short at n) s over h
 
-fixed-value : {A : Type 0} (s : List ℕ) (n : ℕ) (a : A) → n ≤ length s → Seen Anyhow (λ t. got a n) s n (got a n)
-fixed-value s n a h = record { seen = record { low = omega arith; high = h; looked = record { cut = λ m p i j. absurd (omega arith); alike = λ t e. refl } } }
-
 unsigned-seen : (width : ℕ) (s : List ℕ) (at : ℕ) → at ≤ length s → Seen Anyhow (λ t. unsignedAt width t at) s at (unsignedAt width s at)
 unfolding unsignedAt rawAt rawFrom guard
 unsigned-seen width s at h =
     seen-then _ _ s at
-    (seen-then _ _ s at (seen-weak _ (λ f q w. tt) (tlf-seen s at h)) (λ t n e l k. judged t n k (fitsWidth false width t))) (λ r m e l k. fixed-value s m _ k)
+    (seen-then _ _ s at (seen-weak _ (λ f q w. tt) (tlf-seen s at h)) (λ t n e l k. judged t n k (fitsWidth false width t))) (λ r m e l k. fixed-got s m _ k)
   where
     judged : (t : TypeLengthField) (n : ℕ) → n ≤ length s → (b : Bool)
         → Seen {A = Raw} Anyhow (λ u. guard b (mismatch at) (then (bytesAt u n (t .len)) λ v end. got (record { len = t .len; value = v }) end)) s n (guard b (mismatch at) (then (bytesAt s n (t .len)) λ v end. got (record { len = t .len; value = v }) end))
-    judged t n k true = seen-then _ (λ v end u. got (record { len = t .len; value = v }) end) s n (number-bytes-seen n (t .len) s tt k) (λ v m e l i. fixed-value s m _ i)
+    judged t n k true = seen-then _ (λ v end u. got (record { len = t .len; value = v }) end) s n (number-bytes-seen n (t .len) s tt k) (λ v m e l i. fixed-got s m _ i)
     judged t n k false = fixed-refused s n (mismatch at) tt
 
 -- a number that is found needs what is before the next place

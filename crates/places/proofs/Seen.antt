@@ -11,6 +11,11 @@ use Rattle.refusals.specs.Read.{Read, got, refused, Refusal, then, eof}
 use Rattle.places.specs.Stands.{SameBefore, Looked}
 use Rattle.places.proofs.Before.{same-all, same-less, same-cut, same-whole}
 
+-- whether a reading found something
+abbrev pub isGot : {A : Type 0} → Read A → ℕ
+isGot (got a n) = 1
+isGot (refused f) = 0
+
 -- a value was found, and n is the place behind it
 pub record Taken {A : Type 0} (read : List ℕ → Read A) (s : List ℕ) (at n : ℕ) : Type 0 where
   pub low : at ≤ n
