@@ -1,10 +1,11 @@
-"""generate.py SEED COUNT [messages]: random commands inside document 01's domain, one a line; the same for the same seed.
+"""generate.py SEED COUNT [messages]: random commands inside the domain of document 01, less what document 02's Q-2 takes from it, one a line; the same for the same seed.
 
 Valid frames, damaged ones, payloads with many 1b, noise, capacities about the limit, finalize and reset in between, fields that are bent; now and then a line
 that is no command. With `messages`: events of messages, valid, bent field by field, cut, damaged, and the fields of crate value (messages.py).
 """
 import random, sys
 import messages
+from places import over_32_bits
 from sml import ESCAPE, KINDS, START, capacities, closed, escaped, frame, hexed
 
 CAPS = capacities()
@@ -163,11 +164,18 @@ def command(r):
 STYLES = {"transport": command, "messages": messages.command}
 
 
-def commands(seed, count, style="transport"):
+def drawn(seed, count, style="transport"):
+    """Commands up to so many inside the domain; those on which a length over 32 bits is read are among them, and don't count."""
     r, one = random.Random(seed), STYLES[style]
-    for _ in range(count):
+    while count:
         line = no_command(r, one) if r.random() < 0.02 else one(r)
-        yield line if len(line) <= 69000 else "crc -"
+        line = line if len(line) <= 69000 else "crc -"
+        count -= not over_32_bits(line)
+        yield line
+
+
+def commands(seed, count, style="transport"):
+    return (line for line in drawn(seed, count, style) if not over_32_bits(line))
 
 
 if __name__ == "__main__":

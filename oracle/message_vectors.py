@@ -1,13 +1,14 @@
 """message_vectors.py: prints the fixed commands over messages. vectors.py puts them, with their answers, behind its own lines in crates/replay_messages/stdin and stdout.
 
 The answers are the crate's (target/oracle/oracle, made by oracle/build). The crate has no places: what `places` answers is its answer to `events` with document 01's number behind each
-error, and its place. Both are those of places.py, a reader of its own, and the number must be the crate's; where one field is bent they are also written here beside the input.
+error, and its place. Both are those of places.py, a reader of its own, and the number must be the crate's; where one field is bent they are also written here beside the input. What `tlf` answers is that reader's too, since the
+crate keeps the low 32 bits of a length; those of document 02's Q-2 are also written here.
 """
 import os, subprocess, sys
 
 sys.dont_write_bytecode = True
 from messages import BOOL, INT, KINDS, LIST, OCT, UINT, element, length, payloads, sealed, unsigned
-from places import refusal
+from places import length_field, over_32_bits, refusal
 from sml import HERE, crc, hexed
 
 b = bytes.fromhex
@@ -215,6 +216,37 @@ def bent():
     return [(data, *what) for data, what in out.items()]
 
 
+# ---- length fields, with document 02's Q-2
+
+# the last that fit, and where a length passes 4,294,967,295: behind its byte's type, before underflow, for lists too
+OVERFLOWS = """81808080808080800a: err InvalidTlf TlfLengthOverflow 11 @0
+8f8f8f8f8f8f8f0f: 0 4294967287 next 8
+ff8f8f8f8f8f8f0f: 7 4294967295 next 8
+f180808080808080: err UnexpectedEOF 10 @8
+f18080808080808000: err InvalidTlf TlfLengthOverflow 11 @0
+8180808080808080: err UnexpectedEOF 10 @8
+818080808080808010: err InvalidTlf TlfNextByteTypeMismatch 11 @0
+818080808080808090: err InvalidTlf TlfNextByteTypeMismatch 11 @0
+818080808080808080: err InvalidTlf TlfLengthOverflow 11 @0
+80808080808080808080800d: 0 1 next 12
+808080808080808080800a: err InvalidTlf TlfLengthUnderflow 11 @0
+df8f8f8f8f8f8f8f0f: err InvalidTlf TlfLengthOverflow 11 @0
+c1808080808080800a: err InvalidTlf TlfReserved 11 @0
+918080808080808000: err InvalidTlf TlfInvalidTy 11 @0
+8080808080808080818080808080808005: err InvalidTlf TlfLengthOverflow 11 @0"""
+
+
+def length_fields():
+    """Those of Q-2, and every first byte alone, before one more and before eight that say more."""
+    for line in OVERFLOWS.split("\n"):
+        h, answer = line.split(": ")
+        assert length_field(b(h)) == answer, line
+        yield b(h)
+    yield b""
+    for x in range(256):
+        yield from (bytes([x]) + more for more in (b"", b"\x05", b("8080808080808004"), b("8f8f8f8f8f8f8f0f")))
+
+
 def with_places(said, size, number, place):
     """The crate's answer to `events`, with number and place behind each error; behind the first refusal it is 10 at the end of the input."""
     out, first = [], True
@@ -244,6 +276,7 @@ def plain():
 def vectors():
     """Commands and answers."""
     commands, refused = plain(), bent()
+    assert not any(map(over_32_bits, commands + ["events " + d.hex() for d, _, _ in refused]))
     said = asked(commands + ["events " + d.hex() for d, _, _ in refused])
     for command, answer in zip(commands, said):
         if command.startswith("events "):
@@ -252,7 +285,8 @@ def vectors():
         yield command, answer
     for (data, number, place), answer in zip(refused, said[len(commands) :]):
         yield "places " + data.hex(), with_places(answer, len(data), number, place)
+    yield from (("tlf " + hexed(data), length_field(data)) for data in length_fields())
 
 
 if __name__ == "__main__":
-    sys.stdout.writelines(c + "\n" for c in plain() + ["places " + d.hex() for d, _, _ in bent()])
+    sys.stdout.writelines(c + "\n" for c in plain() + ["places " + d.hex() for d, _, _ in bent()] + ["tlf " + hexed(d) for d in length_fields()])

@@ -1,15 +1,21 @@
-"""The number and the place of a message input's first refusal, for the vectors: the crate has no places. A reader of its own, apart from the proved code: it follows document 01's length and message rules and,
-where these are widened to it, the crate's common.rs (a bare time, a list value). So the numbers are no second opinion on the crate, which they must equal; the places are on ours.
+"""The number and the place of a message input's first refusal, for the vectors: the crate has no places. A reader of its own, apart from the proved code: it follows document 01's length and message rules, document 02's Q-2 and,
+where these are widened to it, the crate's common.rs (a bare time, a list value). So the numbers are no second opinion on the crate, which they must equal; the places are on ours. And it tells which commands are out of the
+domain because a length over 32 bits is read on them: up to the first such length the crate reads as this reader does.
 
 10 stands at the input's length; 11, 12 and 13 at the element's first length byte, of a 13 the tag's; 14 at the CRC's; 15 at the end byte.
 """
+import re
 from sml import crc
 
 OCT, BOOL, INT, UINT, LIST = 0, 4, 5, 6, 7
 
 
 class Refused(Exception):
-    """Its arguments are the number and the place."""
+    """Its arguments are the number and the place, and of an 11 the kind."""
+
+
+class TooLong(Refused):
+    """A length over 32 bits, of which the crate keeps the low ones."""
 
 
 class Input:
@@ -23,20 +29,24 @@ class Input:
         return self.data[self.at - 1]
 
     def head(self):
-        """An element's first place, its type and its length: the low 32 bits, less the length bytes where it is no list."""
+        """An element's first place, its type and its length, less the length bytes where it is no list."""
         at = self.at
         b = self.byte()
         ty, total = b >> 4 & 7, b & 15
-        if ty not in (OCT, BOOL, INT, UINT, LIST) or ty == BOOL and b & 0x80:
-            raise Refused(11, at)
+        if ty not in (OCT, BOOL, INT, UINT, LIST):
+            raise Refused(11, at, "TlfInvalidTy")
+        if ty == BOOL and b & 0x80:
+            raise Refused(11, at, "TlfReserved")
         while b & 0x80:
             b = self.byte()
             if b & 0x70:
-                raise Refused(11, at)
-            total = (total << 4 | b & 15) & 0xFFFFFFFF
+                raise Refused(11, at, "TlfNextByteTypeMismatch")
+            total = total << 4 | b & 15
+            if total > 0xFFFFFFFF:
+                raise TooLong(11, at, "TlfLengthOverflow")
         n = total if ty == LIST else total - (self.at - at)
         if n < 0:
-            raise Refused(11, at)
+            raise Refused(11, at, "TlfLengthUnderflow")
         return at, ty, n
 
     def content(self, n):
@@ -148,12 +158,52 @@ def message(i):
         raise Refused(14, at)
 
 
+def messages(i):
+    while i.at < len(i.data):
+        message(i)
+
+
 def refusal(data):
     """(number, place), or None where the whole input is messages."""
+    try:
+        messages(Input(data))
+    except Refused as r:
+        return r.args[:2]
+    return None
+
+
+def length_field(data):
+    """What `tlf` answers."""
     i = Input(data)
     try:
-        while i.at < len(data):
-            message(i)
+        at, ty, n = i.head()
     except Refused as r:
-        return r.args
-    return None
+        number, place, *kind = r.args
+        return "err %s %d @%d" % (" ".join(["InvalidTlf", *kind] if kind else ["UnexpectedEOF"]), number, place)
+    return "%d %d next %d" % (ty, n, i.at)
+
+
+# ---- which commands are out of the domain
+
+LEAVES = {k + str(8 * n): (number, ty, n) for k, ty in (("u", UINT), ("i", INT)) for n in (1, 2, 4, 8)}
+LEAVES |= {"bool": (number, BOOL, 1), "oct": (string,), "time": (time,), "value": (value,), "status": (number, UINT, 8)}
+LEAVES |= {"opt_" + k: (optional, *LEAVES[k]) for k in ("u8", "i8", "oct", "time", "status")}
+COMMAND = re.compile(r"(?:events|leaf (\w+)) (-|(?:[0-9a-f]{2})+)")
+# nine digits at least, so that eight length bytes say that more follow
+MORE = re.compile(rb"[\x80-\xff]{8}")
+
+
+def over_32_bits(command):
+    """Whether a length over 32 bits is read on it."""
+    said = COMMAND.fullmatch(command)
+    if not said or len(command) > 70000 or said[1] and said[1] not in LEAVES:
+        return False
+    data = bytes.fromhex(said[2].replace("-", ""))
+    read, *more = LEAVES[said[1]] if said[1] else [messages]
+    if not MORE.search(data):
+        return False
+    try:
+        read(Input(data), *more)
+    except Refused as r:
+        return isinstance(r, TooLong)
+    return False

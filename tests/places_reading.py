@@ -1,7 +1,7 @@
-"""The message rules of document 01 and the places of document 02's Q-5 once more in Python, written from their text alone: what tests/test_places.py holds the program to."""
+"""The message rules of document 01, with the lengths of document 02's Q-2 and the places of its Q-5, once more in Python, written from their text alone: what tests/test_places.py and tests/test_lengths.py hold the program to."""
 STRING, BOOLEAN, INTEGER, UNSIGNED, LIST = 0, 4, 5, 6, 7
 NAMES = {10: "UnexpectedEOF", 11: "InvalidTlf", 12: "TlfMismatch", 13: "UnexpectedVariant", 14: "CrcMismatch", 15: "MsgEndMismatch"}
-LIMIT = 2**32  # of a length its low 32 bits are kept: document 02's Q-2 refuses what passes them
+LIMIT = 2**32 - 1  # a length that passes it while it is being built is refused: document 02's Q-2, in place of document 01's low 32 bits
 
 
 def table():
@@ -30,24 +30,11 @@ class Refusal(Exception):
         return "err %s%s %d @%d" % (NAMES[self.number], self.kind and " " + self.kind, self.number, self.place)
 
 
-class Reading:
-    """All answers of an input: the events, the first refusal or None, where its message begins, and whether it came behind that message's first event."""
+class Lengths:
+    """An input, how far it is read, and the length at that place."""
 
     def __init__(self, data):
-        self.data, self.at, self.start, self.inside, self.events, self.refusal = data, 0, 0, False, [], None
-        try:
-            while self.at < len(data):
-                self.start, self.inside = self.at, False
-                self.message()
-        except Refusal as f:
-            self.refusal = f
-
-    def line(self):
-        """What `places` answers: behind a refusal three more calls, 10 at the input's length inside a message, no event at its start."""
-        later = str(Refusal(10, len(self.data))) if self.inside else "none"
-        return " | ".join(self.events + (["none"] if self.refusal is None else [str(self.refusal)] + [later] * 3))
-
-    # ---- lengths and bytes
+        self.data, self.at = data, 0
 
     def take(self, n):
         if n > len(self.data) - self.at:
@@ -67,12 +54,43 @@ class Reading:
             (b,) = self.take(1)
             if b >> 4 & 7:
                 raise Refusal(11, place, "TlfNextByteTypeMismatch")
-            n = (16 * n + b % 16) % LIMIT
+            n = 16 * n + b % 16
+            if n > LIMIT:
+                raise Refusal(11, place, "TlfLengthOverflow")
         if kind != LIST:
             n -= self.at - place
         if n < 0:
             raise Refusal(11, place, "TlfLengthUnderflow")
         return kind, n, place
+
+
+def length_field(data):
+    """What `tlf` answers: type and length of the element that begins the input, and the place behind its length bytes."""
+    field = Lengths(data)
+    try:
+        kind, n, _ = field.length()
+    except Refusal as f:
+        return str(f)
+    return "%d %d next %d" % (kind, n, field.at)
+
+
+class Reading(Lengths):
+    """All answers of an input: the events, the first refusal or None, where its message begins, and whether it came behind that message's first event."""
+
+    def __init__(self, data):
+        super().__init__(data)
+        self.start, self.inside, self.events, self.refusal = 0, False, [], None
+        try:
+            while self.at < len(data):
+                self.start, self.inside = self.at, False
+                self.message()
+        except Refusal as f:
+            self.refusal = f
+
+    def line(self):
+        """What `places` answers: behind a refusal three more calls, 10 at the input's length inside a message, no event at its start."""
+        later = str(Refusal(10, len(self.data))) if self.inside else "none"
+        return " | ".join(self.events + (["none"] if self.refusal is None else [str(self.refusal)] + [later] * 3))
 
     # ---- fields
 

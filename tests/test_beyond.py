@@ -1,5 +1,5 @@
-"""Beyond document 01's domain the crate's counts wrap, and ours don't: each such input with our answer, run through bin/replay, and the crate's, run through it where it is at hand.
-Built with overflow checks the crate panics there: that answer is a third column, run where it is at hand. What is not is said to be skipped.
+"""Beyond the domain the crate's counts and lengths wrap, and ours don't: each such input with our answer, run through bin/replay, and the crate's, run through it where it is at hand.
+Built with overflow checks the crate panics where a count wraps: that answer is a third column, run where it is at hand. What is not is said to be skipped.
 
 The first of each group is the last input inside the domain, where all agree. Behind them the shortest inputs of docs/DIFFERENCES.md at which crate and specification differ: all answer alike.
 """
@@ -9,7 +9,7 @@ sys.dont_write_bytecode = True
 os.chdir(os.path.join(os.path.dirname(os.path.abspath(__file__)), ".."))
 sys.path.append("oracle")
 from messages import sealed
-from sml import frame
+from sml import KINDS, frame
 
 B1 = frame(bytes.fromhex("12345678")).hex()
 EOF = " | err UnexpectedEOF"
@@ -63,6 +63,21 @@ for last, n, alone, sealed_, close, entry, both in (
         checked = PANIC if n > 0xFFFFFFFD else said(n) + ours
         LISTS.append(("events " + data.hex(), said(n) + ours, said(n) + (ours if theirs is None else theirs), checked))
 
+# Lengths over 32 bits (document 02, Q-2): the crate keeps the low ones, by a shift that no check sees.
+OVERFLOW = "err InvalidTlf TlfLengthOverflow"
+LENGTHS = [
+    ("leaf oct 8f8f8f8f8f8f8f0f", "err UnexpectedEOF", "err UnexpectedEOF"),
+    ("leaf oct 80808080808080808080800d41", "x41 left 0", "x41 left 0"),
+    ("leaf oct 818080808080808010", "err InvalidTlf TlfNextByteTypeMismatch", "err InvalidTlf TlfNextByteTypeMismatch"),
+    ("leaf oct 818080808080808080", OVERFLOW, "err UnexpectedEOF"),
+    ("leaf oct 818080808080808000", OVERFLOW, "err InvalidTlf TlfLengthUnderflow"),
+    ("leaf time f1808080808080800262016500000007", OVERFLOW, "sec:7 left 0"),
+    # a whole close message to the crate
+    ("events f1808080808080800605dd43440062006200726302017101634c2600", OVERFLOW + NONE, "close tid=xdd434400 group=0 abort=0 sig=- | none"),
+]
+# B14, and a byte of content behind it
+LENGTHS += [("leaf %s 81808080808080800a41" % k, OVERFLOW, "x41 left 0" if k.endswith("oct") else "err TlfMismatch") for k in KINDS]
+
 CRC_WRONG = "close tid=x group=0 abort=0 sig=- | err CrcMismatch" + 3 * EOF
 FOLLOWED = [
     ("leaf time 6500000007", "sec:7 left 0"),
@@ -84,14 +99,13 @@ FOLLOWED = [
     ("push 8 b1b1b1b1b010101011b1b1b1b02000000", "16:escape 02000000"),
     ("push 8 b1b1b1b1b010101011b1b1b1b03000000", "16:escape 03000000"),
     ("push 1 b1b1b1b1b010101011b00", "10:memory"),
-    ("leaf oct 81808080808080800a41", "x41 left 0"),
     ("leaf opt_oct 8002", "x left 0"),
     ("leaf opt_u8 8002", "err TlfMismatch"),
     ("leaf opt_u8 8001", "err InvalidTlf TlfLengthUnderflow"),
     ("leaf oct 01", "x left 0"),
     ("leaf value 01", "oct: left 0"),
 ]
-ROWS, faults = NOISE + LISTS + [(c, a, a, a) for c, a in FOLLOWED], 0
+ROWS, faults = NOISE + LISTS + [(c, o, t, t) for c, o, t in LENGTHS] + [(c, a, a, a) for c, a in FOLLOWED], 0
 GIVEN = "\n".join(row[0] for row in ROWS).encode()
 
 

@@ -10,7 +10,7 @@ os.chdir(os.path.join(os.path.dirname(os.path.abspath(__file__)), ".."))
 from places_reading import BOOLEAN, INTEGER, LIST, NAMES, STRING, UNSIGNED, Reading, crc
 
 SEED, GATE, ALL, BATCH = 20250711, 2500, 200000, 20000
-KINDS = ["TlfInvalidTy", "TlfReserved", "TlfNextByteTypeMismatch", "TlfLengthUnderflow"]  # Q-2 gives TlfLengthOverflow too
+KINDS = ["TlfInvalidTy", "TlfReserved", "TlfNextByteTypeMismatch", "TlfLengthOverflow", "TlfLengthUnderflow"]  # in the order in which they are judged
 faults = []
 
 
@@ -24,6 +24,12 @@ def places(inputs):
 
 
 # ---- messages, right ones
+
+
+def length_bytes(kind, n, k):
+    """A length in k digits, its own bytes counted already."""
+    digits = [n >> 4 * d & 15 | 0x80 * (d > 0) for d in reversed(range(k))]
+    return bytes([digits[0] | kind << 4] + digits[1:])
 
 
 class Draft:
@@ -41,12 +47,8 @@ class Draft:
             k += 1
         if kind != BOOLEAN and self.r.random() < 0.05:
             k += self.r.choice((1, 1, 1, 2, 3, 7, 9))
-        n += k * own
-        if k > 8 and self.r.random() < 0.5:
-            n += self.r.randrange(16 ** (k - 8)) << 32  # as long as low 32 bits are kept
         self.heads.append(len(self.out))
-        digits = [n >> 4 * d & 15 | 0x80 * (d > 0) for d in reversed(range(k))]
-        self.out += bytes([digits[0] | kind << 4] + digits[1:])
+        self.out += length_bytes(kind, n + k * own, k)
 
     def number(self, kind, width, value=None):
         n = self.r.randint(1 if value is None else max(1, (value.bit_length() + 7) // 8), width)
@@ -152,10 +154,35 @@ def other_length(r, b):
     return r.choice((r.randrange(256), b & 0x8F | r.randrange(8) << 4, b & 0xF0 | (b + r.choice((-1, 1))) & 15, b ^ 0x80, r.choice(b"\x00\x01\x10\x41\x42\x80\x90\xc0\xc2\xf0\xff")))
 
 
+def too_long(r, s, at):
+    """Another length for the element at this place: over 32 bits, or the last that is not. Often the input ends before or behind the byte that makes it so, or that byte or the next has a type."""
+    kind, old = s[at] >> 4 & 7, 1
+    while s[at + old - 1] > 127:
+        old += 1
+    k, zeros = r.choice((9, 9, 9, 10, 12, 17)), r.choice((0, 0, 0, 1, 6))
+    # by one, far over, or so that its low 32 bits are the length that stood there
+    low = int(bytes(s[at : at + old]).hex()[1::2], 16) + (k + zeros - old) * (kind != LIST)
+    n = r.choice((2**32 - 1, 2**32, r.randrange(2**32, 16**k), (r.randrange(1, 16 ** (k - 8)) << 32) + low))
+    s[at : at + old] = length_bytes(kind, n, k + zeros)
+    # the ninth digit makes it so, counted from the first that is not 0
+    b = at + k + zeros - len("%x" % n) + 8
+    way = r.choice(("none", "none", "none", "cut", "last", "more", "type", "later type"))
+    if way == "cut":
+        del s[b:]
+    elif way in ("last", "more"):
+        s[b:] = bytes([s[b] & 0x7F | 0x80 * (way == "more")])
+    elif way == "type":
+        s[b] |= r.randrange(1, 8) << 4
+    elif way == "later type":
+        s[b] |= 0x80
+        s[b + 1] |= r.randrange(1, 8) << 4
+
+
 def broken(r):
     """Bytes that began as messages."""
     d = Draft(r)
-    s, way = bytearray(d.out), r.choice(("none", "cut", "cut", "byte", "bit", "insert", "remove", "length", "length", "length", "more lengths", "later length", "tag", "crc", "crc length", "end", "sealed", "followed", "swapped"))
+    ways = "none", "cut", "cut", "byte", "bit", "insert", "remove", "length", "length", "length", "more lengths", "later length", "too long", "too long", "too long", "tag", "crc", "crc length", "end", "sealed", "followed", "swapped"
+    s, way = bytearray(d.out), r.choice(ways)
     k, at = r.randrange(len(s)), r.choice(d.heads)
     start, head, sum_ = r.choice(d.crcs)
     if way == "cut":
@@ -178,6 +205,8 @@ def broken(r):
         while s[at] > 127 and r.random() < 0.7:
             at += 1
         s[at] = other_length(r, s[at])
+    elif way == "too long":
+        too_long(r, s, at)
     elif way == "tag":
         # its length byte, its content's last byte or the one behind it; a message's tag, or more often a time's or a list value's
         at = r.choice(d.tags if r.random() < 0.4 else d.times or d.tags)
@@ -248,11 +277,11 @@ def judged(s, said):
     n, more = 0, True
     while said.number != 15 and more:
         more, n, behind = s[behind] > 127, 16 * n + s[behind] % 16, behind + 1
-        if said.kind in ("TlfInvalidTy", "TlfReserved") or said.kind == "TlfNextByteTypeMismatch" and behind > at + 1 and s[behind - 1] & 0x70:
+        if said.kind in ("TlfInvalidTy", "TlfReserved") or said.kind == "TlfNextByteTypeMismatch" and behind > at + 1 and s[behind - 1] & 0x70 or said.kind == "TlfLengthOverflow" and n > 4294967295:
             return behind
     # a number's length counts its length bytes; behind a CRC stands the end byte
-    behind = {13: at + n % 2**32, 14: at + n % 2**32 + 1, 15: at + 1}.get(said.number, behind)
-    if not at < behind <= len(s):
+    behind = {13: at + n, 14: at + n + 1, 15: at + 1}.get(said.number, behind)
+    if not at < behind <= len(s) or said.kind not in (None, "TlfLengthUnderflow"):
         raise IndexError
     return behind
 
@@ -319,7 +348,7 @@ def held(batch):
         elif said.refusal:
             numbers[said.number] += 1
             kinds[said.kind] += 1
-            sides.add((said.number, said.later[0] == "none"))
+            sides.update((what, said.later[0] == "none") for what in (said.number, said.kind))
             try:
                 made += [(law, cut, wanted, s, said) for law, cut, wanted in laws(r, s, said, reading.start)]
             except IndexError:
@@ -344,18 +373,17 @@ if batch:
     held(batch)
 LAST = 10**9  # told behind faults that have an input
 if count >= GATE:
-    # each number at a message's start and inside one, but for 14 and 15, the trailer's, which stands behind an event; each kind of 11
-    missing = [f"no {n} {side} in this run" for n in NAMES for side in ("at a start", "inside a message") if (n, side == "at a start") not in sides and (n < 14 or side != "at a start")]
-    faults += [(LAST, m) for m in missing + [f"no {k} in this run" for k in KINDS if not kinds[k]]]
+    # each number and each kind of 11 at a message's start and inside one, but for 14 and 15, the trailer's, which stands behind an event
+    faults += [(LAST, f"no {w} {side} in this run") for w in [*NAMES, *KINDS] for side in ("at a start", "inside a message") if (w, side == "at a start") not in sides and (w not in (14, 15) or side != "at a start")]
 faults += [(LAST, f"{k} is given") for k in kinds if k not in KINDS + [None]]
 
 # ---- the page
 
 page = open("docs/PLACES.md", encoding="utf-8").read()
 examples = re.findall(r"^    > places (\w+)\n    (.*)$", page, re.M)
-shown = re.findall(r"^\| `(Tlf\w+)` \| .* \| (?:`(\w+)`|–) \|$", page, re.M)
-examples += [(h, f"err InvalidTlf {kind} 11 @0 | none | none | none") for kind, h in shown if h]
-if len(re.findall(r"^ *> ", page, re.M)) + len(KINDS) != len(examples) or [k for k, h in shown if h] != KINDS:
+shown = re.findall(r"^\| `(Tlf\w+)` \| .* \| `(\w+)` \|$", page, re.M)
+examples += [(h, f"err InvalidTlf {kind} 11 @0 | none | none | none") for kind, h in shown]
+if len(re.findall(r"^ *> ", page, re.M)) + len(KINDS) != len(examples) or [k for k, _ in shown] != KINDS:
     faults.append((LAST, "docs/PLACES.md: an example or a kind of 11 is not in its form"))
 for (h, answer), said in zip(examples, places([bytes.fromhex(h) for h, _ in examples])):
     if said != answer:

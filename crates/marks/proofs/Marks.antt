@@ -1,4 +1,5 @@
 -- All that is claimed, together.
+use Rattle.tlf.proofs.Overflow.{overflows}
 use Rattle.places.proofs.Readers.{readers}
 use Rattle.places.proofs.Fakes.{fall-readers}
 use Rattle.marks.specs.Marks.{Marks}
@@ -32,6 +33,7 @@ marks =
       parser-goes-on = parser-goes-on;
       reader-lists = reader-lists;
       parser-lists = parser-lists;
+      overflows = overflows;
       readers = readers;
       reader-says-where = reader-says-where;
       parser-says-where = parser-says-where;

@@ -1,4 +1,4 @@
--- check: the bench sheet of document 01, B1 to B14, as one table of inputs and outcomes.
+-- check: the bench sheet of document 01, B1 to B14, as one table of inputs and outcomes; B14 as document 02 (Q-2) has it.
 use mathlib.Core.Path.{_≡_}
 use mathlib.Core.List.{List, [], _∷_, _++_, map}
 use mathlib.Core.Option.{Option, some}
@@ -108,7 +108,7 @@ wrongEscape = 0x1b ∷ 0x1b ∷ 0x1b ∷ 0x1b ∷ 0x01 ∷ 0x01 ∷ 0x01 ∷ 0x0
 abbrev pub stringOf : ℕ → ℕ → Outcome
 stringOf n next = sheetField (got (record { ty = OctetString; len = n }) next)
 
--- refused by document 01's number, of an 11 the kind (2 reserved, 3 underflow, 4 next byte's type, 5 type), at a place
+-- refused by document 01's number, of an 11 the kind (1 overflow, 2 reserved, 3 underflow, 4 next byte's type, 5 type), at a place
 abbrev pub refusedAs : ℕ → ℕ → ℕ → Refusal
 refusedAs number kind place = record { number = number; kind = kind; place = place }
 
@@ -149,7 +149,7 @@ sheet =
     ∷ row 11 (lengthField (0x81 ∷ 0x82 ∷ [])) (sheetField (L.refused (refusedAs 10 0 2)))
     ∷ row 12 (asI32 (0x52 ∷ 0xff ∷ [])) (sheetSigned (got (negsuc 0) 2))
     ∷ row 13 (asU8 (0x63 ∷ 0x00 ∷ 0x05 ∷ [])) (sheetUnsigned (L.refused (refusedAs 12 0 0)))
-    ∷ row 14 (lengthField (0x81 ∷ 0x80 ∷ 0x80 ∷ 0x80 ∷ 0x80 ∷ 0x80 ∷ 0x80 ∷ 0x80 ∷ 0x0a ∷ [])) (stringOf 1 9)
+    ∷ row 14 (lengthField (0x81 ∷ 0x80 ∷ 0x80 ∷ 0x80 ∷ 0x80 ∷ 0x80 ∷ 0x80 ∷ 0x80 ∷ 0x0a ∷ [])) (sheetField (L.refused (refusedAs 11 1 0)))
     ∷ []
 
 -- a row holds of a decoder and an encode; the whole sheet does

@@ -7,6 +7,8 @@ use Rattle.refusals.specs.Numbers.{limit}
 use Rattle.decoder.specs.Run.{Op}
 use Rattle.decoder.specs.declared.Decoder.{Decoder}
 use Rattle.decoder.specs.declared.Setup.{Setup}
+use Rattle.tlf.specs.Lengths.{tlfAt}
+use Rattle.tlf.specs.Overflow.{Overflows}
 use Rattle.places.specs.Readers.{Readers}
 use Rattle.places.specs.Fakes.{FallReaders}
 use Rattle.marks.specs.Decided.{Views, Decided}
@@ -46,6 +48,8 @@ pub record Marks : Type 0 where
   pub parser-goes-on : GoesOn ourParser parserWith
   pub reader-lists : ListsEntries ourReader
   pub parser-lists : ListsEntries ourParser
+  -- a length that passes 32 bits is refused, and no other is refused so
+  pub overflows : Overflows tlfAt
   -- a refusal says where it broke: of every reader, of the calls on an input, of one call from any numbers; and what that is false of
   pub readers : Readers
   pub reader-says-where : SaysWhere ourReader

@@ -11,11 +11,11 @@ use lib.Seq.{length-take-le, getD-at}
 use borrow.Author.Tests.{leb-true, leb-false, lt-ltb}
 use Rattle.refusals.specs.Numbers.{unexpectedEofNo}
 use Rattle.refusals.specs.Read.{Read, got, refused, Refusal, then, guard, need, eof, invalidTlf, byteAt}
-use Rattle.refusals.specs.Answers.{reserved, underflow, nextType, invalidTy}
-use Rattle.tlf.specs.Lengths.{moreFollow, typeBits, lengthBits, tyOf, isList, isBoolean, longer, lengthFrom, lessOwn, tlfAt}
+use Rattle.refusals.specs.Answers.{overflow, reserved, underflow, nextType, invalidTy}
+use Rattle.tlf.specs.Lengths.{moreFollow, typeBits, lengthBits, tyOf, isList, isBoolean, longer, longest, lengthFrom, lessOwn, tlfAt}
 use Rattle.tlf.specs.declared.Ty.{Ty}
 use Rattle.tlf.specs.declared.TypeLengthField.{TypeLengthField}
-use Rattle.tlf.proofs.Lengths.{length-stop, length-cut, length-next}
+use Rattle.tlf.proofs.Lengths.{lengthRest, headFrom, head-is, length-stop, length-cut, length-next}
 use Rattle.tlf.proofs.Ends.{tlf-end}
 use Rattle.places.specs.Stands.{SameBefore}
 use Rattle.places.specs.Readers.{LengthRefusal, endOfInput, badLengthBytes, NotTen}
@@ -40,25 +40,22 @@ fixed-refused s n f h = record { seen = record { behind = n; low = omega arith; 
 
 -- ---- the bytes behind the first
 
-lengthOf : ℕ → ℕ → Bool → ℕ → List ℕ → Read ℕ
-lengthOf at i more len t = lengthFrom (length t) at (drop i t) i more len
-
 -- more follow, and the input ends
-length-short : (s : List ℕ) (at i len m : ℕ) → m ≤ length s → m ≤ i → lengthOf at i true len (take m s) ≡ refused (eof m)
-unfolding lengthOf
+length-short : (s : List ℕ) (at i len m : ℕ) → m ≤ length s → m ≤ i → lengthRest at i true len (take m s) ≡ refused (eof m)
+unfolding lengthRest
 length-short s at i len m h k = length-cut (take m s) at i len (omega (arith, length-take-le m s h)) ∙ cut-eof s m h
 
 -- more follow: the byte at i is judged, and what is behind it goes on
-length-on : (s : List ℕ) (at i len : ℕ) (b : Bool) → i < length s → eqb (typeBits (getD s i 0)) 0 ≡ b → (t : List ℕ) → SameBefore (i + 1) s t
-    → lengthOf at i true len t ≡ guard b (nextType at) (lengthOf at (i + 1) (moreFollow (getD s i 0)) (longer len (getD s i 0)) t)
-unfolding lengthOf
-length-on s at i len b h e t w = rw (length-next t at i len (omega (arith, same-long (omega arith) w)), same-byte i (omega arith) w, e)
+length-on : (s : List ℕ) (at i len : ℕ) (b c : Bool) → i < length s → eqb (typeBits (getD s i 0)) 0 ≡ b → leb (longer len (getD s i 0)) longest ≡ c → (t : List ℕ) → SameBefore (i + 1) s t
+    → lengthRest at i true len t ≡ guard b (nextType at) (guard c (overflow at) (lengthRest at (i + 1) (moreFollow (getD s i 0)) (longer len (getD s i 0)) t))
+unfolding lengthRest
+length-on s at i len b c h e k t w = rw (length-next t at i len (omega (arith, same-long (omega arith) w)), same-byte i (omega arith) w, e, k)
 
 LengthSeen : List ℕ → ℕ → ℕ → Bool → ℕ → Type 0
-LengthSeen s at i more len = Seen (HeadWrong s at) (lengthOf at i more len) s i (lengthOf at i more len s)
+LengthSeen s at i more len = Seen (HeadWrong s at) (lengthRest at i more len) s i (lengthRest at i more len s)
 
 length-done : (s : List ℕ) (at i len : ℕ) → i ≤ length s → LengthSeen s at i false len
-unfolding lengthOf LengthSeen
+unfolding lengthRest LengthSeen
 length-done s at i len h =
     rw (length-stop (length s) at (drop i s) i len)
     (record {
@@ -73,25 +70,28 @@ length-done s at i len h =
     })
 
 length-over : (s : List ℕ) (at i : ℕ) (more : Bool) (len : ℕ) → length s ≡ i → LengthSeen s at i more len
-unfolding lengthOf LengthSeen
+unfolding lengthRest LengthSeen
 length-over s at i false len h = length-done s at i len (omega arith)
 length-over s at i true len h =
     rw (length-cut s at i len (omega arith))
     (record { seen = record { behind = length s + 1; low = omega arith; looked = looked-over _ s i (λ m p j. length-short s at i len m j (omega arith)); what = noHead } })
 
 length-more : (s : List ℕ) (at i : ℕ) (more : Bool) (len : ℕ) → at < i → i < length s → LengthSeen s at (i + 1) (moreFollow (getD s i 0)) (longer len (getD s i 0)) → LengthSeen s at i more len
-unfolding lengthOf LengthSeen guard
+unfolding lengthRest LengthSeen guard
 length-more s at i false len o h next = length-done s at i len (omega arith)
-length-more s at i true len o h next = by (eqb (typeBits (getD s i 0)) 0) refl
+length-more s at i true len o h next = by (eqb (typeBits (getD s i 0)) 0) (leb (longer len (getD s i 0)) longest) refl refl
   where
-    on : (b : Bool) → eqb (typeBits (getD s i 0)) 0 ≡ b → Onward (lengthOf at i true len) (λ t. guard b (nextType at) (lengthOf at (i + 1) (moreFollow (getD s i 0)) (longer len (getD s i 0)) t)) s i (i + 1)
-    on b e = record { low = omega arith; cut = λ m p k j. length-short s at i len m j (omega arith); goes-on = length-on s at i len b h e }
+    on : (b c : Bool) → eqb (typeBits (getD s i 0)) 0 ≡ b → leb (longer len (getD s i 0)) longest ≡ c
+        → Onward (lengthRest at i true len) (λ t. guard b (nextType at) (guard c (overflow at) (lengthRest at (i + 1) (moreFollow (getD s i 0)) (longer len (getD s i 0)) t))) s i (i + 1)
+    on b c e k = record { low = omega arith; cut = λ m p q j. length-short s at i len m j (omega arith); goes-on = length-on s at i len b c h e k }
 
-    by : (b : Bool) → eqb (typeBits (getD s i 0)) 0 ≡ b → LengthSeen s at i true len
-    by true e = rw (length-on s at i len true h e s (same-all (i + 1) s)) (seen-on _ (on true e) (λ f q n w. w) next)
-    by false e =
-        rw (length-on s at i len false h e s (same-all (i + 1) s))
-        (seen-on _ (on false e) (λ f q n w. w) (fixed-refused s (i + 1) (nextType at) (badHead _ (i + 1) (omega arith) (omega arith))))
+    bad : (f : Refusal) → HeadWrong s at f (i + 1) → Seen {A = ℕ} (HeadWrong s at) (λ t. refused f) s (i + 1) (refused f)
+    bad f w = fixed-refused s (i + 1) f w
+
+    by : (b c : Bool) → eqb (typeBits (getD s i 0)) 0 ≡ b → leb (longer len (getD s i 0)) longest ≡ c → LengthSeen s at i true len
+    by true true e k = rw (length-on s at i len true true h e k s (same-all (i + 1) s)) (seen-on _ (on true true e k) (λ f q n w. w) next)
+    by true false e k = rw (length-on s at i len true false h e k s (same-all (i + 1) s)) (seen-on _ (on true false e k) (λ f q n w. w) (bad (overflow at) (badHead _ (i + 1) (omega arith) (omega arith))))
+    by false c e k = rw (length-on s at i len false c h e k s (same-all (i + 1) s)) (seen-on _ (on false c e k) (λ f q n w. w) (bad (nextType at) (badHead _ (i + 1) (omega arith) (omega arith))))
 
 length-seen : (d : ℕ) (s : List ℕ) (at i : ℕ) (more : Bool) (len : ℕ) → at < i → length s ≡ i + d → LengthSeen s at i more len
 length-seen zero s at i more len o h = length-over s at i more len (omega arith)
@@ -110,24 +110,12 @@ own-seen s ty own len at n h k = by (isList ty) (leb own len)
     by false true = fixed-got s n _ k
     by false false = fixed-refused s n (underflow at) (badHead _ n (omega arith) h)
 
--- what follows the first byte, b
-headFrom : ℕ → ℕ → List ℕ → Read TypeLengthField
-headFrom at b t =
-    need (tyOf (typeBits b)) (invalidTy at) λ ty.
-    guard (not (isBoolean ty && moreFollow b)) (reserved at)
-    (then (lengthOf at (at + 1) (moreFollow b) (lengthBits b) t) λ len end.
-    lessOwn ty (end - at) len at end)
-
-head-is : (t : List ℕ) (at b : ℕ) → at < length t → getD t at 0 ≡ b → tlfAt t at ≡ headFrom at b t
-unfolding tlfAt byteAt then guard headFrom lengthOf
-head-is t at b h e = rw (lt-ltb at (length t) h, e)
-
 head-seen : (s : List ℕ) (at b : ℕ) → at < length s → Seen (HeadWrong s at) (headFrom at b) s (at + 1) (headFrom at b s)
 unfolding headFrom need guard LengthSeen
 head-seen s at b h = by (tyOf (typeBits b))
   where
     rest : Ty → List ℕ → Read TypeLengthField
-    rest ty t = then (lengthOf at (at + 1) (moreFollow b) (lengthBits b) t) λ len end. lessOwn ty (end - at) len at end
+    rest ty t = then (lengthRest at (at + 1) (moreFollow b) (lengthBits b) t) λ len end. lessOwn ty (end - at) len at end
 
     on : (ty : Ty) (c : Bool) → Seen (HeadWrong s at) (λ t. guard c (reserved at) (rest ty t)) s (at + 1) (guard c (reserved at) (rest ty s))
     on ty true = seen-then _ (λ len end t. lessOwn ty (end - at) len at end) s (at + 1) (length-seen (length s - (at + 1)) s at (at + 1) _ _ (omega arith) (omega arith)) (λ len end e l k. own-seen s ty (end - at) len at end (omega arith) k)
@@ -192,8 +180,8 @@ unfolding guard
 not-ten-guard true f r h g = g
 not-ten-guard false f r h g = h
 
-length-told : (d : ℕ) (s : List ℕ) (at i : ℕ) (more : Bool) (len : ℕ) → length s ≡ i + d → NotTen (lengthOf at i more len (s ++ 0x10 ∷ []))
-unfolding lengthOf guard
+length-told : (d : ℕ) (s : List ℕ) (at i : ℕ) (more : Bool) (len : ℕ) → length s ≡ i + d → NotTen (lengthRest at i more len (s ++ 0x10 ∷ []))
+unfolding lengthRest guard
 length-told zero s at i more len h = by more
   where
     u : List ℕ
@@ -215,9 +203,13 @@ length-told (suc d) s at i more len h = by more (λ m k. length-told d s at (i +
     l : length u ≡ length s + 1
     l = length-append s (0x10 ∷ [])
 
-    by : (b : Bool) → ((m : Bool) (k : ℕ) → NotTen (lengthOf at (i + 1) m k u)) → NotTen (lengthFrom (length u) at (drop i u) i b len)
+    by : (b : Bool) → ((m : Bool) (k : ℕ) → NotTen (lengthRest at (i + 1) m k u)) → NotTen (lengthFrom (length u) at (drop i u) i b len)
     by false next = subst (λ (r : Read ℕ). NotTen r) (sym (length-stop (length u) at (drop i u) i len)) tt
-    by true next = rw (length-next u at i len (omega (arith, l))) (not-ten-guard (eqb (typeBits (getD u i 0)) 0) (nextType at) (lengthOf at (i + 1) (moreFollow (getD u i 0)) (longer len (getD u i 0)) u) (λ (n : _≡_ {A = ℕ} 11 10). omega (arith, n)) (next (moreFollow (getD u i 0)) (longer len (getD u i 0))))
+    by true next =
+        rw (length-next u at i len (omega (arith, l)))
+        (not-ten-guard (eqb (typeBits (getD u i 0)) 0) (nextType at) _ (λ (n : _≡_ {A = ℕ} 11 10). omega (arith, n))
+        (not-ten-guard (leb (longer len (getD u i 0)) longest) (overflow at) (lengthRest at (i + 1) (moreFollow (getD u i 0)) (longer len (getD u i 0)) u) (λ (n : _≡_ {A = ℕ} 11 10). omega (arith, n))
+        (next (moreFollow (getD u i 0)) (longer len (getD u i 0)))))
 
 own-told : (ty : Ty) (own len at n : ℕ) → NotTen (lessOwn ty own len at n)
 unfolding lessOwn
@@ -231,7 +223,7 @@ head-told : (s : List ℕ) (at b : ℕ) → at < length s → NotTen (headFrom a
 unfolding headFrom need
 head-told s at b h = by (tyOf (typeBits b))
   where
-    by : (o : Option Ty) → NotTen (need o (invalidTy at) λ ty. guard (not (isBoolean ty && moreFollow b)) (reserved at) (then (lengthOf at (at + 1) (moreFollow b) (lengthBits b) (s ++ 0x10 ∷ [])) λ len end. lessOwn ty (end - at) len at end))
+    by : (o : Option Ty) → NotTen (need o (invalidTy at) λ ty. guard (not (isBoolean ty && moreFollow b)) (reserved at) (then (lengthRest at (at + 1) (moreFollow b) (lengthBits b) (s ++ 0x10 ∷ [])) λ len end. lessOwn ty (end - at) len at end))
     by (some ty) =
         not-ten-guard _ (reserved at) _ (λ (n : _≡_ {A = ℕ} 11 10). omega (arith, n)) (not-ten-then _ _ (length-told (length s - (at + 1)) s at (at + 1) _ _ (omega arith)) (λ len end. own-told ty (end - at) len at end))
     by none = λ (n : _≡_ {A = ℕ} 11 10). omega (arith, n)

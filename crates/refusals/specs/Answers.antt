@@ -20,6 +20,9 @@ kindOf TlfLengthUnderflow = 3
 kindOf TlfNextByteTypeMismatch = 4
 kindOf TlfInvalidTy = 5
 
+abbrev pub overflow : ℕ → Refusal
+overflow at = invalidTlf (kindOf TlfLengthOverflow) at
+
 abbrev pub reserved : ℕ → Refusal
 reserved at = invalidTlf (kindOf TlfReserved) at
 

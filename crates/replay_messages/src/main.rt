@@ -1,6 +1,7 @@
-// The commands of messages, one a line, and an answer of one line each (docs/REPLAY.md): events, places and leaf. A line that is none of them is answered `bad command`.
+// The commands of messages, one a line, and an answer of one line each (docs/REPLAY.md): events, places, leaf and tlf. A line that is none of them is answered `bad command`.
 mod events;
 mod fields;
+mod head;
 mod leaf;
 mod line;
 
@@ -14,7 +15,7 @@ use line::with_bytes;
 
 pub(crate) fn command(s: &[u8]) {
     let rest = behind(s, b' ');
-    match find(b"events,places,leaf", first(s, b' ')) {
+    match find(b"events,places,leaf,tlf", first(s, b' ')) {
         2 => with_bytes(2, leaf::kind_of(first(rest, b' ')), behind(rest, b' ')),
         which => with_bytes(which, 0, rest),
     }
@@ -26,6 +27,7 @@ pub(crate) fn of_bytes(which: u8, kind: usize, input: &[u8]) {
         0 => events::both_events(input, false),
         1 => events::both_events(input, true),
         2 => leaf::field(kind, input),
+        3 => head::length_field(input),
         _ => bad(),
     }
 }

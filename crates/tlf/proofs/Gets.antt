@@ -11,7 +11,7 @@ use lib.Dec.{ltb, leb, eqb, lit<}
 use borrow.Author.Tests.{lt-ltb, le-leb, lt-leb, eq-eqb}
 use Rattle.refusals.specs.Read.{Read, got, then, guard, need, byteAt}
 use Rattle.refusals.proofs.Rest.{Rest, Gets, Reads, Is, rest-length, rest-skip, rest-byte, rest-next, gets-got, gets-is, gets-guard}
-use Rattle.tlf.specs.Lengths.{tyOf, isList, isBoolean, isListOf, longer, lengthFrom, lessOwn, tlfAt, listOfAt}
+use Rattle.tlf.specs.Lengths.{tyOf, isList, isBoolean, isListOf, longer, longest, lengthFrom, lessOwn, tlfAt, listOfAt}
 use Rattle.tlf.specs.declared.Ty.{Ty}
 use Rattle.tlf.specs.declared.Ty.the-variants.{OctetString, Boolean, Integer, Unsigned, ListOf}
 use Rattle.tlf.specs.declared.TypeLengthField.{TypeLengthField}
@@ -51,7 +51,7 @@ len-last : (end start w i : ℕ) (l : List ℕ) → w < 2 ^ 32 → lengthFrom en
 unfolding lengthFrom guard
 len-last end start w i l h =
     let e : longer (w / 16) (0 + w % 16) ≡ w = omega arith in
-    rw (eq-eqb ((0 + w % 16) / 16 % 8) 0 (omega arith), lt-leb 128 (0 + w % 16) (omega arith), e) (length-stop end start l (i + 1) w)
+    rw (eq-eqb ((0 + w % 16) / 16 % 8) 0 (omega arith), e, le-leb w longest (omega arith), lt-leb 128 (0 + w % 16) (omega arith)) (length-stop end start l (i + 1) w)
 
 low-four : (d : ℕ) → d < 16 → (128 + d) / 16 % 8 ≡ 0
 low-four d h = let e : (128 + d) / 16 ≡ 8 = omega arith in rw e
@@ -60,7 +60,7 @@ len-more : (end start w i : ℕ) (l : List ℕ) → w < 2 ^ 32 → lengthFrom en
 unfolding lengthFrom guard
 len-more end start w i l h =
     let e : longer (w / 16) (128 + w % 16) ≡ w = omega arith in
-    rw (eq-eqb ((128 + w % 16) / 16 % 8) 0 (low-four (w % 16) (omega arith)), le-leb 128 (128 + w % 16) (omega arith), e)
+    rw (eq-eqb ((128 + w % 16) / 16 % 8) 0 (low-four (w % 16) (omega arith)), e, le-leb w longest (omega arith), le-leb 128 (128 + w % 16) (omega arith))
 
 len-reads : (end start k v i : ℕ) (l : List ℕ) → v < 2 ^ 32
     → lengthFrom end start (lengthBytes (suc k) v ++ l) i true (v / 16 ^ suc k) ≡ got v (i + suc k)

@@ -1,17 +1,35 @@
 -- Laws of the length rules: one step of the reading, and where it ends.
 use mathlib.Core.Path.{_≡_, refl}
 use mathlib.Core.List.{List, [], _∷_}
-use mathlib.Core.Bool.{Bool, true, false}
+use mathlib.Core.Bool.{Bool, true, false, not, _&&_}
 use Prim.Native.Nat.{ℕ, _+_, _-_, _^_, _≤_, _<_}
 use native.Mathlib.Omega.{arith}
 use lib.ListN.{length, getD, drop, drop-of-length-le, length-drop}
-use lib.Dec.{eqb}
-use Rattle.refusals.specs.Read.{Read, got, refused, guard, eof}
-use Rattle.refusals.specs.Answers.{nextType}
+use lib.Dec.{leb, eqb}
+use borrow.Author.Tests.{leb-true, lt-ltb}
+use Rattle.refusals.specs.Read.{Read, got, refused, then, guard, need, eof, byteAt}
+use Rattle.refusals.specs.Answers.{overflow, reserved, nextType, invalidTy}
 use Rattle.refusals.proofs.Places.{from-place}
 use Rattle.refusals.proofs.Read.{Ok, ok-got, ok-guard, ok-cond, ok-weak, ok-then, ok-need, Ahead, byte-ok}
-use Rattle.tlf.specs.Lengths.{moreFollow, typeBits, longer, lengthFrom, lessOwn, isList, tlfAt, listOfAt}
+use Rattle.tlf.specs.Lengths.{moreFollow, typeBits, lengthBits, tyOf, longer, longest, lengthFrom, lessOwn, isList, isBoolean, tlfAt, listOfAt}
 use Rattle.tlf.specs.declared.Ty.{Ty}
+use Rattle.tlf.specs.declared.TypeLengthField.{TypeLengthField}
+
+-- the length of the element at `at`, of which the bytes before i are read: `len` so far
+unfoldable pub lengthRest : ℕ → ℕ → Bool → ℕ → List ℕ → Read ℕ
+lengthRest at i more len s = lengthFrom (length s) at (drop i s) i more len
+
+-- type and length at a place whose byte is b
+unfoldable pub headFrom : ℕ → ℕ → List ℕ → Read TypeLengthField
+headFrom at b s =
+    need (tyOf (typeBits b)) (invalidTy at) λ ty.
+    guard (not (isBoolean ty && moreFollow b)) (reserved at)
+    (then (lengthRest at (at + 1) (moreFollow b) (lengthBits b) s) λ len end.
+    lessOwn ty (end - at) len at end)
+
+pub head-is : (s : List ℕ) (at b : ℕ) → at < length s → getD s at 0 ≡ b → tlfAt s at ≡ headFrom at b s
+unfolding tlfAt byteAt then guard headFrom lengthRest
+head-is s at b h e = rw (lt-ltb at (length s) h, e)
 
 -- no more follow
 pub length-stop : (end start : ℕ) (bs : List ℕ) (at len : ℕ) → lengthFrom end start bs at false len ≡ got len at
@@ -28,7 +46,8 @@ length-cut s start i len h = rw (drop-of-length-le s h)
 pub length-next : (s : List ℕ) (start i len : ℕ) → i < length s
     → lengthFrom (length s) start (drop i s) i true len
     ≡ guard (eqb (typeBits (getD s i 0)) 0) (nextType start)
-    (lengthFrom (length s) start (drop (i + 1) s) (i + 1) (moreFollow (getD s i 0)) (longer len (getD s i 0)))
+    (guard (leb (longer len (getD s i 0)) longest) (overflow start)
+    (lengthFrom (length s) start (drop (i + 1) s) (i + 1) (moreFollow (getD s i 0)) (longer len (getD s i 0))))
 unfolding lengthFrom
 length-next s start i len h = rw (from-place s i h)
 
@@ -38,8 +57,8 @@ unfolding lengthFrom
 length-ok end start [] i more len = ok-cond more _ _ (λ e. record { holds = tt }) (λ e. ok-got _ _ (omega arith))
 length-ok end start (b ∷ bs) i more len =
     ok-cond more _ _
-    (λ e. ok-guard _ _ _ (λ e′.
-    ok-weak (λ v n (h : (i + 1 ≤ n) × (n ≤ i + 1 + length bs)). omega arith) (length-ok end start bs (i + 1) (moreFollow b) (longer len b))))
+    (λ e. ok-guard _ _ _ (λ e₁. ok-guard _ _ _ (λ e₂.
+    ok-weak (λ v n (h : (i + 1 ≤ n) × (n ≤ i + 1 + length bs)). omega arith) (length-ok end start bs (i + 1) (moreFollow b) (longer len b)))))
     (λ e. ok-got _ _ (omega arith))
 
 less-own-ok : (ty : Ty) (own len start next : ℕ) → Ok (λ t n. n ≡ next) (lessOwn ty own len start next)
@@ -63,13 +82,15 @@ len-small : (end start : ℕ) (bs : List ℕ) (i : ℕ) (more : Bool) (len : ℕ
 unfolding lengthFrom
 len-small end start [] i more len h = ok-cond more _ _ (λ e. record { holds = tt }) (λ e. ok-got _ _ h)
 len-small end start (b ∷ bs) i more len h =
-    ok-cond more _ _ (λ e. ok-guard _ _ _ (λ e′. len-small end start bs (i + 1) (moreFollow b) (longer len b) (omega arith))) (λ e. ok-got _ _ h)
+    ok-cond more _ _
+    (λ e. ok-guard _ _ _ (λ e₁. ok-guard _ _ _ (λ e₂. len-small end start bs (i + 1) (moreFollow b) (longer len b) (omega (arith, leb-true (longer len b) longest e₂)))))
+    (λ e. ok-got _ _ h)
 
 own-small : (ty : Ty) (own len start next : ℕ) → len < 2 ^ 32 → Ok (λ t n. t .len < 2 ^ 32) (lessOwn ty own len start next)
 unfolding lessOwn
 own-small ty own len start next h = ok-cond (isList ty) _ _ (λ e. ok-got _ _ h) (λ e. ok-guard _ _ _ (λ e′. ok-got _ _ (omega arith)))
 
--- a length keeps to its low 32 bits
+-- a length fits in 32 bits
 pub tlf-small : (s : List ℕ) (at : ℕ) → Ok (λ t n. t .len < 2 ^ 32) (tlfAt s at)
 unfolding tlfAt
 tlf-small s at =

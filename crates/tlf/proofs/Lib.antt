@@ -2,5 +2,8 @@ pub mod Lengths
 pub mod Short
 pub mod Gets
 pub mod Ends
+pub mod Overflow
+pub mod Wrapped
+pub mod Examples
 pub mod Decided
 pub mod Wrong

@@ -1,12 +1,12 @@
--- rule: the length rules of document 01.
-use Prim.Native.Nat.{ℕ, _+_, _*_, _/_, _%_, _^_, _-_}
+-- rule: the length rules of document 01, and what document 02 (Q-2) says of lengths over 32 bits.
+use Prim.Native.Nat.{ℕ, _+_, _*_, _/_, _%_, _-_}
 use mathlib.Core.List.{List, [], _∷_}
 use mathlib.Core.Bool.{Bool, true, false, cond, not, _&&_}
 use mathlib.Core.Option.{Option, some, none}
 use lib.ListN.{length, drop}
 use lib.Dec.{leb, eqb}
 use Rattle.refusals.specs.Read.{Read, got, refused, then, guard, need, eof, invalidTlf, mismatch, byteAt}
-use Rattle.refusals.specs.Answers.{reserved, underflow, nextType, invalidTy}
+use Rattle.refusals.specs.Answers.{overflow, reserved, underflow, nextType, invalidTy}
 use Rattle.tlf.specs.declared.Ty.{Ty}
 use Rattle.tlf.specs.declared.Ty.the-variants.{OctetString, Boolean, Integer, Unsigned, ListOf}
 use Rattle.tlf.specs.declared.TypeLengthField.{TypeLengthField}
@@ -50,9 +50,13 @@ isBoolean ListOf = false
 abbrev pub isListOf : ℕ → TypeLengthField → Bool
 isListOf n t = isList (t .ty) && eqb (t .len) n
 
--- times 16 plus the next four bits, low 32 bits kept
+-- times 16 plus the next four bits
 abbrev pub longer : ℕ → ℕ → ℕ
-longer len b = (len * 16 + lengthBits b) % 2 ^ 32
+longer len b = len * 16 + lengthBits b
+
+-- a length that passes this while it is being built is refused
+abbrev pub longest : ℕ
+longest = 4294967295
 
 -- the length of the element at `start`, from `len` on: while more follow, one more byte is taken of `bs`, which stand at `at` and end where the input does
 unfoldable pub lengthFrom : ℕ → ℕ → List ℕ → ℕ → Bool → ℕ → Read ℕ
@@ -60,7 +64,8 @@ lengthFrom end start [] at more len = cond more (refused (eof end)) (got len at)
 lengthFrom end start (b ∷ bs) at more len =
     cond more
     (guard (eqb (typeBits b) 0) (nextType start)
-    (lengthFrom end start bs (at + 1) (moreFollow b) (longer len b)))
+    (guard (leb (longer len b) longest) (overflow start)
+    (lengthFrom end start bs (at + 1) (moreFollow b) (longer len b))))
     (got len at)
 
 -- except for lists, the number of length bytes, `own`, is taken off

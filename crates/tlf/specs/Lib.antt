@@ -1,3 +1,4 @@
 pub mod Answers
 pub mod Lengths
+pub mod Overflow
 pub mod Decided

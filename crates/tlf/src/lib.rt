@@ -1,8 +1,10 @@
-// Ports parser/tlf.rs.
+// Ports parser/tlf.rs. Where the Rust keeps the low 32 bits of a longer length, it is refused here (document 02, Q-2).
 ghost use mathlib.Core.Bool.{true, _&&_};
 ghost use mathlib.Core.Path.{_≡_};
 ghost use Prim.Native.Nat.{_+_, _<_};
 ghost use lib.ListN.{length, getD, drop};
+ghost use Rattle.refusals.specs.Read.{invalidTlf};
+ghost use Rattle.refusals.specs.Answers.{kindOf, faultOf};
 ghost use Rattle.tlf.specs.Answers.{tyRead, lenRead, tlfRead, placeRead};
 ghost use Rattle.tlf.specs.Lengths.{tyOf, longer, lengthFrom, lessOwn, tlfAt, isList, isBoolean, isListOf, listOfAt, moreFollow};
 use refusals::ByteRead;
@@ -80,12 +82,24 @@ enum LenRead {
     Refused(Fault),
 }
 
-// The length so far with the next byte's four bits behind it; as in the Rust, what passes 32 bits is lost.
-fn next_len(len: u32, b: u8) -> u32
+// A length that passes this while it is being built is refused.
+const LONGEST: u64 = 0xffff_ffff;
+
+// Length bytes that break a rule of lengths: the element's first one is the place.
+fn invalid(kind: TlfParseError, place: usize) -> Fault
+    ensures { λ r. ⌜ faultOf r ≡ invalidTlf (kindOf kind) place ⌝ }
+{
+    Fault {
+        error: ParseError::InvalidTlf(kind),
+        place,
+    }
+}
+
+// The length so far with the next byte's four bits behind it, which may be more than 32 bits hold.
+fn next_len(len: u32, b: u8) -> u64
     ensures { λ r. ⌜ r ≡ longer len b ⌝ }
 {
-    let wide = len as u64 * 16 + b as u64 % 16;
-    (wide % 0x1_0000_0000) as u32
+    len as u64 * 16 + b as u64 % 16
 }
 
 // A Boolean with more length bytes is reserved for future usages.
@@ -111,12 +125,13 @@ fn more_bytes(input: &[u8], start: usize, at: usize, more: bool, first: u32) -> 
         }
         let b = input[next];
         if b / 16 % 8 != 0 {
-            return LenRead::Refused(Fault {
-                error: ParseError::InvalidTlf(TlfParseError::TlfNextByteTypeMismatch),
-                place: start,
-            });
+            return LenRead::Refused(invalid(TlfParseError::TlfNextByteTypeMismatch, start));
         }
-        len = next_len(len, b);
+        let longer = next_len(len, b);
+        if LONGEST < longer {
+            return LenRead::Refused(invalid(TlfParseError::TlfLengthOverflow, start));
+        }
+        len = longer as u32;
         has_more_bytes = 128 <= b;
         next += 1;
     }
@@ -142,10 +157,7 @@ fn less_own(ty: Ty, own: usize, len: u32, start: usize, next: usize) -> TlfRead
             next,
         }
     } else {
-        TlfRead::Refused(Fault {
-            error: ParseError::InvalidTlf(TlfParseError::TlfLengthUnderflow),
-            place: start,
-        })
+        TlfRead::Refused(invalid(TlfParseError::TlfLengthUnderflow, start))
     }
 }
 
@@ -163,17 +175,11 @@ impl TypeLengthField {
             ByteRead::Refused(f) => return TlfRead::Refused(f),
         };
         let TyRead::Is(ty) = Ty::from_byte(b / 16 % 8) else {
-            return TlfRead::Refused(Fault {
-                error: ParseError::InvalidTlf(TlfParseError::TlfInvalidTy),
-                place: at,
-            });
+            return TlfRead::Refused(invalid(TlfParseError::TlfInvalidTy, at));
         };
         let has_more_bytes = 128 <= b;
         if is_reserved(ty, has_more_bytes) {
-            return TlfRead::Refused(Fault {
-                error: ParseError::InvalidTlf(TlfParseError::TlfReserved),
-                place: at,
-            });
+            return TlfRead::Refused(invalid(TlfParseError::TlfReserved, at));
         }
         match more_bytes(input, at, next, has_more_bytes, (b % 16) as u32) {
             LenRead::Is { len, next: end } => {

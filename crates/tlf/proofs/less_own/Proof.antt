@@ -18,13 +18,18 @@ cast-t11 c = search needs
 sub-t12 : tie.Need-sub-t12
 sub-t12 c = search needs
 
+invalid-requires : tie.Need-invalid-requires
+invalid-requires c κs = search needs
+
 returns-2 : tie.Need-returns-2
 unfolding lessOwn guard
 returns-2 c = rw (← c .before .before .is-list .ensures, c .before .if1 .left, le-leb _ _ (c .if2 .taken))
 
 returns-3 : tie.Need-returns-3
 unfolding lessOwn guard
-returns-3 c = rw (← c .before .before .is-list .ensures, c .before .if1 .left, lt-leb _ _ (c .if2 .left))
+returns-3 c = rw (c .invalid .ensures, ← c .before .before .before .is-list .ensures, c .before .before .if1 .left, lt-leb _ _ (c .before .if2 .left))
 
 pub less-own-spec : {M : Type 1} → statement M
-less-own-spec = tie.close (tie.spec is-list-requires returns cast-t11 sub-t12 returns-2 returns-3)
+less-own-spec =
+    tie.close
+    (tie.spec is-list-requires returns cast-t11 sub-t12 invalid-requires returns-2 returns-3)

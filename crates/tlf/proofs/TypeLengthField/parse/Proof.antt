@@ -32,26 +32,34 @@ enum-known-ty c = search needs
 enum-told : tie.Need-enum-told
 enum-told c = search needs
 
+invalid-requires : tie.Need-invalid-requires
+invalid-requires c κs = search needs
+
 returns-2 : tie.Need-returns-2
 unfolding tlfAt then guard need
 returns-2 c =
-    let p3 = c .before .before in
+    let p4 = c .before in
+    let p3 = p4 .before .before in
     let p2 = p3 .before .before in
     let p1 = p2 .before .before in
-    rw (← p1 .take-byte .ensures, p2 .byte .given .1, ← p3 .from-byte .ensures, c .enum-told .given .1)
+    rw (c .invalid .ensures, ← p1 .take-byte .ensures, p2 .byte .given .1, ← p3 .from-byte .ensures, p4 .enum-told .given .1)
 
 is-reserved-requires : tie.Need-is-reserved-requires
 is-reserved-requires c κs = search needs
 
+invalid-requires-2 : tie.Need-invalid-requires-2
+invalid-requires-2 c κs = search needs
+
 returns-3 : tie.Need-returns-3
 unfolding tlfAt then guard need
 returns-3 c =
-    let p5 = c .before in
+    let p6 = c .before in
+    let p5 = p6 .before in
     let p4 = p5 .before .before in
     let p3 = p4 .before .before in
     let p2 = p3 .before .before in
     let p1 = p2 .before .before in
-    rw (← p1 .take-byte .ensures, p2 .byte .given .1, ← p3 .from-byte .ensures, p4 .ty .given .1, ← p5 .is-reserved .ensures, c .if1 .taken)
+    rw (c .invalid2 .ensures, ← p1 .take-byte .ensures, p2 .byte .given .1, ← p3 .from-byte .ensures, p4 .ty .given .1, ← p5 .is-reserved .ensures, p6 .if1 .taken)
 
 cast-more-bytes : tie.Need-cast-more-bytes
 cast-more-bytes c = search needs
@@ -113,8 +121,10 @@ parse-spec =
     from-byte-requires
     enum-known-ty
     enum-told
+    invalid-requires
     returns-2
     is-reserved-requires
+    invalid-requires-2
     returns-3
     cast-more-bytes
     more-bytes-requires
