@@ -165,18 +165,24 @@ STYLES = {"transport": command, "messages": messages.command}
 
 
 def drawn(seed, count, style="transport"):
-    """Commands up to so many inside the domain; those on which a length over 32 bits is read are among them, and don't count."""
+    """Commands up to so many inside the domain, each with whether it is left out, because a length over 32 bits is read on it: those don't count."""
     r, one = random.Random(seed), STYLES[style]
     while count:
         line = no_command(r, one) if r.random() < 0.02 else one(r)
         line = line if len(line) <= 69000 else "crc -"
-        count -= not over_32_bits(line)
-        yield line
+        left_out = over_32_bits(line)
+        count -= not left_out
+        yield line, left_out
 
 
 def commands(seed, count, style="transport"):
-    return (line for line in drawn(seed, count, style) if not over_32_bits(line))
+    return (line for line, left_out in drawn(seed, count, style) if not left_out)
 
 
 if __name__ == "__main__":
-    sys.stdout.writelines(c + "\n" for c in commands(int(sys.argv[1]), int(sys.argv[2]), *sys.argv[3:]))
+    out = 0
+    for line, left_out in drawn(int(sys.argv[1]), int(sys.argv[2]), *sys.argv[3:]):
+        out += left_out
+        if not left_out:
+            print(line)
+    print(f"generate: {out} more were left out, on which a length over 32 bits is read", file=sys.stderr)

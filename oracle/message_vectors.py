@@ -237,7 +237,7 @@ c1808080808080800a: err InvalidTlf TlfReserved 11 @0
 
 
 def length_fields():
-    """Those of Q-2, and every first byte alone, before one more and before eight that say more."""
+    """Those of Q-2, no byte, and every first byte alone, before one more, before seven zeros that say more and a last digit, and before eight digits f."""
     for line in OVERFLOWS.split("\n"):
         h, answer = line.split(": ")
         assert length_field(b(h)) == answer, line
@@ -285,8 +285,8 @@ def vectors():
         yield command, answer
     for (data, number, place), answer in zip(refused, said[len(commands) :]):
         yield "places " + data.hex(), with_places(answer, len(data), number, place)
-    yield from (("tlf " + hexed(data), length_field(data)) for data in length_fields())
+    yield from (("tlf " + hexed(data), length_field(data)) for data in dict.fromkeys(length_fields()))
 
 
 if __name__ == "__main__":
-    sys.stdout.writelines(c + "\n" for c in plain() + ["places " + d.hex() for d, _, _ in bent()] + ["tlf " + hexed(d) for d in length_fields()])
+    sys.stdout.writelines(c + "\n" for c in plain() + ["places " + d.hex() for d, _, _ in bent()] + ["tlf " + hexed(d) for d in dict.fromkeys(length_fields())])

@@ -60,8 +60,21 @@ def any_element(r):
     return length(ty, n, more(r)) + (b"" if ty == LIST else r.randbytes(n))
 
 
+def over(r, field):
+    """The field with a length over 32 bits, whose low 32 are what stood there: the crate reads it as before."""
+    own = next((k for k, b in enumerate(field, 1) if b < 0x80), 0)
+    if own == 0:
+        return field
+    ty, digits = field[0] >> 4 & 7, r.choice([9, 9, 10, 12])
+    total = int(field[:own].hex()[1::2], 16) + (digits - own if ty != LIST else 0) + (r.randrange(1, 16 ** (digits - 8)) << 32)
+    out = [0x80 | total >> 4 * k & 15 for k in reversed(range(digits))]
+    out[0] |= ty << 4
+    out[-1] &= 0x7F
+    return bytes(out) + field[own:]
+
+
 def bend(r, field):
-    what = r.randrange(9)
+    what = r.randrange(10)
     if what == 0:
         return any_element(r)
     if what == 1:
@@ -78,6 +91,8 @@ def bend(r, field):
         return bytes([max(field[0] & 0xF0, field[0] - 1)]) + field[1:]
     if what == 7:
         return r.choice([string, number])(r)
+    if what == 8:
+        return over(r, field)
     return r.randbytes(r.randrange(1, 4))
 
 

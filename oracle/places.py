@@ -1,6 +1,6 @@
 """The number and the place of a message input's first refusal, for the vectors: the crate has no places. A reader of its own, apart from the proved code: it follows document 01's length and message rules, document 02's Q-2 and,
 where these are widened to it, the crate's common.rs (a bare time, a list value). So the numbers are no second opinion on the crate, which they must equal; the places are on ours. And it tells which commands are out of the
-domain because a length over 32 bits is read on them: up to the first such length the crate reads as this reader does.
+domain because a length over 32 bits is read on them: up to the first such length the crate reads as this reader does, but behind a list of more than 4,294,967,293, which is out of the domain already.
 
 10 stands at the input's length; 11, 12 and 13 at the element's first length byte, of a 13 the tag's; 14 at the CRC's; 15 at the end byte.
 """

@@ -1,7 +1,7 @@
 """Beyond the domain the crate's counts and lengths wrap, and ours don't: each such input with our answer, run through bin/replay, and the crate's, run through it where it is at hand.
 Built with overflow checks the crate panics where a count wraps: that answer is a third column, run where it is at hand. What is not is said to be skipped.
 
-The first of each group is the last input inside the domain, where all agree. Behind them the shortest inputs of docs/DIFFERENCES.md at which crate and specification differ: all answer alike.
+The first of each group is the last input inside the domain, where all agree; of lengths the first three are inside. Behind them the shortest inputs of docs/DIFFERENCES.md at which crate and specification differ: all answer alike.
 """
 import os, subprocess, sys
 
@@ -9,6 +9,7 @@ sys.dont_write_bytecode = True
 os.chdir(os.path.join(os.path.dirname(os.path.abspath(__file__)), ".."))
 sys.path.append("oracle")
 from messages import sealed
+from places import over_32_bits
 from sml import KINDS, frame
 
 B1 = frame(bytes.fromhex("12345678")).hex()
@@ -105,6 +106,9 @@ FOLLOWED = [
     ("leaf oct 01", "x left 0"),
     ("leaf value 01", "oct: left 0"),
 ]
+for command, ours, theirs in LENGTHS:
+    # the comparison leaves out what differs, and nothing else
+    assert over_32_bits(command) == (ours != theirs), command
 ROWS, faults = NOISE + LISTS + [(c, o, t, t) for c, o, t in LENGTHS] + [(c, a, a, a) for c, a in FOLLOWED], 0
 GIVEN = "\n".join(row[0] for row in ROWS).encode()
 

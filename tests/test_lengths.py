@@ -14,23 +14,9 @@ SEED, GATE, ALL, BATCH = 20250718, 6000, 300000, 20000
 LARGEST = 4294967295
 INVALID, RESERVED, TYPED, OVER, UNDER = ("err InvalidTlf %s 11 @0" % k for k in ("TlfInvalidTy", "TlfReserved", "TlfNextByteTypeMismatch", "TlfLengthOverflow", "TlfLengthUnderflow"))
 ENDS, IS = "err UnexpectedEOF 10 @%d", "%d %d next %d"
-VECTORS = {
-    "81808080808080800a": "err InvalidTlf TlfLengthOverflow 11 @0",
-    "8f8f8f8f8f8f8f0f": "0 4294967287 next 8",
-    "ff8f8f8f8f8f8f0f": "7 4294967295 next 8",
-    "f180808080808080": "err UnexpectedEOF 10 @8",
-    "f18080808080808000": "err InvalidTlf TlfLengthOverflow 11 @0",
-    "8180808080808080": "err UnexpectedEOF 10 @8",
-    "818080808080808010": "err InvalidTlf TlfNextByteTypeMismatch 11 @0",
-    "818080808080808090": "err InvalidTlf TlfNextByteTypeMismatch 11 @0",
-    "818080808080808080": "err InvalidTlf TlfLengthOverflow 11 @0",
-    "80808080808080808080800d": "0 1 next 12",
-    "808080808080808080800a": "err InvalidTlf TlfLengthUnderflow 11 @0",
-    "df8f8f8f8f8f8f8f0f": "err InvalidTlf TlfLengthOverflow 11 @0",
-    "c1808080808080800a": "err InvalidTlf TlfReserved 11 @0",
-    "918080808080808000": "err InvalidTlf TlfInvalidTy 11 @0",
-    "8080808080808080818080808080808005": "err InvalidTlf TlfLengthOverflow 11 @0",
-}
+# stored beside their answers; those of the request are written out in oracle/message_vectors.py
+COMMANDS, ANSWERS = (open("crates/replay_messages/" + f, encoding="utf-8", newline="\n").read().split("\n") for f in ("stdin", "stdout"))
+VECTORS = {c[4:].replace("-", ""): a for c, a in zip(COMMANDS, ANSWERS) if c.startswith("tlf ")}
 faults = []
 
 
@@ -229,6 +215,7 @@ if batch:
 types = [str(t) for t in (STRING, BOOLEAN, INTEGER, UNSIGNED, LIST)]
 refusals = [f.split(" @")[0] for f in (INVALID, RESERVED, TYPED, OVER, UNDER, ENDS)]
 if count >= GATE:
+    faults += [(10**9, f"no {k} among the vectors") for k in (OVER, ENDS % 8, IS % (LIST, LARGEST, 8)) if k not in VECTORS.values()]
     faults += [(10**9, f"no {f} in this run") for f in refusals if not kinds[f]] + [(10**9, f"no length of type {t} in this run") for t in types if not kinds[t]]
 
 for _, fault in sorted(faults)[:5]:
@@ -237,4 +224,4 @@ if faults:
     sys.exit(f"{len(faults)} faults")
 invalid, reserved, typed, over, under, ends = (kinds[f] for f in refusals)
 told = f"{over:,} over 32 bits, {under:,} underflow, {invalid + reserved + typed:,} other 11, {ends:,} of 10, {sum(kinds[t] for t in types):,} lengths"
-print(f"lengths: {len(VECTORS)} vectors, {count:,} length fields ({told}), {cuts:,} made from them: as the second reading and Q-2 say, and those not over as document 01 alone")
+print(f"lengths: {len(VECTORS):,} vectors, {count:,} length fields ({told}), {cuts:,} made from them: as the second reading and Q-2 say, and those not over as document 01 alone")

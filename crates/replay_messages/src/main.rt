@@ -1,8 +1,8 @@
 // The commands of messages, one a line, and an answer of one line each (docs/REPLAY.md): events, places, leaf and tlf. A line that is none of them is answered `bad command`.
 mod events;
 mod fields;
-mod head;
 mod leaf;
+mod length_field;
 mod line;
 
 use line::bad;
@@ -27,7 +27,7 @@ pub(crate) fn of_bytes(which: u8, kind: usize, input: &[u8]) {
         0 => events::both_events(input, false),
         1 => events::both_events(input, true),
         2 => leaf::field(kind, input),
-        3 => head::length_field(input),
+        3 => length_field::length_field(input),
         _ => bad(),
     }
 }

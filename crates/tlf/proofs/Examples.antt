@@ -1,4 +1,4 @@
--- Where a length passes 4,294,967,295, and the last that don't, of the definition: the vectors of document 02's Q-2.
+-- Where a length passes 4,294,967,295, and the last that don't, of the definition: document 02's Q-2, but for B14, which the bench sheet has.
 use mathlib.Core.Path.{_≡_, refl}
 use mathlib.Core.List.{List, [], _∷_}
 use Rattle.refusals.specs.Read.{got, refused, then, guard, need, eof, byteAt}
@@ -7,7 +7,6 @@ use Rattle.tlf.specs.Lengths.{lengthFrom, lessOwn, tlfAt}
 use Rattle.tlf.specs.declared.Ty.the-variants.{OctetString, ListOf}
 
 pub record LengthExamples : Type 0 where
-  pub b14 : tlfAt (0x81 ∷ 0x80 ∷ 0x80 ∷ 0x80 ∷ 0x80 ∷ 0x80 ∷ 0x80 ∷ 0x80 ∷ 0x0a ∷ []) 0 ≡ refused (overflow 0)
   pub the-longest-string : tlfAt (0x8f ∷ 0x8f ∷ 0x8f ∷ 0x8f ∷ 0x8f ∷ 0x8f ∷ 0x8f ∷ 0x0f ∷ []) 0 ≡ got (record { ty = OctetString; len = 4294967287 }) 8
   pub the-longest-list : tlfAt (0xff ∷ 0x8f ∷ 0x8f ∷ 0x8f ∷ 0x8f ∷ 0x8f ∷ 0x8f ∷ 0x0f ∷ []) 0 ≡ got (record { ty = ListOf; len = 4294967295 }) 8
   pub list-cut-before-it : tlfAt (0xf1 ∷ 0x80 ∷ 0x80 ∷ 0x80 ∷ 0x80 ∷ 0x80 ∷ 0x80 ∷ 0x80 ∷ []) 0 ≡ refused (eof 8)
@@ -27,7 +26,6 @@ pub length-examples : LengthExamples
 unfolding then guard need byteAt tlfAt lengthFrom lessOwn
 length-examples =
     record {
-      b14 = refl;
       the-longest-string = refl;
       the-longest-list = refl;
       list-cut-before-it = refl;

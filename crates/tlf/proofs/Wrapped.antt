@@ -92,7 +92,7 @@ lengths-moved s at =
 pub lengths-stay : (s : List ℕ) (at : ℕ) → (PassesLongest s at → ⊥) → tlfAt s at ≡ wrappedAt s at
 lengths-stay s at h = ⊎-elim (λ e. absurd (h (overflows .only s at at e .1))) (λ e. e) (lengths-moved s at)
 
--- B14 is what moves, so that the old rule is no longer right
+-- B14, now and before: the old rule is no longer right
 b14 : List ℕ
 b14 = 0x81 ∷ 0x80 ∷ 0x80 ∷ 0x80 ∷ 0x80 ∷ 0x80 ∷ 0x80 ∷ 0x80 ∷ 0x0a ∷ []
 

@@ -1,4 +1,4 @@
--- claim: where a length passes 4,294,967,295, by the bytes, of any reader of length fields (document 02, Q-2).
+-- claim: which length bytes are refused because they say more than 4,294,967,295, of any reader of length fields (document 02, Q-2).
 use Prim.Native.Nat.{ℕ, zero, suc, _+_, _<_}
 use mathlib.Core.Path.{_≡_}
 use mathlib.Core.Bool.{true, false}
@@ -21,7 +21,7 @@ pub record PassesLongest (s : List ℕ) (at : ℕ) : Type 0 where
   -- it stands within the input, so many places behind the first
   pub behind : ℕ
   pub within : at + behind < length s
-  -- those up to it have their types, the first one that may have more
+  -- those up to it have their types: the first a known one, and none that has no more length bytes; the others 0
   pub ty : Ty
   pub first : tyOf (typeBits (getD s at 0)) ≡ some ty
   pub unreserved : isBoolean ty ≡ false
@@ -30,7 +30,7 @@ pub record PassesLongest (s : List ℕ) (at : ℕ) : Type 0 where
   pub more : (i : ℕ) → i < behind → moreFollow (getD s (at + i) 0) ≡ true
   pub passes : longest < lengthUpTo s at behind
 
--- overflow is the answer exactly there, at the element's first length byte, whatever follows
+-- overflow is the answer exactly where a length byte makes the length too long, whatever follows; it names the element's first one
 pub record Overflows (read : List ℕ → ℕ → Read TypeLengthField) : Type 0 where
   pub given : (s : List ℕ) (at : ℕ) → PassesLongest s at → read s at ≡ refused (overflow at)
   pub only : (s : List ℕ) (at place : ℕ) → read s at ≡ refused (overflow place) → (place ≡ at) × PassesLongest s at

@@ -1,4 +1,4 @@
-// Ports parser/tlf.rs. Where the Rust keeps the low 32 bits of a longer length, it is refused here (document 02, Q-2).
+// Ports parser/tlf.rs. A length over 32 bits, of which the Rust keeps the low ones, is refused here (document 02, Q-2).
 ghost use mathlib.Core.Bool.{true, _&&_};
 ghost use mathlib.Core.Path.{_≡_};
 ghost use Prim.Native.Nat.{_+_, _<_};
@@ -85,7 +85,7 @@ enum LenRead {
 // A length that passes this while it is being built is refused.
 const LONGEST: u64 = 0xffff_ffff;
 
-// Length bytes that break a rule of lengths: the element's first one is the place.
+// `From<TlfParseError> for ParseError` of tlf.rs, and the place: the element's first length byte.
 fn invalid(kind: TlfParseError, place: usize) -> Fault
     ensures { λ r. ⌜ faultOf r ≡ invalidTlf (kindOf kind) place ⌝ }
 {
