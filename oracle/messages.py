@@ -61,7 +61,7 @@ def any_element(r):
 
 
 def over(r, field):
-    """The field with a length over 32 bits, whose low 32 are what stood there: the crate reads it as before."""
+    """The field with a length over 32 bits, whose low ones are the length that stood there: the crate reads on."""
     own = next((k for k, b in enumerate(field, 1) if b < 0x80), 0)
     if own == 0:
         return field
