@@ -53,10 +53,6 @@ passed-from zero s at k p h =
     passed-step s at k p (omega arith) (λ e. absurd (omega (arith, far, leb-true (lengthUpTo s at (suc k)) longest e)))
 passed-from (suc d) s at k p h = passed-step s at k p (omega arith) (λ e. passed-from d s at (suc k) p (omega arith))
 
-not-boolean-yet : (b m : Bool) → b ≡ false → not (b && m) ≡ true
-not-boolean-yet true m e = absurd (true≢false e)
-not-boolean-yet false m e = refl
-
 -- behind the first byte
 behind-first : (s : List ℕ) (at : ℕ) → lengthRest at (at + 1) (moreFollow (getD s at 0)) (lengthBits (getD s at 0)) s ≡ lengthBehind s at 0
 unfolding lengthBehind lengthUpTo
@@ -70,7 +66,7 @@ passed-refuses s at p = by (p .behind) refl
     by zero e = let far : longest < lengthUpTo s at 0 = rw e at (p .passes) in absurd (omega (arith, far))
     by (suc d) e =
         let w = p .within in
-        rw (head-is s at _ (omega arith) refl, p .first, not-boolean-yet (isBoolean (p .ty)) (moreFollow (getD s at 0)) (p .unreserved), behind-first s at, passed-from d s at 0 p (omega arith))
+        rw (head-is s at _ (omega arith) refl, p .first, p .unreserved, behind-first s at, passed-from d s at 0 p (omega arith))
 
 -- ---- and nowhere else
 
