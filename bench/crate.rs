@@ -1,4 +1,4 @@
-//! The crate sml-rs 0.4.0 doing what crate bench does, for times beside it: crate FUNCTION CALLS REPEAT CAPACITY, the input on standard input.
+//! The crate sml-rs 0.4.0 doing what crate bench does, for instructions and times beside it: crate FUNCTION CALLS REPEAT CAPACITY, the input on standard input.
 //! Prints the last call's number and the nanoseconds of all calls. It is built by oracle/build over the crate's unchanged files.
 #![allow(dead_code, unused_imports, missing_docs)]
 extern crate alloc;
@@ -35,6 +35,14 @@ fn events(input: &[u8]) -> u64 {
     Parser::new(input).take_while(|event| event.is_ok()).count() as u64
 }
 
+fn crc_byte(src: &[u8]) -> u64 {
+    let mut digest = util::CRC_X25.digest();
+    for b in src {
+        digest.update(&[*b]);
+    }
+    digest.finalize().into()
+}
+
 fn main() {
     let args: Vec<String> = std::env::args().collect();
     let number = |k: usize| args[k].parse::<usize>().unwrap();
@@ -46,6 +54,7 @@ fn main() {
         "bench_encode" => encode(&input),
         "bench_stream" => stream(&input),
         "bench_events" => events(&input),
+        "bench_crc_byte" => crc_byte(&input),
         _ => util::CRC_X25.checksum(&input).into(),
     };
     let (began, mut last) = (std::time::Instant::now(), 0);

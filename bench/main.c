@@ -17,23 +17,32 @@ extern u64 bench_encode(const u8 *, size_t, u8 *, size_t);
 extern u64 bench_stream(const u8 *, size_t);
 extern u64 bench_events(const u8 *, size_t);
 extern u64 bench_crc(const u8 *, size_t);
+extern u64 bench_crc_byte(const u8 *, size_t);
 
 static u8 in[1 << 20], out[1 << 22];
 
-static u64 call(const char *f, size_t n, size_t cap) {
-    if (!strcmp(f, "bench_push")) return bench_push(in, n, out, cap);
-    if (!strcmp(f, "bench_push_slice")) return bench_push_slice(in, n, out, cap);
-    if (!strcmp(f, "bench_encode")) return bench_encode(in, n, out, cap);
-    if (!strcmp(f, "bench_stream")) return bench_stream(in, n);
-    if (!strcmp(f, "bench_events")) return bench_events(in, n);
-    if (!strcmp(f, "bench_crc")) return bench_crc(in, n);
+static const char *names[] = {"bench_push", "bench_push_slice", "bench_encode", "bench_stream", "bench_events", "bench_crc", "bench_crc_byte"};
+
+static u64 call(int which, size_t n, size_t cap) {
+    switch (which) {
+    case 0: return bench_push(in, n, out, cap);
+    case 1: return bench_push_slice(in, n, out, cap);
+    case 2: return bench_encode(in, n, out, cap);
+    case 3: return bench_stream(in, n);
+    case 4: return bench_events(in, n);
+    case 5: return bench_crc(in, n);
+    case 6: return bench_crc_byte(in, n);
+    }
     return ~0ul;
 }
 
 int main(int argc, char **argv) {
     if (argc != 5) return 2;
-    size_t n = 0, once;
+    size_t n = 0, once, cap = atoi(argv[4]);
     long k;
+    int which = 0; /* found once, before the calls: no call's count has the search in it */
+    while (strcmp(argv[1], names[which]))
+        if (++which == sizeof names / sizeof *names) return 2;
     while ((k = read(0, in + n, sizeof in - n)) > 0) n += k;
     once = n;
     for (int r = atoi(argv[3]); r > 1; r--)
@@ -41,7 +50,7 @@ int main(int argc, char **argv) {
     u64 last = 0;
     struct timespec began, ended;
     clock_gettime(1, &began);
-    for (int i = atoi(argv[2]); i > 0; i--) last = call(argv[1], n, atoi(argv[4]));
+    for (int i = atoi(argv[2]); i > 0; i--) last = call(which, n, cap);
     clock_gettime(1, &ended);
     dprintf(1, "%lu %ld\n", last, (ended.sec - began.sec) * 1000000000 + ended.nsec - began.nsec);
     return 0;

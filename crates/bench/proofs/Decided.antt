@@ -24,4 +24,5 @@ decided =
       bench-stream = λ payload. oneOutcome _;
       bench-events = λ input. oneOutcome _;
       bench-crc = λ src. oneOutcome _;
+      bench-crc-byte = λ src. oneOutcome _;
     }

@@ -18,3 +18,4 @@ pub record Decided : Type 0 where
   pub bench-stream : (payload : List ℕ) → One (λ (r : ℕ). r ≡ streamed payload)
   pub bench-events : (input : List ℕ) → One (λ (r : ℕ). r ≡ events input)
   pub bench-crc : (src : List ℕ) → One (λ (r : ℕ). r ≡ crcOf src)
+  pub bench-crc-byte : (src : List ℕ) → One (λ (r : ℕ). r ≡ crcOf src)

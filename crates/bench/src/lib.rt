@@ -200,3 +200,17 @@ pub extern "C" fn bench_crc(src: &[u8]) -> u64
 {
     crc_x25::checksum(src) as u64
 }
+
+// The check value of `src`, a byte a call.
+#[no_mangle]
+pub extern "C" fn bench_crc_byte(src: &[u8]) -> u64
+    ensures { λ r. ⌜ r ≡ crcOf (now (src .entry)) ⌝ }
+{
+    let mut reg = crc_x25::digest();
+    let mut i = 0;
+    while i < src.len() {
+        reg = crc_x25::update_byte(reg, src[i]);
+        i += 1;
+    }
+    crc_x25::finalize(reg) as u64
+}

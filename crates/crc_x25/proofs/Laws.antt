@@ -4,7 +4,6 @@ use mathlib.Core.List.{List, [], _∷_, _++_}
 use mathlib.Core.Bool.{Bool, true, false, cond}
 use mathlib.Core.Path.{_≡_, refl}
 use native.Mathlib.Numerals.{add-one}
-use native.Mathlib.Nat.{lt-of-lt-of-le, pow-le-pow-right}
 use native.Mathlib.Omega.{arith}
 use lib.ListN.{length, getD, drop, drop-of-length-le}
 use lib.Seq.{drop-cons}
@@ -57,11 +56,14 @@ bits-fit (suc n) r h =
     bits-fit n _ (either-bit (eqb (r % 2) 1) _ _ (xor-lt 16 (r / 2) polynomial half (rw polynomial-is (omega arith))) half)
 
 -- the register keeps to sixteen bits
+pub byte-fits : (r b : ℕ) → r < 2 ^ 16 → b < 2 ^ 8 → byteStep r b < 2 ^ 16
+unfolding byteStep
+byte-fits r b h k = bits-fit 8 (bitXor r b) (xor-lt 16 r b h (omega (arith, k)))
+
 pub register-fits : (r : ℕ) (s : List ℕ) → r < 2 ^ 16 → ((i : ℕ) → getD s i 0 < 2 ^ 8) → register r s < 2 ^ 16
-unfolding register byteStep
+unfolding register
 register-fits r [] h k = h
-register-fits r (b ∷ s) h k =
-    register-fits _ s (bits-fit 8 (bitXor r b) (xor-lt 16 r b h (omega (arith, k 0)))) (λ i. k (suc i))
+register-fits r (b ∷ s) h k = register-fits _ s (byte-fits r b h (k 0)) (λ i. k (suc i))
 
 pub crc-fits : (s : List ℕ) → ((i : ℕ) → getD s i 0 < 2 ^ 8) → crcOf s < 2 ^ 16
 unfolding crcOf finalXor
