@@ -55,7 +55,8 @@ fn main() {
         "bench_stream" => stream(&input),
         "bench_events" => events(&input),
         "bench_crc_byte" => crc_byte(&input),
-        _ => util::CRC_X25.checksum(&input).into(),
+        "bench_crc" => util::CRC_X25.checksum(&input).into(),
+        _ => std::process::exit(2),
     };
     let (began, mut last) = (std::time::Instant::now(), 0);
     for _ in 0..number(2) {
