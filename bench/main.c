@@ -13,6 +13,7 @@ int clock_gettime(int, struct timespec *);
 
 extern u64 bench_push(const u8 *, size_t, u8 *, size_t);
 extern u64 bench_push_slice(const u8 *, size_t, u8 *, size_t);
+extern u64 bench_push_slice_second(const u8 *, size_t, u8 *, size_t);
 extern u64 bench_encode(const u8 *, size_t, u8 *, size_t);
 extern u64 bench_stream(const u8 *, size_t);
 extern u64 bench_events(const u8 *, size_t);
@@ -21,17 +22,18 @@ extern u64 bench_crc_byte(const u8 *, size_t);
 
 static u8 in[1 << 20], out[1 << 22];
 
-static const char *names[] = {"bench_push", "bench_push_slice", "bench_encode", "bench_stream", "bench_events", "bench_crc", "bench_crc_byte"};
+static const char *names[] = {"bench_push", "bench_push_slice", "bench_push_slice_second", "bench_encode", "bench_stream", "bench_events", "bench_crc", "bench_crc_byte"};
 
 static u64 call(int which, size_t n, size_t cap) {
     switch (which) {
     case 0: return bench_push(in, n, out, cap);
     case 1: return bench_push_slice(in, n, out, cap);
-    case 2: return bench_encode(in, n, out, cap);
-    case 3: return bench_stream(in, n);
-    case 4: return bench_events(in, n);
-    case 5: return bench_crc(in, n);
-    case 6: return bench_crc_byte(in, n);
+    case 2: return bench_push_slice_second(in, n, out, cap);
+    case 3: return bench_encode(in, n, out, cap);
+    case 4: return bench_stream(in, n);
+    case 5: return bench_events(in, n);
+    case 6: return bench_crc(in, n);
+    case 7: return bench_crc_byte(in, n);
     }
     return ~0ul;
 }

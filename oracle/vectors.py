@@ -1,9 +1,9 @@
 """vectors.py: writes the fixed list of commands to the files stdin of crates/replay_wire and crates/replay_messages, each to the program that knows it and what is no command to both, and the crate's answers
-(target/oracle/oracle, made by oracle/build) to stdout beside them; those over messages (message_vectors.py) come last.
+(target/oracle/oracle, made by oracle/build) to stdout beside them; those over messages (message_vectors.py) come last, and what the crate doesn't have: `push2`, whose answers are told here.
 
 `rt check replay_wire replay_messages` replays them without the crate at hand. Run it again when a command is added; what it writes depends on nothing but this folder and the crate.
 """
-import itertools, os, subprocess, sys
+import itertools, os, re, subprocess, sys
 
 sys.dont_write_bytecode = True
 import message_vectors
@@ -15,6 +15,23 @@ b = bytes.fromhex
 CAPS = capacities()
 B1 = frame(b("12345678"))
 lines = []
+# document 02, Q-7: capacity and operations (S the start sequence, F the frame of B1), the answer of `push2`, and that of `push` where it is another
+SEARCHES = """
+8 b1b,bF                                9:discarded 1;21:payload 12345678                         -
+8 bF                                    20:payload 12345678
+8 b00,bF                                9:discarded 1;21:payload 12345678
+8 z5:1b,bF                              13:discarded 5;25:payload 12345678
+8 b1b1b1b1b01,bF                        13:discarded 5;25:payload 12345678                        -
+8 b1b1b1b1b010101,bF                    15:discarded 7;27:payload 12345678                        -
+8 b1b1b1b1b0101011b,bF                  16:discarded 8;28:payload 12345678
+8 bSaabb,bF                             18:discarded 10;30:payload 12345678
+8 bS1b1b1b1b021b1b1b,b1b01010101,f,bF   16:escape 021b1b1b;22:discarded 5;42:payload 12345678
+8 bF1bF                                 20:payload 12345678;29:discarded 1;41:payload 12345678    20:payload 12345678
+8 b1b1b1b1b0101,f,b0101,r,bF            7:discarded 6;10:reset 2;30:payload 12345678
+7 b1b,bF,b1bS,f                         9:discarded 1;21:memory;30:discarded 1;31:discarded 8     31:discarded 30
+8 bS12,z13:00,bFF                       17:memory;30:discarded 5;42:payload 12345678;62:payload 12345678
+8 b1b1b,f,f,b1b,r,r                     3:discarded 2;6:reset 1;7:reset 0
+"""
 
 
 def say(*commands):
@@ -146,9 +163,18 @@ def no_commands():
         "encode ab\r", "crc", "crc -\r", "stream", "stream g0", "encode_cap", "encode_cap 16", "encode_cap 16 ", "encode_cap  -", "encode_cap -1 -", "encode_cap +16 -", "encode_cap 1048578 -",
         "encode_cap 016 -", "encode_cap 99999999999999999999999999 -", "push", "push 8", "push 8 ", "push 8 ,", "push 8 f,", "push 8 ,f", "push 8 b", "push 8 b1", "push 8 bAB", "push 8 f f",
         "push 8 x", "push 8 ff", "push 8 rf", "push 8 b12-", "push 8 b--", "push 1048578 f", "push 99999999999999999999 f", "push 8x f", "push -8 f", "push 008 f", "push 8 z", "push 8 z3", "push 8 z3:",
-        "push 8 z:00", "push 8 z3:0", "push 8 z3:000", "push 8 z3:-", "push 8 z3:00:00", "push 8 z+3:00", "push 8 z1048577:00", "push 8 z99999999999999999999:00", "push 8 f,b,r", "leaf", "leaf u8",
+        "push 8 z:00", "push 8 z3:0", "push 8 z3:000", "push 8 z3:-", "push 8 z3:00:00", "push 8 z+3:00", "push 8 z1048577:00", "push 8 z99999999999999999999:00", "push 8 f,b,r", "push2", "push2 8", "push2 8 f,", "push2 8 b1", "push2 8 f f", "push2 1048578 f", "leaf", "leaf u8",
         "leaf u8 ", "leaf u9 6201", "leaf  6201", "leaf U8 6201", "leaf u8 620", "leaf opt_u9 01", "bad command", "pushx 8 f", "pus 8 f", "crc " + "00" * 34998,
         "crc " + "00" * 34999, "x" * 70001, "encode \u00e9", "crc 31")
+
+
+def searches():
+    """Q-7's rows, each as `push2` and as `push`."""
+    for row in SEARCHES.strip().split("\n"):
+        ops, *told = re.split("  +", row)
+        ops = ops.replace("S", START.hex()).replace("F", B1.hex())
+        yield "push2 " + ops, told[0]
+        yield "push " + ops, told[-1]
 
 
 def store(name, pairs):
@@ -163,14 +189,17 @@ def store(name, pairs):
 def main():
     bench(), doc_comments(), wrong_readings(), runs_of_1b(), at_the_limits(), refusals(), meters(), fields(), no_commands()
     lines.extend(commands(20240607, 1500))
+    second, first = ([row for row in searches() if row[0].startswith(word)] for word in ("push2 ", "push "))
+    say(*(c for c, _ in first))
     # the crate's answers are stored, so that no length is read that only ours refuses
     assert not any(map(over_32_bits, lines))
     said = subprocess.run([os.path.join(HERE, "..", "target/oracle/oracle")], input="\n".join(lines).encode(), capture_output=True, check=True).stdout.decode()
     for word in ("no such capacity", "panic"):
         assert word not in said, word
     last = ("encode 12345678", frame(b("12345678")).hex())
-    pairs = list(zip(lines, said.split("\n"))) + list(message_vectors.vectors())
+    pairs = list(zip(lines, said.split("\n"))) + list(message_vectors.vectors()) + second
     assert said.count("\n") == len(lines)
+    assert not set(first) - set(pairs)
     for name in COMMANDS:
         store(name, pairs + [last] * ("encode" in COMMANDS[name]))
 

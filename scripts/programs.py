@@ -3,7 +3,7 @@ import fcntl, os, platform, shutil, subprocess, sys, time
 
 ROOT = os.path.dirname(os.path.dirname(os.path.abspath(__file__)))
 # which program behind bin/replay answers a command, by its first word
-COMMANDS = {"replay_wire": ["encode", "encode_cap", "stream", "crc", "push"], "replay_messages": ["leaf", "tlf", "places", "events"]}
+COMMANDS = {"replay_wire": ["encode", "encode_cap", "stream", "crc", "push", "push2"], "replay_messages": ["leaf", "tlf", "places", "events"]}
 
 
 def turn():
@@ -56,10 +56,12 @@ def refuse(said):
     sys.exit(2)
 
 
-def take_input(usage):
-    """The one argument, if any: -h prints the usage; FILE becomes standard input, and - is standard input itself."""
-    words = sys.argv[1:]
-    if words in (["-h"], ["--help"]):
+def take_input(usage, options=()):
+    """The arguments: first options, -h among them, which prints the usage; then FILE, if any, which becomes standard input, and - is standard input itself. Gives the options that were found."""
+    words, found = sys.argv[1:], []
+    while words and words[0] in (*options, "-h", "--help"):
+        found.append(words.pop(0))
+    if "-h" in found or "--help" in found:
         print(usage.strip())
         sys.exit(0)
     if len(words) > 1 or words and words[0].startswith("-") and words != ["-"]:
@@ -70,11 +72,12 @@ def take_input(usage):
             os.read(0, 0)
         except OSError as e:
             refuse(f"{os.path.basename(sys.argv[0])}: {words[0]}: {e.strerror}")
+    return found
 
 
-def start(name, usage, seconds):
-    """Becomes the program."""
-    take_input(usage)
+def start(name, usage, seconds, options=()):
+    """Becomes the program, which is given the options that were found."""
+    found = take_input(usage, options)
     build([name], seconds)
-    words = program(name)
+    words = program(name) + found
     os.execv(words[0], words)

@@ -10,7 +10,9 @@ LINE = re.compile(r"^Answers: `([^`]+)` gives `([^`]+)`; the wrong one `([^`]+)`
 PROGRAMS = {word: name for name, words in programs.COMMANDS.items() for word in words}
 PROGRAMS.update({"smlcat": "smlcat", "limits": "limits", "chunks": "probe", "memory": "probe", "long_sum": "probe"})
 PROBE = "probe: decoder decoder_slice in_place bench io libc"
-# A program that runs two ways side by side would only say that they differ. In the copy the decoder by value, which is the edited way, answers alone.
+# The interpreter of `rt try` knows no arguments: in the copy smlcat is started without one.
+NO_ARGUMENT = ("smlcat/src/main.rt", "Decoder::with_way(4096, way_asked())", "Decoder::new(4096)")
+# A program that runs two forms side by side would only say that they differ. In the copy the decoder by value, which is the edited form, answers alone.
 ALONE = ("replay_wire/src/pushes.rt", "if !tried.agree {", "if false {")
 
 
@@ -52,6 +54,11 @@ def replace(path, old, new):
     if text.count(old) != 1:
         raise ValueError("the edit no longer fits " + path)
     open(path, "w", encoding="utf-8").write(text.replace(old, new))
+
+
+def in_copy(copy, change):
+    target, old, new = change
+    replace(os.path.join(copy, "crates", target), old, new)
 
 
 def program_of(command):
@@ -102,6 +109,7 @@ def copied(copy):
     """a repository that has the code alone, and the probe as a crate of it"""
     for path in glob.glob(os.path.join(ROOT, "crates/*/src")):
         shutil.copytree(path, os.path.join(copy, os.path.relpath(path, ROOT)))
+    in_copy(copy, NO_ARGUMENT)
     crates = open(os.path.join(ROOT, "crates.txt"), encoding="utf-8").read()
     open(os.path.join(copy, "crates.txt"), "w", encoding="utf-8").write(crates + PROBE + "\n")
     src = os.path.join(copy, "crates/probe/src")
@@ -157,8 +165,7 @@ def edited(crate, changed, command, guess):
         for target, old, new in changed:
             if target.startswith("src/"):
                 replace(os.path.join(tmp, "crates", crate, target), old, new)
-        target, old, new = ALONE
-        replace(os.path.join(tmp, "crates", target), old, new)
+        in_copy(tmp, ALONE)
         wrote = tried(tmp, name, input_of(command), want)
     return wrote.strip() if re.match("stops: |never ends|no answer: ", wrote) else answer_in(command, wrote)
 

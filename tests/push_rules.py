@@ -1,4 +1,4 @@
-"""The push rules of document 01 in a few lines of Python, written from its text alone: what the tests hold the programs to."""
+"""The push rules of document 01 in a few lines of Python, written from its text alone, and the second way of searching from document 02's: what the tests hold the programs to."""
 START, ESCAPE = bytes.fromhex("1b1b1b1b01010101"), bytes.fromhex("1b1b1b1b")
 
 
@@ -13,12 +13,12 @@ def crc(data):
 
 
 class Decoder:
-    def __init__(self, capacity):
-        self.capacity = capacity
+    def __init__(self, capacity, way):
+        self.capacity, self.way = capacity, way
         self.fresh()
 
     def fresh(self):
-        self.state, self.matched, self.noise, self.raw = "search", 0, 0, 0
+        self.state, self.matched, self.noise, self.raw, self.last = "search", 0, 0, 0, b""
 
     def begin(self):
         """A frame begins: its start sequence was read."""
@@ -45,7 +45,11 @@ class Decoder:
         return self.body(b) if self.state == "body" else self.judged(b)
 
     def search(self, b):
-        if b == (0x1B if self.matched < 4 else 0x01):
+        if self.way == 2:
+            # the last eight bytes decide, and all before them are noise
+            self.last = (self.last + bytes([b]))[-8:]
+            self.matched, self.noise = (8, self.raw - 8) if self.last == START else (0, self.raw)
+        elif b == (0x1B if self.matched < 4 else 0x01):
             self.matched += 1
         else:
             self.noise, self.matched = self.noise + self.matched + 1, 0
@@ -104,16 +108,16 @@ class Decoder:
         return "reset %d" % lost
 
 
-def events(capacity, data):
+def events(capacity, data, way=1):
     """The events of a capture to its end, finalize's with it."""
-    d = Decoder(capacity)
+    d = Decoder(capacity, way)
     said = [d.push(b) for b in data] + [d.finalize()]
     return [e for e in said if e]
 
 
-def answer(capacity, ops):
-    """What bin/replay answers to `push`, from a list of bytes, "f" and "r"."""
-    d, said, index = Decoder(capacity), [], 0
+def answer(capacity, ops, way=1):
+    """What bin/replay answers to `push`, or to `push2` in the second way, from a list of bytes, "f" and "r"."""
+    d, said, index = Decoder(capacity, way), [], 0
     for op in ops:
         for e in map(d.push, op) if isinstance(op, bytes) else [d.finalize() if op == "f" else d.reset()]:
             index += 1

@@ -1,4 +1,4 @@
-"""bin/replay, and what else stands in bin/: the examples of docs/REPLAY.md, a mixed batch in its order, what is no command, no input, a live pipe, pipes at once, a long batch, files, and the stored vectors; and that the two programs behind it share one line.rt."""
+"""bin/replay, and what else stands in bin/: the examples of docs/REPLAY.md, a mixed batch in its order, what is no command, no input, a live pipe, pipes at once, a long batch, files, options, and the stored vectors; and that the two programs behind it share one line.rt."""
 import os, random, re, select, subprocess, sys
 
 sys.dont_write_bytecode = True
@@ -16,13 +16,27 @@ def same(what, said, wanted):
         faults.append(f"{what}: {said[:200]!r}, wanted {wanted[:200]!r}")
 
 
-def replay(given, *words):
-    run = subprocess.run(["bin/replay", *words], input=given, capture_output=True)
+def started(name, given, *words):
+    run = subprocess.run(["bin/" + name, *words], input=given, capture_output=True)
     return run.returncode, run.stdout, run.stderr
 
 
+def live(name, parts, *words):
+    """Each part of the input must bring its line before the next is written; nothing is left behind the last."""
+    run = subprocess.Popen(["bin/" + name, *words], stdin=subprocess.PIPE, stdout=subprocess.PIPE, bufsize=0)
+    for part, line in parts:
+        run.stdin.write(part)
+        heard, more = b"", True
+        while more and not heard.endswith(b"\n") and select.select([run.stdout], [], [], 60)[0]:
+            more = run.stdout.read(65536)
+            heard += more
+        same(f"{name}, live, {part!r}", heard, line)
+    run.stdin.close()
+    same(f"{name}, a live pipe ends", (run.wait(60), run.stdout.read()), (0, b""))
+
+
 def answers(given):
-    status, said, errors = replay(given)
+    status, said, errors = started("replay", given)
     same("status and standard error", (status, errors), (0, b""))
     return said
 
@@ -58,24 +72,39 @@ same("no command", answers(b"\n \nhello\ncrc 31\n" + b"x" * 200000 + b"\ncrc " +
 same("a long batch", answers(b"crc 31\nevents -\n?\n" * 50000), b"d072\nnone\nbad command\n" * 50000)
 same("many long answers of one, and then the other's", answers(b"leaf u8 62ff\n" + (b"encode " + b"1b" * 30000 + b"\n") * 100 + b"leaf u8 62ff\n").count(b"\n"), 102)
 
-live = subprocess.Popen(["bin/replay"], stdin=subprocess.PIPE, stdout=subprocess.PIPE, bufsize=0)
-for command, answer in examples[:3] + examples[-6:-3]:
-    live.stdin.write(command.encode() + b"\n")
-    heard = b""
-    while not heard.endswith(b"\n") and select.select([live.stdout], [], [], 60)[0]:
-        heard += live.stdout.read(65536)
-    same(f"live, {command}", heard.decode(), answer + "\n")
-live.stdin.close()
-same("a live pipe ends", (live.wait(60), live.stdout.read()), (0, b""))
+live("replay", [(command.encode() + b"\n", answer.encode() + b"\n") for command, answer in examples[:3] + examples[-6:-3]])
 
 os.makedirs("target/compare", exist_ok=True)
 open("target/compare/replay.in", "w").write("crc 31")
-same("a file", replay(b"", "target/compare/replay.in"), (0, b"d072\n", b""))
-same("standard input by name", replay(b"crc 31", "-"), (0, b"d072\n", b""))
-for words, status in [["target/compare/none.in"], 2], [["a", "b"], 2], [["-x"], 2], [["-h"], 0], [["captures/bare-times.bin"], 0]:
-    for command in "bin/replay", "bin/smlcat":
-        run = subprocess.run([command, *words], stdin=subprocess.DEVNULL, capture_output=True)
-        same(f"{command} {words}", (run.returncode, bool(run.stdout), bool(run.stderr), b"Traceback" in run.stderr), (status, status == 0, status != 0, False))
+same("a file", started("replay", b"", "target/compare/replay.in"), (0, b"d072\n", b""))
+same("standard input by name", started("replay", b"crc 31", "-"), (0, b"d072\n", b""))
+for words, status in [["target/compare/none.in"], 2], [["a", "b"], 2], [["-x"], 2], [["-h"], 0], [["captures/bare-times.bin"], 0], [["captures"], 2], [["-h", "a", "b"], 0], [["captures/bare-times.bin", "-h"], 2]:
+    for name in "replay", "smlcat":
+        code, out, said = started(name, b"", *words)
+        same(f"{name} {words}", (code, bool(out), bool(said), b"Traceback" in said), (status, status == 0, status != 0, False))
+        if "-h" in words or status == 2 and len(words) > 1:
+            same(f"{name} {words}: its usage", (out + said).split(b":")[0], b"replay [FILE]" if name == "replay" else b"smlcat [-2] [FILE]")
+
+# -2 is the second way of searching; without it smlcat is document 01's program
+frame = bytes.fromhex("1b1b1b1b01010101123456781b1b1b1b1a00b87b")
+open("target/compare/stray.bin", "wb").write(b"\x1b" + frame)
+for given, words, wanted in [
+    (b"\x1b" + frame, [], b"discarded 21\n"),
+    (b"\x1b" + frame, ["-"], b"discarded 21\n"),
+    (b"", ["target/compare/stray.bin"], b"discarded 21\n"),
+    (b"\x1b" + frame, ["-2"], b"discarded 1\npayload 12345678\n"),
+    (b"\x1b" + frame, ["-2", "-"], b"discarded 1\npayload 12345678\n"),
+    (b"", ["-2", "target/compare/stray.bin"], b"discarded 1\npayload 12345678\n"),
+    (frame, ["-2"], b"payload 12345678\n"),
+    (frame[:-1] + b"\x7a\x1b" + frame, ["-2"], b"invalid 7ab8 7bb8 aligned 0\ndiscarded 1\npayload 12345678\n"),
+    (b"", [], b""),
+    (b"", ["-2"], b""),
+]:
+    same(f"smlcat {words}, {given.hex()}", started("smlcat", given, *words), (0, wanted, b""))
+for words in ["-3"], ["-22"], ["2"], ["-2", "-3"], ["-2", "target/compare/none.in"], ["target/compare/stray.bin", "-2"], ["-2", "a", "b"], ["--", "-"]:
+    same(f"smlcat {words}", started("smlcat", frame, *words)[:2], (2, b""))
+same("replay -2", started("replay", b"crc 31", "-2")[:2], (2, b""))
+live("smlcat", [(frame, b"payload 12345678\n"), (b"\x1b" + frame[:8], b"discarded 1\n"), (frame[8:], b"payload 12345678\n")], "-2")
 for command in "bin/wrong | head -n 1", "yes crc 31 | head -n 20000 | bin/replay | head -n 1":
     same(f"{command}, on standard error", subprocess.run(["sh", "-c", command], capture_output=True).stderr, b"")
 # the commands of a pipe begin at once, and each looks whether its program is proved; on a slow machine one may say that it waits

@@ -18,8 +18,8 @@ if subprocess.run(["rt", "check", "smlcat", *COMMANDS], capture_output=True).ret
 faults, count = [], 0
 
 
-def run(name, given):
-    ran = subprocess.run(["bin/replay"] if name == "bin/replay" else program(name), input=given, capture_output=True)
+def run(name, given, *words):
+    ran = subprocess.run(["bin/replay"] if name == "bin/replay" else [*program(name), *words], input=given, capture_output=True)
     if ran.returncode != 0 or ran.stderr:
         faults.append(f"{name}: status {ran.returncode} on {len(given)} bytes, {given[:40]!r}")
     return ran.stdout.decode("latin-1")
@@ -54,15 +54,16 @@ def captures(r):
 r = random.Random(SEED)
 for k, data in enumerate(captures(r)):
     same(f"smlcat, capture {k}", run("smlcat", data), "".join(e + "\n" for e in push_rules.events(4096, data)))
+    same(f"smlcat -2, capture {k}", run("smlcat", data, "-2"), "".join(e + "\n" for e in push_rules.events(4096, data, 2)))
 
 # ---- replay: what is a command, by the table of commands
 
 HEX = r"(?:-|(?:[0-9a-f]{2})+)"
-COMMAND = re.compile(r"(?:encode|stream|crc|events|places) %s|encode_cap \d+ %s|leaf (?:%s) %s|push \d+ (?:f|r|b%s|z\d+:[0-9a-f]{2})(?:,(?:f|r|b%s|z\d+:[0-9a-f]{2}))*" % (HEX, HEX, "|".join(KINDS + MORE), HEX, HEX, HEX), re.A)
+COMMAND = re.compile(r"(?:encode|stream|crc|events|places) %s|encode_cap \d+ %s|leaf (?:%s) %s|push2? \d+ (?:f|r|b%s|z\d+:[0-9a-f]{2})(?:,(?:f|r|b%s|z\d+:[0-9a-f]{2}))*" % (HEX, HEX, "|".join(KINDS + MORE), HEX, HEX, HEX), re.A)
 
 
 def is_command(line):
-    numbers = [int(n) for n in re.findall(r"^(?:encode_cap|push) (\d+)", line)], [int(n) for n in re.findall(r"[ ,]z(\d+):", line)]
+    numbers = [int(n) for n in re.findall(r"^(?:encode_cap|push2?) (\d+)", line)], [int(n) for n in re.findall(r"[ ,]z(\d+):", line)]
     return len(line) <= 70000 and bool(COMMAND.fullmatch(line)) and all(n <= 1048577 for n in numbers[0]) and all(n <= 1048576 for n in numbers[1])
 
 
@@ -85,9 +86,9 @@ def wanted(line):
     if words[0] == "encode_cap":
         f = frame(unhex(words[2]))
         return f.hex() if len(f) <= int(words[1]) else "memory"
-    if words[0] == "push":
+    if words[0] in ("push", "push2"):
         ops = [o if o in "fr" else unhex(o[1:]) if o[0] == "b" else bytes([int(o[-2:], 16)]) * int(o[1:-3]) for o in words[2].split(",")]
-        return push_rules.answer(int(words[1]), ops)
+        return push_rules.answer(int(words[1]), ops, 2 if words[0] == "push2" else 1)
 
 
 def held(name, known, what, given):
@@ -122,8 +123,9 @@ replayed("no line end", bytes(r.choice(b"0123456789abcdef") for _ in range(1 << 
 replayed("no line end, a command's beginning", b"push 4096 b" + b"1b" * (1 << 19))
 replayed("cut commands", "\n".join(cut).encode("latin-1"))
 replayed("commands", "\n".join(commands(SEED + 1, 400)).encode("latin-1"))
+replayed("commands, the second way", "\n".join(c.replace("push ", "push2 ") for c in commands(SEED + 1, 400)).encode("latin-1"))
 for n in (69998, 70000, 70001, 70002, 140000):
-    for head in ("crc ", "encode ", "stream ", "push 4096 b", "push 12 f,b", "events ", "leaf oct "):
+    for head in ("crc ", "encode ", "stream ", "push 4096 b", "push 12 f,b", "push2 12 f,b", "events ", "leaf oct "):
         replayed(f"a line of {n}", (head + ("1b0042ff" * 40000)[: n - len(head)] + "\ncrc 31").encode())
 print("\n".join(faults[:20]))
 print(f"{count} answers held, {len(faults)} faults")

@@ -20,6 +20,7 @@ decided =
     record {
       bench-push = λ src buf. injective (λ (r : With ℕ). counted (r .answer) (r .memory)) (views .number) _;
       bench-push-slice = λ src buf. injective (λ (r : With ℕ). counted (r .answer) (r .memory)) (views .number) _;
+      bench-push-slice-second = λ src buf. injective (λ (r : With ℕ). counted (r .answer) (r .memory)) (views .number) _;
       bench-encode = λ payload out. injective (λ (r : With ℕ). counted (r .answer) (r .memory)) (views .number) _;
       bench-stream = λ payload. oneOutcome _;
       bench-events = λ input. oneOutcome _;

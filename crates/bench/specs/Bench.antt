@@ -6,7 +6,7 @@ use lib.ListN.{length}
 use lib.Dec.{leb}
 use Rattle.frame.specs.Frame.{frameOf}
 use Rattle.decoder.specs.Record as D
-use Rattle.decoder.specs.Push.{sized}
+use Rattle.decoder.specs.Push.{inWay}
 use Rattle.decoder.specs.Record.{nothing, payload, count, After, pushRecord, newRecord}
 use Rattle.decoder.specs.declared.Decoder.{Decoder}
 use Rattle.encoder.specs.Encode as E
@@ -38,9 +38,9 @@ payloadsFrom n d m (b ∷ bs) =
     let a : After = pushRecord d m b in
     payloadsFrom (n + one (a .answer)) (a .decoder) (a .memory) bs
 
--- from a new decoder of the lent buffer's length
-abbrev pub payloads : List ℕ → List ℕ → CountedIn
-payloads bytes m = payloadsFrom 0 (newRecord (sized (length m))) m bytes
+-- from a new decoder of a way of searching and of the lent buffer's length
+abbrev pub payloads : ℕ → List ℕ → List ℕ → CountedIn
+payloads way bytes m = payloadsFrom 0 (newRecord (inWay way (length m))) m bytes
 
 -- ---- encode and Encoder
 

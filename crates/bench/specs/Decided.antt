@@ -3,6 +3,7 @@ use mathlib.Core.Path.{_≡_}
 use mathlib.Core.List.{List}
 use Prim.Native.Nat.{ℕ}
 use Rattle.crc_x25.specs.Crc.{crcOf}
+use Rattle.decoder.specs.Push.{firstWay, secondWay}
 use Rattle.bench.specs.Bench.{counted, payloads, encoded, streamed, events}
 use Rattle.decided.specs.One.{One, With, Injective}
 
@@ -12,8 +13,9 @@ pub record Views : Type 0 where
 
 -- every public function: over its parameters, what its `ensures` allows
 pub record Decided : Type 0 where
-  pub bench-push : (src buf : List ℕ) → One (λ (r : With ℕ). counted (r .answer) (r .memory) ≡ payloads src buf)
-  pub bench-push-slice : (src buf : List ℕ) → One (λ (r : With ℕ). counted (r .answer) (r .memory) ≡ payloads src buf)
+  pub bench-push : (src buf : List ℕ) → One (λ (r : With ℕ). counted (r .answer) (r .memory) ≡ payloads firstWay src buf)
+  pub bench-push-slice : (src buf : List ℕ) → One (λ (r : With ℕ). counted (r .answer) (r .memory) ≡ payloads firstWay src buf)
+  pub bench-push-slice-second : (src buf : List ℕ) → One (λ (r : With ℕ). counted (r .answer) (r .memory) ≡ payloads secondWay src buf)
   pub bench-encode : (payload out : List ℕ) → One (λ (r : With ℕ). counted (r .answer) (r .memory) ≡ encoded payload out)
   pub bench-stream : (payload : List ℕ) → One (λ (r : ℕ). r ≡ streamed payload)
   pub bench-events : (input : List ℕ) → One (λ (r : ℕ). r ≡ events input)

@@ -5,12 +5,13 @@ ghost use Prim.Native.Nat.{_<_, _≤_};
 ghost use lib.ListN.{length};
 ghost use Rattle.crc_x25.specs.Crc.{crcOf};
 ghost use Rattle.frame.specs.Frame.{frameOf};
+ghost use Rattle.decoder.specs.Push.{firstWay, secondWay};
 ghost use Rattle.decoder.specs.Record as D;
 ghost use Rattle.encoder.specs.Encode as E;
 ghost use Rattle.refusals.specs.Numbers.{limit};
 ghost use Rattle.encoder.specs.Encoder.{nextAnswer};
 ghost use Rattle.streaming.specs.Answers.{said};
-ghost use Rattle.bench.specs.Bench.{counted, one, payloads, lengthIn, encoded, sum, streamed, isEvent, events};
+ghost use Rattle.bench.specs.Bench.{counted, one, payloadsFrom, payloads, lengthIn, encoded, sum, streamed, isEvent, events};
 ghost use Rattle.bench.specs.Given.{isByte, given};
 use decoder::Decoder;
 use decoder::Event;
@@ -43,7 +44,7 @@ fn one_payload(e: Event) -> u64
 // The payloads in `src`, by single pushes.
 #[no_mangle]
 pub extern "C" fn bench_push(src: &[u8], buf: &mut [u8]) -> u64
-    ensures { λ r. ⌜ counted r (now (buf .exit)) ≡ payloads (now (src .entry)) (now (buf .entry)) ⌝ }
+    ensures { λ r. ⌜ counted r (now (buf .exit)) ≡ payloads firstWay (now (src .entry)) (now (buf .entry)) ⌝ }
 {
     let mut at = Decoder::new(buf.len());
     let mut n: u64 = 0;
@@ -58,12 +59,11 @@ pub extern "C" fn bench_push(src: &[u8], buf: &mut [u8]) -> u64
     n
 }
 
-// The payloads in `src`, by pushes of slices. A refused push takes no byte, and nor would the next.
-#[no_mangle]
-pub extern "C" fn bench_push_slice(src: &[u8], buf: &mut [u8]) -> u64
-    ensures { λ r. ⌜ counted r (now (buf .exit)) ≡ payloads (now (src .entry)) (now (buf .entry)) ⌝ }
+// The payloads in `src` for this decoder, by pushes of slices. A refused push takes no byte, and nor would the next.
+fn push_slices(d: Decoder, src: &[u8], buf: &mut [u8]) -> u64
+    ensures { λ r. ⌜ counted r (now (buf .exit)) ≡ payloadsFrom 0 d (now (buf .entry)) (now (src .entry)) ⌝ }
 {
-    let mut at = Decoder::new(buf.len());
+    let mut at = d;
     let mut n: u64 = 0;
     let mut i = 0;
     while i < src.len() {
@@ -78,6 +78,24 @@ pub extern "C" fn bench_push_slice(src: &[u8], buf: &mut [u8]) -> u64
         i += taken;
     }
     n
+}
+
+// The payloads in `src`, by pushes of slices.
+#[no_mangle]
+pub extern "C" fn bench_push_slice(src: &[u8], buf: &mut [u8]) -> u64
+    ensures { λ r. ⌜ counted r (now (buf .exit)) ≡ payloads firstWay (now (src .entry)) (now (buf .entry)) ⌝ }
+{
+    let d = Decoder::new(buf.len());
+    push_slices(d, src, buf)
+}
+
+// The same in the second way of searching.
+#[no_mangle]
+pub extern "C" fn bench_push_slice_second(src: &[u8], buf: &mut [u8]) -> u64
+    ensures { λ r. ⌜ counted r (now (buf .exit)) ≡ payloads secondWay (now (src .entry)) (now (buf .entry)) ⌝ }
+{
+    let d = Decoder::with_way(buf.len(), Decoder::SECOND_WAY);
+    push_slices(d, src, buf)
 }
 
 // The length of the frame that encode wrote, or 0.

@@ -1,14 +1,14 @@
 -- What the public functions answer, by what the code's tests said, over any record.
-use Prim.Native.Nat.{ℕ, _+_, _-_, _≤_}
+use Prim.Native.Nat.{ℕ, _+_, _-_, _≤_, _<_}
 use mathlib.Core.List.{List, []}
 use mathlib.Core.Path.{_≡_, refl, sym, _∙_}
 use mathlib.Core.Bool.{Bool, true, false, cond}
 use native.Mathlib.Omega.{arith}
 use lib.ListN.{length, take}
 use lib.Dec.{ltb, eqb}
-use borrow.Author.Tests.{ltb-true, ltb-false, lt-ltb, le-ltb}
+use borrow.Author.Tests.{ltb-true, ltb-false, lt-ltb, le-ltb, eq-eqb, ne-eqb}
 use Rattle.decoder.specs.Push.{silent, discarded, finalized, resetCount}
-use Rattle.decoder.specs.Record.{nothing, refusal, count, setup, stateAs, newRecord, badDecoder, wrongBuffer, afterFinalize, afterReset, finalizeRecord, resetRecord, stands, hasPayload, payloadRecord, askRecord}
+use Rattle.decoder.specs.Record.{nothing, refusal, count, setup, stateAs, newRecord, badIn, badDecoder, wrongBuffer, afterFinalize, afterReset, finalizeRecord, resetRecord, stands, hasPayload, payloadRecord, askRecord}
 use Rattle.decoder.specs.Cut.{isFresh, isDone, payloadIn}
 use Rattle.decoder.specs.declared.DecodeState.{DecodeState}
 use Rattle.decoder.specs.declared.DecodeState.the-variants.{LookingForMessageStart, ParsingNormal, ParsingEscChars, ParsingEscPayload, Done}
@@ -26,15 +26,23 @@ ltb-moved a b n false h e = le-ltb (a - b) n (omega (arith, ltb-false a (b + n) 
 ltb-move : (a b n : ℕ) → b ≤ a → ltb (a - b) n ≡ ltb a (b + n)
 ltb-move a b n h = ltb-moved a b n (ltb a (b + n)) h refl
 
-pub bad-normal : (d : Decoder) → d .fill ≤ d .capacity → d .«crc_idx» ≤ d .fill → d .state ≡ ParsingNormal → ltb (d .«raw_msg_len») 8 ≡ badDecoder d
-unfolding badDecoder
-bad-normal d h k s = simp (le-ltb (d .capacity) (d .fill) h, le-ltb (d .fill) (d .«crc_idx») k, s)
+pub bad-escape : (fill idx raw n : ℕ) → idx ≤ fill → 8 ≤ raw → n ≤ 3 → ltb (fill - idx) n ≡ badIn fill idx raw (ParsingEscPayload n)
+bad-escape fill idx raw n k r e = rw (le-ltb raw 8 r, le-ltb 3 n e, ltb-move fill idx n k)
 
-pub bad-escape : (d : Decoder) (n : ℕ) → d .fill ≤ d .capacity → d .«crc_idx» ≤ d .fill → d .state ≡ ParsingEscPayload n
-    → 8 ≤ d .«raw_msg_len» → n ≤ 3 → ltb (d .fill - d .«crc_idx») n ≡ badDecoder d
-unfolding badDecoder
-bad-escape d n h k s r e =
-    simp (le-ltb (d .capacity) (d .fill) h, le-ltb (d .fill) (d .«crc_idx») k, s, le-ltb (d .«raw_msg_len») 8 r, le-ltb 3 n e, ltb-move (d .fill) (d .«crc_idx») n k)
+-- ---- WrongBuffer, by its two tests
+
+pub other-length : (recorded lent : ℕ) → (recorded ≡ lent → ⊥) → wrongBuffer recorded lent ≡ true
+unfolding wrongBuffer
+other-length recorded lent ne = rw (ne-eqb lent recorded (λ e. ne (sym e)))
+
+module _ (recorded lent : ℕ) (same : recorded ≡ lent) where
+  pub over-limit : 1048576 < lent → wrongBuffer recorded lent ≡ true
+  unfolding wrongBuffer
+  over-limit lt = rw (eq-eqb lent recorded (sym same), lt-ltb 1048576 lent lt)
+
+  pub within-limit : lent ≤ 1048576 → wrongBuffer recorded lent ≡ false
+  unfolding wrongBuffer
+  within-limit le = rw (eq-eqb lent recorded (sym same), le-ltb 1048576 lent le)
 
 -- ---- finalize and reset
 

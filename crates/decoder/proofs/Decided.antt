@@ -25,6 +25,7 @@ pub decided : Decided
 decided =
     record {
       new = λ capacity. oneOutcome _;
+      with-way = λ capacity way. oneOutcome _;
       recounted = λ d fill raw s. oneOutcome _;
       matching = λ n b. oneOutcome _;
       bad-decoder = λ d. oneOutcome _;

@@ -4,8 +4,8 @@ use mathlib.Core.List.{List, [], _∷_, _++_, map}
 use Prim.Native.Nat.{ℕ, suc}
 use lib.ListN.{replicate}
 use Rattle.crc_x25.specs.Crc.{reflect, polynomial, bitStep, bitSteps, byteStep, register, finalXor}
-use Rattle.frame.specs.Frame.{startSeq, escSeq}
-use Rattle.decoder.specs.Push.{sized, search, searching, store, same, finish, judge, step, finalized, resetCount}
+use Rattle.frame.specs.Frame.{startSeq, escSeq, same}
+use Rattle.decoder.specs.Push.{sized, search, searching, store, finish, judge, step, finalized, resetCount}
 use Rattle.decoder.specs.Record.{DecoderAnswer, nothing, payload, count, refusal, wrote, badDecoder, wrongBuffer, pushed, pushRecord, finalizeRecord, resetRecord, left, recordOf, newRecord}
 use Rattle.decoder.specs.Run.{Op, push, finalize, reset, act, run}
 

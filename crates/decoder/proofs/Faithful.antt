@@ -16,7 +16,7 @@ use Rattle.decoder.specs.declared.DecodeState.the-variants.{LookingForMe
 use Rattle.decoder.specs.declared.Decoder.{Decoder}
 use Rattle.decoder.proofs.Split.{split}
 use Rattle.decoder.proofs.Saw.{saw}
-use Rattle.decoder.proofs.Valid.{Valid, valid-step, valid-view, not-bad, sane, sane-search, right-buffer}
+use Rattle.decoder.proofs.Valid.{Valid, valid-step, valid-view, not-bad, sane, sane-way, sane-search, right-buffer}
 
 -- the bytes that a state has in the buffer
 abbrev pub contents : State → List ℕ
@@ -156,7 +156,7 @@ steps-at d m b fill f e =
     let n : length (written m (length (contents s)) w) ≡ length m = written-length m w (length (contents s)) (rw l (wrote-fits C s b v)) in
     rw e (record {
       answer = refl;
-      fit = record { state = not-bad C t (valid-step C s b v); buffer = wrong-same d m (written m (length (contents s)) w) C t refl n (f .buffer) };
+      fit = record { state = not-bad C t (sane-way d (f .state)) (valid-step C s b v); buffer = wrong-same d m (written m (length (contents s)) w) C t refl n (f .buffer) };
       setup′ = setup-pack C t;
       view′ = view-pack C t (written m (length (contents s)) w) h;
     })

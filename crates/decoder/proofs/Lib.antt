@@ -15,5 +15,6 @@ pub mod Stores
 pub mod Tests
 pub mod Checks
 pub mod Reached
+pub mod First
 pub mod Decided
 pub mod Wrong

@@ -13,7 +13,8 @@ use Rattle.decoder.proofs.States.{actState, answerState, runState, stat
 use Rattle.decoder.specs.declared.DecodeState.{DecodeState}
 use Rattle.decoder.specs.declared.DecodeState.the-variants.{LookingForMessageStart, ParsingNormal, ParsingEscChars, ParsingEscPayload, Done}
 use Rattle.decoder.specs.declared.Decoder.{Decoder}
-use Rattle.decoder.proofs.Valid.{not-bad}
+use Rattle.decoder.proofs.Search.{Known}
+use Rattle.decoder.proofs.Valid.{not-bad, sane-way}
 use Rattle.decoder.proofs.Faithful.{Fit, push-is-step}
 
 -- an operation over the record is the operation over its state
@@ -41,7 +42,7 @@ reset-as d m n (ParsingEscPayload k) = refl
 reset-as d m n Done = refl
 
 fresh-fit : (d : Decoder) (m : List ℕ) → Fit d m → Fit (newRecord (setup d)) m
-fresh-fit d m f = record { state = not-bad (setup d) fresh (omega arith); buffer = f .buffer }
+fresh-fit d m f = record { state = not-bad (setup d) fresh (sane-way d (f .state)) (omega arith); buffer = f .buffer }
 
 pub acts : (d : Decoder) (m : List ℕ) (o : Op) → Fit d m → Acts d m o (act d m o)
 unfolding act actState answerState finalizeRecord resetRecord
@@ -76,21 +77,21 @@ leads (o ∷ os) a f =
     let r = leads os (act (a .decoder) (a .memory) o) (h .fit) in
     record { fit = r .fit; setup′ = r .setup′ ∙ h .setup′; view′ = r .view′ ∙ rw (h .setup′, h .view′) }
 
--- a new decoder, with a buffer of its capacity
-pub new-fit : (C : Setup) (m : List ℕ) → length m ≡ C .capacity → C .capacity ≤ 1048576 → Fit (newRecord C) m
+-- a new decoder of a known way, with a buffer of its capacity
+pub new-fit : (C : Setup) (m : List ℕ) → Known C → length m ≡ C .capacity → C .capacity ≤ 1048576 → Fit (newRecord C) m
 unfolding wrongBuffer
-new-fit C m l le =
+new-fit C m w l le =
     record {
-      state = not-bad C fresh (omega arith);
+      state = not-bad C fresh w (omega arith);
       buffer = rw (l, eq-eqb (C .capacity) (C .capacity) refl, le-ltb 1048576 (C .capacity) le);
     }
 
-pub run-new : (C : Setup) (m : List ℕ) (os : List Op) → length m ≡ C .capacity → C .capacity ≤ 1048576 → run (newRecord C) m os ≡ runState C fresh os
-run-new C m os l le = run-is os (newRecord C) m (new-fit C m l le)
+pub run-new : (C : Setup) (m : List ℕ) (os : List Op) → Known C → length m ≡ C .capacity → C .capacity ≤ 1048576 → run (newRecord C) m os ≡ runState C fresh os
+run-new C m os w l le = run-is os (newRecord C) m (new-fit C m w l le)
 
 -- what is reached from a new decoder is never refused with 4 or 5
-pub never-bad : (C : Setup) (m : List ℕ) (os : List Op) → length m ≡ C .capacity → C .capacity ≤ 1048576
+pub never-bad : (C : Setup) (m : List ℕ) (os : List Op) → Known C → length m ≡ C .capacity → C .capacity ≤ 1048576
     → let a : After = behind (after nothing (newRecord C) m) os in (badDecoder (a .decoder) ≡ false) × (setup (a .decoder) ≡ C)
-never-bad C m os l le =
-    let r = leads os (after nothing (newRecord C) m) (new-fit C m l le) in
+never-bad C m os w l le =
+    let r = leads os (after nothing (newRecord C) m) (new-fit C m w l le) in
     (r .fit .state, r .setup′)

@@ -8,7 +8,7 @@ use borrow.Author.Tests.{eq-eqb, ne-eqb}
 use lib.Dec.{eqb}
 use lib.ListN.{length, getD, drop, drop-of-length-le}
 use lib.Seq.{drop-cons}
-use Rattle.decoder.specs.Push.{same}
+use Rattle.frame.specs.Frame.{same}
 
 module _ (s t : List ℕ) (i : ℕ) where
   same-at : i < length s → i < length t

@@ -6,29 +6,11 @@ use Prim.Native.Nat.{ℕ, suc, _+_, _-_, _%_, _≤_}
 use native.Mathlib.Omega.{arith}
 use lib.ListN.{length, replicate, take, getD}
 use borrow.Author.Tests.{leb-true, eq-eqb, le-leb}
-use Rattle.frame.specs.Frame.{missing, escSeq, restartSeq}
+use Rattle.frame.specs.Frame.{missing, escSeq, restartSeq, same}
 use Rattle.frame.proofs.Cases.{by-test, by-eq, by-le, by-lt}
-use Rattle.decoder.specs.Push.{Setup, Mem, State, search, body, escape, done, searching, store, same, matchedBehind, early, sound?, computed, padOf, crcRead, judge, finish, step}
+use Rattle.frame.proofs.Same.{same-true, same-false}
+use Rattle.decoder.specs.Push.{Setup, Mem, State, search, body, escape, done, searching, store, matchedBehind, early, sound?, computed, padOf, crcRead, judge, finish, step}
 use Rattle.decoder.specs.Saw.{Passed, Judged, is-data, restarts, good, bad, shifts, unknown, Saw, sought, began, again, waits, opens, stores, full, collects, judges, full′}
-
--- two lists that `same` finds equal are equal, and the other way round
-pub same-true : (a b : List ℕ) → same a b ≡ true → a ≡ b
-unfolding same
-same-true [] [] e = refl
-same-true [] (y ∷ b) e = absurd (false≢true e)
-same-true (x ∷ a) [] e = absurd (false≢true e)
-same-true (x ∷ a) (y ∷ b) e =
-    by-eq (λ (t : Bool). t ≡ true → _≡_ {A = List ℕ} (x ∷ a) (y ∷ b)) x y (same a b) false
-    (λ p f. let q : a ≡ b = same-true a b f in cc)
-    (λ n f. absurd (false≢true f)) e
-
-same-self : (a : List ℕ) → same a a ≡ true
-unfolding same
-same-self [] = refl
-same-self (x ∷ a) = rw (eq-eqb x x refl) (same-self a)
-
-pub same-false : (a b : List ℕ) → same a b ≡ false → a ≡ b → ⊥
-same-false a b f e = false≢true (sym f ∙ rw e (same-self b))
 
 pub passed : (m : Mem) (p read : ℕ) → sound? m p read ≡ true → Passed m p read
 passed m p read =
@@ -61,10 +43,10 @@ judged m four =
     (λ t. let e = early-is (missing (length (m .stored))) four t in shifts (missing (length (m .stored))) refl (e .0) (omega arith) (e .1))
     (λ f₄. unknown (same-false four escSeq f₁) (same-false four restartSeq f₂) f₃ f₄))))
 
-searched : (C : Setup) (n noise raw b : ℕ) → Saw C (search n noise raw) b (searching n noise raw b)
+searched : (C : Setup) (n noise raw b : ℕ) → Saw C (search n noise raw) b (searching (C .way) n noise raw b)
 unfolding searching
 searched C n noise raw b =
-    by-eq (Saw C (search n noise raw) b) (matchedBehind n b) 8 _ _ began (sought (matchedBehind n b) refl)
+    by-eq (Saw C (search n noise raw) b) (matchedBehind (C .way) n b) 8 _ _ began (sought (matchedBehind (C .way) n b) refl)
 
 pub saw : (C : Setup) (s : State) (b : ℕ) → Saw C s b (step C s b)
 unfolding step store

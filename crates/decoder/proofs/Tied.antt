@@ -11,10 +11,10 @@ use lib.Seq.{take-nil, take-at, take-take, length-take-le, sets, sets-eq, getD-t
 use lib.Dec.{eqb}
 use borrow.Author.Tests.{eq-eqb, ne-eqb, le-leb, lt-leb, lt-ltb, le-ltb}
 use Rattle.crc_x25.specs.Crc.{register, finalXor}
-use Rattle.frame.specs.Frame.{missing, escSeq, restartSeq}
+use Rattle.frame.specs.Frame.{missing, escSeq, restartSeq, same}
 use Rattle.frame.proofs.Cases.{either}
 use Rattle.decoder.specs.Push as P
-use Rattle.decoder.specs.Push.{Setup, Mem, State, body, escape, done, silent, discarded, badEscape, says, put, searching, store, judge, finish, begun, fresh, early, same, sound?, computed, padOf, crcRead, step}
+use Rattle.decoder.specs.Push.{Setup, Mem, State, body, escape, done, silent, discarded, badEscape, says, put, searching, store, judge, finish, begun, fresh, early, sound?, computed, padOf, crcRead, step}
 use Rattle.decoder.specs.Record.{after, answerOf, numbered, setup, memOf, stateAs, stateOf, waiting, recordWith, recounted, recordOf, wrote, written, badDecoder, wrongBuffer, pushed, pushRecord, DecoderAnswer, payload}
 use Rattle.decoder.specs.Cut.{codeEvent, code, Cut, cut, toldCut, storedOn, freshWith, storeStep, normalStep, escapeAt, waitStep, four, judgedAt, sound, verdict, computedCrc, endStep, otherStep, judgeStep, escapeStep, stepCut}
 use Rattle.decoder.specs.declared.DecodeState.{DecodeState}
@@ -192,7 +192,7 @@ tied-as : (d : Decoder) (m : List ℕ) (b : ℕ) (s : DecodeState) → d .state 
     → stepCut s d m b ≡ coded (setup d) m (stateAs s d m) b
 unfolding stepCut step wrote
 tied-as d m b (LookingForMessageStart n noise) e g lent = refl
-tied-as d m b Done e g lent = ap (cut (code (setup d) (searching 0 0 0 b))) (sym (written-nil m (length (take (d .fill) m))))
+tied-as d m b Done e g lent = ap (cut (code (setup d) (searching (d .way) 0 0 0 b))) (sym (written-nil m (length (take (d .fill) m))))
 tied-as d m b ParsingNormal e g lent = tied-wait d m b 0 e (omega (arith, sane d g .0)) lent
 tied-as d m b (ParsingEscChars zero) e g lent = absurd (omega (arith, sane-wait d g 0 e .0))
 tied-as d m b (ParsingEscChars (suc n)) e g lent = tied-wait d m b (suc n) e (omega (arith, sane d g .0)) lent

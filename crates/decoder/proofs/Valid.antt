@@ -9,13 +9,13 @@ use lib.Seq.{length-take-le}
 use lib.Dec.{eqb, ltb}
 use borrow.Author.Tests.{ltb-false, eqb-true, eqb-false, le-ltb, ne-eqb}
 use Rattle.decoder.specs.Push.{Setup, Mem, State, search, body, escape, done, Out, fresh, step, put}
-use Rattle.decoder.specs.Record.{setup, stateAs, stateOf, recordOf, badIn, badDecoder, wrongBuffer}
+use Rattle.decoder.specs.Record.{setup, stateAs, stateOf, recordOf, unknownWay, badIn, badDecoder, wrongBuffer}
 use Rattle.decoder.specs.Saw.{Judged, is-data, restarts, good, bad, shifts, unknown, Saw, sought, began, again, waits, opens, stores, full, collects, judges, full′}
 use Rattle.decoder.specs.declared.DecodeState.{DecodeState}
 use Rattle.decoder.specs.declared.DecodeState.the-variants.{LookingForMessageStart, ParsingNormal, ParsingEscChars, ParsingEscPayload, Done}
 use Rattle.decoder.specs.declared.Decoder.{Decoder}
 use Rattle.decoder.proofs.Saw.{saw}
-use Rattle.decoder.proofs.Search.{matched-most}
+use Rattle.decoder.proofs.Search.{Known, matched-most}
 
 abbrev pub Valid : Setup → State → Type 0
 Valid C (search n noise raw) = n ≤ 7
@@ -33,7 +33,7 @@ valid-judged C m four o f i r (shifts a e lo hi t) = omega arith
 valid-judged C m four o f i r (unknown a b c d) = omega arith
 
 valid-saw : (C : Setup) (s : State) (b : ℕ) (o : Out) → Valid C s → Saw C s b o → Valid C (o .state)
-valid-saw C s b o v (sought {n} k e ne) = omega (arith, e, matched-most n b)
+valid-saw C s b o v (sought {n} k e ne) = omega (arith, e, matched-most (C .way) n b)
 valid-saw C s b o v (began e) = omega arith
 valid-saw C s b o v (again w) = valid-saw C fresh b o (omega arith) w
 valid-saw C s b o v (waits e ne) = omega arith
@@ -48,15 +48,15 @@ valid-saw C s b o v (full′ h) = omega arith
 pub valid-step : (C : Setup) (s : State) (b : ℕ) → Valid C s → Valid C ((step C s b) .state)
 valid-step C s b v = valid-saw C s b (step C s b) v (saw C s b)
 
-pub not-bad : (C : Setup) (s : State) → Valid C s → badDecoder (recordOf C s) ≡ false
+pub not-bad : (C : Setup) (s : State) → Known C → Valid C s → badDecoder (recordOf C s) ≡ false
 unfolding badDecoder
-not-bad C (search n noise raw) v = rw (le-ltb (C .capacity) 0 (omega arith), le-ltb 7 n v)
-not-bad C (body zero q) v = rw (le-ltb (C .capacity) (length (q .stored)) (v .1), le-ltb (length (q .stored)) (q .idx) (v .2), le-ltb (q .raw) 8 (v .3))
-not-bad C (body (suc n) q) v =
-    rw (le-ltb (C .capacity) (length (q .stored)) (v .1), le-ltb (length (q .stored)) (q .idx) (v .2), le-ltb (q .raw) 8 (v .3), ne-eqb (suc n) 0 (λ e. omega arith), le-ltb 3 (suc n) (v .0))
-not-bad C (escape k q) v =
-    rw (le-ltb (C .capacity) (length (q .stored)) (v .1), le-ltb (length (q .stored)) (q .idx) (omega arith), le-ltb (q .raw) 8 (v .3), le-ltb 3 k (v .0), le-ltb (length (q .stored)) (q .idx + k) (v .2))
-not-bad C (done P) v = rw (le-ltb (C .capacity) (length P) v, le-ltb (length P) 0 (omega arith))
+not-bad C (search n noise raw) w v = rw (w, le-ltb (C .capacity) 0 (omega arith), le-ltb 7 n v)
+not-bad C (body zero q) w v = rw (w, le-ltb (C .capacity) (length (q .stored)) (v .1), le-ltb (length (q .stored)) (q .idx) (v .2), le-ltb (q .raw) 8 (v .3))
+not-bad C (body (suc n) q) w v =
+    rw (w, le-ltb (C .capacity) (length (q .stored)) (v .1), le-ltb (length (q .stored)) (q .idx) (v .2), le-ltb (q .raw) 8 (v .3), ne-eqb (suc n) 0 (λ e. omega arith), le-ltb 3 (suc n) (v .0))
+not-bad C (escape k q) w v =
+    rw (w, le-ltb (C .capacity) (length (q .stored)) (v .1), le-ltb (length (q .stored)) (q .idx) (omega arith), le-ltb (q .raw) 8 (v .3), le-ltb 3 k (v .0), le-ltb (length (q .stored)) (q .idx + k) (v .2))
+not-bad C (done P) w v = rw (w, le-ltb (C .capacity) (length P) v, le-ltb (length P) 0 (omega arith))
 
 -- ---- and what is known of a record that is not refused
 
@@ -72,9 +72,15 @@ pub sane : (d : Decoder) → badDecoder d ≡ false
     → (d .fill ≤ d .capacity) × (d .«crc_idx» ≤ d .fill) × (badIn (d .fill) (d .«crc_idx») (d .«raw_msg_len») (d .state) ≡ false)
 unfolding badDecoder
 sane d e =
-    let p = or-false (ltb (d .capacity) (d .fill)) _ e in
+    let o = or-false (unknownWay (d .way)) _ e in
+    let p = or-false (ltb (d .capacity) (d .fill)) _ (o .1) in
     let q = or-false (ltb (d .fill) (d .«crc_idx»)) _ (p .1) in
     (ltb-false _ _ (p .0), ltb-false _ _ (q .0), q .1)
+
+-- its way is known
+pub sane-way : (d : Decoder) → badDecoder d ≡ false → Known (setup d)
+unfolding badDecoder
+sane-way d e = or-false (unknownWay (d .way)) _ e .0
 
 module _ (d : Decoder) (g : badDecoder d ≡ false) where
   pub sane-search : (noise n : ℕ) → d .state ≡ LookingForMessageStart n noise → (d .fill ≡ 0) × (n < 8)

@@ -6,14 +6,15 @@ use Prim.Native.Nat.{ℕ, suc}
 use native.Mathlib.Omega.{arith}
 use lib.ListN.{replicate, getD}
 use Rattle.crc_x25.specs.Crc.{reflect, polynomial, bitStep, bitSteps, byteStep, register, finalXor}
-use Rattle.decoder.specs.Push.{sized, search, escape, done, starts, searching, store, same, judge, finish, step, finalized, resetCount}
+use Rattle.frame.specs.Frame.{same}
+use Rattle.decoder.specs.Push.{inWay, sized, begun, search, escape, done, starts, searching, store, judge, finish, step, finalized, resetCount}
 use Rattle.decoder.specs.Record.{DecoderAnswer, nothing, payload, count, refusal, After, Left, afterPush, afterFinalize, afterReset, answerAsked, wrote, badDecoder, wrongBuffer, newRecord, recordWith, recordOf, recounted, pushed, pushRecord, finalizeRecord, resetRecord, hasPayload, payloadRecord, askRecord}
 use Rattle.decoder.specs.declared.Asked.the-variants.{Good}
 use Rattle.decoder.specs.declared.DecodeState.{DecodeState}
 use Rattle.decoder.specs.declared.DecodeState.the-variants.{LookingForMessageStart, ParsingNormal, ParsingEscChars, ParsingEscPayload, Done}
 use Rattle.decoder.specs.declared.Decoder.{Decoder}
 use Rattle.decoder.specs.declared.Event.{Event}
-use Rattle.decoder.specs.declared.Event.the-variants.{Payload, DiscardedBytes, WrongBuffer}
+use Rattle.decoder.specs.declared.Event.the-variants.{Nothing, Payload, DiscardedBytes, WrongBuffer}
 use Rattle.decided.specs.Part.{LentPart, partAt}
 
 -- the number of a refusal, and its first value
@@ -254,3 +255,43 @@ reset-counts-behind-a-payload d h = let n : _≡_ {A = ℕ} 5 0 = ap (λ (l : Le
 raw-wraps : (d : Decoder) (e : Event) (m : List ℕ) → d .«raw_msg_len» ≡ 0 → afterPush (record { decoder = d; event = e }) m ≡ pushRecord (recordOf (sized 8) (search 0 1 4294967295)) (replicate 8 0) 0x00 → ⊥
 unfolding pushRecord pushed badDecoder wrongBuffer step searching
 raw-wraps d e m is h = let n : _≡_ {A = ℕ} (d .«raw_msg_len») 4294967295 = ap (λ (a : After). a .decoder .«raw_msg_len») h in omega (arith, n, is)
+
+-- ---- the way of searching
+
+-- ways 0 and 3 are unknown
+unknown-way-is-taken : false ≡ badDecoder (newRecord (inWay 3 8)) → ⊥
+unfolding badDecoder
+unknown-way-is-taken h = false≢true h
+
+way-zero-is-good : false ≡ badDecoder (newRecord (inWay 0 8)) → ⊥
+unfolding badDecoder
+way-zero-is-good h = false≢true h
+
+second-way-is-bad : true ≡ badDecoder (newRecord (inWay 2 8)) → ⊥
+unfolding badDecoder
+second-way-is-bad h = false≢true (sym h)
+
+-- inside a frame of way 3 a plain byte is refused, as any other is
+short-way-takes-any-way : (d : Decoder) (m : List ℕ) → afterPush (record { decoder = d; event = Nothing }) m ≡ pushRecord (recordOf (inWay 3 8) begun) (replicate 8 0) 0x12 → ⊥
+unfolding pushRecord badDecoder numberOf
+short-way-takes-any-way d m h = let n : _≡_ {A = ℕ} 0 4 = ap (λ (a : After). numberOf (a .answer)) h in omega (arith, n)
+
+-- behind reset, finalize, a payload and a refusal the second way is the second
+way-not-kept : (n : ℕ) → afterReset (record { decoder = newRecord (sized 8); count = n }) ≡ resetRecord (newRecord (inWay 2 8)) → ⊥
+unfolding resetRecord
+way-not-kept n h = let w : _≡_ {A = ℕ} 1 2 = ap (λ (l : Left). l .decoder .way) h in omega (arith, w)
+
+finalize-forgets-the-way : (e : Event) → afterFinalize (record { decoder = newRecord (sized 8); event = e }) ≡ finalizeRecord (newRecord (inWay 2 8)) → ⊥
+unfolding finalizeRecord badDecoder
+finalize-forgets-the-way e h = let w : _≡_ {A = ℕ} 1 2 = ap (λ (l : Left). l .decoder .way) h in omega (arith, w)
+
+refusal-forgets-the-way : (e : Event) (m : List ℕ) → afterPush (record { decoder = newRecord (sized 0); event = e }) m ≡ pushRecord (recordOf (inWay 2 0) begun) [] 0x12 → ⊥
+unfolding pushRecord pushed badDecoder wrongBuffer step store
+refusal-forgets-the-way e m h = let w : _≡_ {A = ℕ} 1 2 = ap (λ (a : After). a .decoder .way) h in omega (arith, w)
+
+-- a decoder made in the second way is no other, and in an unknown one it is not made in the first
+with-way-makes-the-first : newRecord (inWay 1 8) ≡ newRecord (inWay 2 8) → ⊥
+with-way-makes-the-first h = let w : _≡_ {A = ℕ} 1 2 = ap (λ (d : Decoder). d .way) h in omega (arith, w)
+
+with-way-mends-an-unknown-one : newRecord (inWay 1 8) ≡ newRecord (inWay 3 8) → ⊥
+with-way-mends-an-unknown-one h = let w : _≡_ {A = ℕ} 1 3 = ap (λ (d : Decoder). d .way) h in omega (arith, w)

@@ -7,10 +7,10 @@ use lib.Seq.{sets}
 use lib.Dec.{ltb, leb, eqb}
 use Rattle.refusals.specs.Numbers.{limit}
 use Rattle.crc_x25.specs.Crc.{start, register, finalXor}
-use Rattle.frame.specs.Frame.{escSeq, restartSeq, missing}
+use Rattle.frame.specs.Frame.{escSeq, restartSeq, missing, same}
 use Rattle.decoder.specs.Push as P
-use Rattle.decoder.specs.Push.{Setup, Out, begun, stopped, searching, same, early}
-use Rattle.decoder.specs.Record.{After, afterPush, setup, recordWith, recounted, recordOf, newRecord, badDecoder, wrongBuffer}
+use Rattle.decoder.specs.Push.{Setup, Out, begun, stopped, searching, early}
+use Rattle.decoder.specs.Record.{After, afterPush, setup, recordWith, recounted, recordOf, newRecord, unknownWay, badDecoder, wrongBuffer}
 use Rattle.decoder.specs.declared.DecodeState.{DecodeState}
 use Rattle.decoder.specs.declared.DecodeState.the-variants.{LookingForMessageStart, ParsingNormal, ParsingEscChars, ParsingEscPayload, Done}
 use Rattle.decoder.specs.declared.Decoder.{Decoder}
@@ -133,11 +133,11 @@ escapeStep d m k b =
 -- ---- a push that is not refused
 
 unfoldable pub stepCut : DecodeState → Decoder → List ℕ → ℕ → Cut
-stepCut (LookingForMessageStart n noise) d m b = cut (code (setup d) (searching n noise (d .«raw_msg_len») b)) m
+stepCut (LookingForMessageStart n noise) d m b = cut (code (setup d) (searching (d .way) n noise (d .«raw_msg_len») b)) m
 stepCut ParsingNormal d m b = normalStep d m b
 stepCut (ParsingEscChars n) d m b = waitStep d m n b
 stepCut (ParsingEscPayload k) d m b = escapeStep d m k b
-stepCut Done d m b = cut (code (setup d) (searching 0 0 0 b)) m
+stepCut Done d m b = cut (code (setup d) (searching (d .way) 0 0 0 b)) m
 
 -- ---- what finalize and reset ask
 
@@ -167,10 +167,12 @@ isNormal Done = false
 -- a byte of a frame that is no 1b and has room, with record and buffer as they should be
 unfoldable pub plainByte : Decoder → ℕ → ℕ → Bool
 plainByte d lent b =
-    cond (eqb b 0x1b) false
+    cond (isNormal (d .state))
+    (cond (eqb b 0x1b) false
     (cond (leb lent (d .fill)) false
     (cond (ltb (d .fill) (d .«crc_idx»)) false
-    (cond (ltb (d .«raw_msg_len») 8) false (cond (eqb lent (d .capacity)) (cond (ltb limit lent) false (isNormal (d .state))) false))))
+    (cond (ltb (d .«raw_msg_len») 8) false (cond (eqb lent (d .capacity)) (cond (ltb limit lent) false (not (unknownWay (d .way)))) false)))))
+    false
 
 -- ---- a payload in the buffer
 

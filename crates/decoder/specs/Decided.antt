@@ -3,7 +3,7 @@ use mathlib.Core.Path.{_≡_}
 use mathlib.Core.Bool.{Bool}
 use mathlib.Core.List.{List}
 use Prim.Native.Nat.{ℕ}
-use Rattle.decoder.specs.Push.{sized, starts}
+use Rattle.decoder.specs.Push.{inWay, sized, starts}
 use Rattle.decoder.specs.Record.{afterPush, afterFinalize, afterReset, answerAsked}
 use Rattle.decoder.specs.Record.{newRecord, recounted, pushRecord, finalizeRecord, resetRecord, askRecord, payloadRecord, badDecoder, wrongBuffer}
 use Rattle.decoder.specs.declared.DecodeState.{DecodeState}
@@ -25,6 +25,7 @@ pub record Views : Type 0 where
 -- every public function: over its parameters, what its `ensures` allows. A slice that is lent stands for what it holds at the call
 pub record Decided : Type 0 where
   pub new : (capacity : ℕ) → One (λ (r : Decoder). r ≡ newRecord (sized capacity))
+  pub with-way : (capacity way : ℕ) → One (λ (r : Decoder). r ≡ newRecord (inWay way capacity))
   pub recounted : (d : Decoder) (fill raw : ℕ) (s : DecodeState) → One (λ (r : Decoder). r ≡ recounted d fill raw s)
   pub matching : (n b : ℕ) → One (λ (r : Bool). r ≡ starts n b)
   pub bad-decoder : (d : Decoder) → One (λ (r : Bool). r ≡ badDecoder d)

@@ -1,4 +1,4 @@
--- rule: the push rules of document 01, over a state that holds only the counts that it uses and the stored bytes as a list.
+-- rule: the push rules of document 01, with document 02's second way of searching, over a state that holds only the counts that it uses and the stored bytes as a list.
 use mathlib.Core.Bool.{Bool, true, false, cond, not}
 use mathlib.Core.List.{List, [], _∷_, _++_}
 use Prim.Native.Nat.{ℕ, suc, _+_, _-_, _*_, _%_, min}
@@ -6,13 +6,25 @@ use lib.ListN.{length, take, drop, getD, replicate}
 use lib.Dec.{eqb, ltb, leb}
 use Rattle.refusals.specs.Numbers.{countStop}
 use Rattle.crc_x25.specs.Crc.{start, register, finalXor}
-use Rattle.frame.specs.Frame.{escSeq, restartSeq, startSeq, missing}
--- what never changes of a decoder: the code's struct, now the capacity alone
+use Rattle.frame.specs.Frame.{escSeq, restartSeq, startSeq, missing, same}
+use Rattle.search.specs.Search.{mostMatched}
+-- what never changes of a decoder: the code's struct, its capacity and its way of searching
 pub use Rattle.decoder.specs.declared.Setup.{Setup}
 
--- the setup of this capacity
+-- the ways of searching: document 01's, and that of document 02's Q-7
+abbrev pub firstWay : ℕ
+firstWay = 1
+
+abbrev pub secondWay : ℕ
+secondWay = 2
+
+-- the setup of a way and a capacity
+abbrev pub inWay : ℕ → ℕ → Setup
+inWay way n = record { capacity = n; way = way }
+
+-- and of this capacity, in the first way
 abbrev pub sized : ℕ → Setup
-sized n = record { capacity = n }
+sized n = inWay firstWay n
 
 -- what a running frame has: the bytes stored, the CRC register and how many stored bytes it has gone over, the raw length
 pub record Mem : Type 0 where
@@ -63,17 +75,17 @@ noticed noise = cond (eqb noise 0) silent (discarded noise)
 abbrev pub starts : ℕ → ℕ → Bool
 starts n b = cond (ltb n 4) (eqb b 0x1b) (eqb b 0x01)
 
--- how many start bytes are matched behind n of them and the byte b: one more, or none
-abbrev pub matchedBehind : ℕ → ℕ → ℕ
-matchedBehind n b = cond (starts n b) (suc n) 0
+-- how many start bytes are matched behind n of them and the byte b. In the second way as many as the last bytes are, where of the bytes before b only the n can be among them; otherwise one more, or none
+abbrev pub matchedBehind : ℕ → ℕ → ℕ → ℕ
+matchedBehind way n b = cond (eqb way secondWay) (mostMatched (take n startSeq ++ b ∷ [])) (cond (starts n b) (suc n) 0)
 
 -- the noise where k start bytes are matched behind n of them and a byte: those that aren't matched any more come to it
 abbrev pub moreNoise : ℕ → ℕ → ℕ → ℕ
 moreNoise noise n k = cond (eqb k (suc n)) noise (stopped (noise + (suc n - k)))
 
-unfoldable pub searching : ℕ → ℕ → ℕ → ℕ → Out
-searching n noise raw b =
-    let k : ℕ = matchedBehind n b in
+unfoldable pub searching : ℕ → ℕ → ℕ → ℕ → ℕ → Out
+searching way n noise raw b =
+    let k : ℕ = matchedBehind way n b in
     cond (eqb k 8) (says begun (noticed noise)) (says (search k (moreNoise noise n k) (stopped (suc raw))) silent)
 
 -- ---- inside a frame
@@ -101,12 +113,6 @@ unfoldable pub store : Setup → Mem → List ℕ → (Mem → Out) → Out
 store C m l then = cond (leb (length (m .stored) + length l) (C .capacity)) (then (put m l)) (says fresh memory)
 
 -- ---- the four bytes behind an escape, stored last
-
-unfoldable pub same : List ℕ → List ℕ → Bool
-same [] [] = true
-same [] (y ∷ ys) = false
-same (x ∷ xs) [] = false
-same (x ∷ xs) (y ∷ ys) = cond (eqb x y) (same xs ys) false
 
 -- the CRC over all but the two bytes that say it
 abbrev pub computed : Mem → ℕ
@@ -149,8 +155,8 @@ judge m four =
 -- ---- a push
 
 unfoldable pub step : Setup → State → ℕ → Out
-step C (search n noise raw) b = searching n noise raw b
-step C (done P) b = searching 0 0 0 b
+step C (search n noise raw) b = searching (C .way) n noise raw b
+step C (done P) b = searching (C .way) 0 0 0 b
 step C (body n m) b =
     cond (eqb b 0x1b)
     (cond (eqb n 3) (says (escape 0 (opened m)) silent) (says (body (suc n) (tick m)) silent))

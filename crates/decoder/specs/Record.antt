@@ -1,5 +1,5 @@
 -- rule: the record that the code keeps of a decoder, with the lent buffer, as the code's form of the push rules' state; what is refused; document 01's number and values of every answer.
-use mathlib.Core.Bool.{Bool, true, false, cond}
+use mathlib.Core.Bool.{Bool, true, false, cond, not}
 use mathlib.Core.List.{List, [], _∷_, _++_}
 use Prim.Native.Nat.{ℕ, zero, suc, _+_}
 use lib.ListN.{length, take, drop, replicate}
@@ -7,7 +7,7 @@ use lib.Dec.{eqb, leb, ltb}
 use Rattle.refusals.specs.Numbers.{decoderOutOfMemoryNo, badStateNo, wrongBufferNo, discardedBytesNo, invalidEscNo, invalidMessageNo, badSpanNo, limit}
 use Rattle.crc_x25.specs.Crc.{start}
 use Rattle.decoder.specs.Push as P
-use Rattle.decoder.specs.Push.{Setup, Mem, State, search, body, escape, done, Out, fresh, step, finalized, resetCount}
+use Rattle.decoder.specs.Push.{Setup, inWay, firstWay, secondWay, Mem, State, search, body, escape, done, Out, fresh, step, finalized, resetCount}
 use Rattle.decoder.specs.declared.DecodeState.{DecodeState}
 use Rattle.decoder.specs.declared.DecodeState.the-variants.{LookingForMessageStart, ParsingNormal, ParsingEscChars, ParsingEscPayload, Done}
 use Rattle.decoder.specs.declared.Decoder.{Decoder}
@@ -85,7 +85,7 @@ answerAsked BadSpan = refusal badSpanNo []
 -- ---- the record's state, and the record of a state
 
 abbrev pub setup : Decoder → Setup
-setup d = record { capacity = d .capacity }
+setup d = inWay (d .way) (d .capacity)
 
 -- a frame's bytes are the buffer's first
 abbrev pub memOf : Decoder → List ℕ → Mem
@@ -106,7 +106,7 @@ waiting zero = ParsingNormal
 waiting (suc n) = ParsingEscChars (suc n)
 
 abbrev pub recordWith : Setup → ℕ → ℕ → ℕ → ℕ → DecodeState → Decoder
-recordWith C fill raw reg idx s = record { capacity = C .capacity; fill = fill; «raw_msg_len» = raw; crc = reg; «crc_idx» = idx; state = s }
+recordWith C fill raw reg idx s = record { capacity = C .capacity; fill = fill; «raw_msg_len» = raw; crc = reg; way = C .way; «crc_idx» = idx; state = s }
 
 -- counts that a state doesn't use are 0, and its CRC register is ffff
 abbrev pub recordOf : Setup → State → Decoder
@@ -148,11 +148,16 @@ badIn fill idx raw (ParsingEscChars n) = cond (ltb raw 8) true (cond (eqb n 0) t
 badIn fill idx raw (ParsingEscPayload k) = cond (ltb raw 8) true (cond (ltb 3 k) true (ltb fill (idx + k)))
 badIn fill idx raw Done = false
 
--- fill over the recorded capacity; CRC index over fill; or by the state
+-- a way of searching that is neither the first nor the second
+abbrev pub unknownWay : ℕ → Bool
+unknownWay way = cond (eqb way firstWay) false (not (eqb way secondWay))
+
+-- an unknown way; fill over the recorded capacity; CRC index over fill; or by the state
 unfoldable pub badDecoder : Decoder → Bool
 badDecoder d =
-    cond (ltb (d .capacity) (d .fill)) true
-    (cond (ltb (d .fill) (d .«crc_idx»)) true (badIn (d .fill) (d .«crc_idx») (d .«raw_msg_len») (d .state)))
+    cond (unknownWay (d .way)) true
+    (cond (ltb (d .capacity) (d .fill)) true
+    (cond (ltb (d .fill) (d .«crc_idx»)) true (badIn (d .fill) (d .«crc_idx») (d .«raw_msg_len») (d .state))))
 
 -- the lent capacity isn't the recorded one, or is over 1,048,576
 unfoldable pub wrongBuffer : ℕ → ℕ → Bool

@@ -1,8 +1,15 @@
 -- claim: a decoder in use. Pushes, finalize and reset one after another, by the definitions that the functions' contracts cite, and what they answer.
+use mathlib.Core.Path.{_≡_}
 use mathlib.Core.List.{List, [], _∷_}
 use Prim.Native.Nat.{ℕ}
+use Rattle.decoder.specs.Push.{firstWay, secondWay}
 use Rattle.decoder.specs.Record.{DecoderAnswer, nothing, payload, count, refusal, After, after, pushRecord, finalizeRecord, resetRecord}
 use Rattle.decoder.specs.declared.Decoder.{Decoder}
+
+-- a way of searching that is not refused
+pub data KnownWay (way : ℕ) : Type 0 where
+  isFirst : way ≡ firstWay → KnownWay way
+  isSecond : way ≡ secondWay → KnownWay way
 
 pub data Op : Type 0 where
   push : ℕ → Op

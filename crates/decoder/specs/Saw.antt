@@ -25,8 +25,8 @@ pub data Judged (m : Mem) (four : List ℕ) : Out → Type 0 where
       → Judged m four (says fresh (badEscape (getD four 0 0) (getD four 1 0) (getD four 2 0) (getD four 3 0)))
 
 pub data Saw (C : Setup) : State → ℕ → Out → Type 0 where
-  sought : {n noise raw b : ℕ} (k : ℕ) → k ≡ matchedBehind n b → (k ≡ 8 → ⊥) → Saw C (search n noise raw) b (says (search k (moreNoise noise n k) (stopped (suc raw))) silent)
-  began : {n noise raw b : ℕ} → matchedBehind n b ≡ 8 → Saw C (search n noise raw) b (says begun (noticed noise))
+  sought : {n noise raw b : ℕ} (k : ℕ) → k ≡ matchedBehind (C .way) n b → (k ≡ 8 → ⊥) → Saw C (search n noise raw) b (says (search k (moreNoise noise n k) (stopped (suc raw))) silent)
+  began : {n noise raw b : ℕ} → matchedBehind (C .way) n b ≡ 8 → Saw C (search n noise raw) b (says begun (noticed noise))
   again : {bytes : List ℕ} {b : ℕ} {o : Out} → Saw C fresh b o → Saw C (done bytes) b o
   waits : {n b : ℕ} {m : Mem} → b ≡ 0x1b → (n ≡ 3 → ⊥) → Saw C (body n m) b (says (body (suc n) (tick m)) silent)
   opens : {n b : ℕ} {m : Mem} → b ≡ 0x1b → n ≡ 3 → Saw C (body n m) b (says (escape 0 (opened m)) silent)

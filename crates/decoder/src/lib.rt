@@ -1,12 +1,14 @@
 // Decoder of transport.rs, by value: a byte a push, into a buffer that is lent at each call.
 ghost use mathlib.Core.Path.{_≡_};
 ghost use mathlib.Core.List.{[], _∷_, _++_};
+ghost use mathlib.Core.Bool.{false};
 ghost use Prim.Native.Nat.{suc, _+_, _*_, _-_, _^_, _<_, _≤_};
 ghost use lib.ListN.{length, replicate};
 ghost use lib.Seq.{sets};
 ghost use Rattle.decided.specs.Part.{handed, partAt};
-ghost use Rattle.decoder.specs.Push.{sized, stopped, starts, matchedBehind, moreNoise, searching, begun, search, same, early};
-ghost use Rattle.decoder.specs.Record.{setup, recordWith, recounted, recordOf, afterPush, afterFinalize, afterReset, answerAsked, badDecoder, wrongBuffer, newRecord, pushRecord, finalizeRecord, resetRecord, payloadRecord, askRecord};
+ghost use Rattle.frame.specs.Frame.{same};
+ghost use Rattle.decoder.specs.Push.{inWay, sized, stopped, starts, matchedBehind, moreNoise, searching, begun, search, early};
+ghost use Rattle.decoder.specs.Record.{setup, recordWith, recounted, recordOf, afterPush, afterFinalize, afterReset, answerAsked, unknownWay, badIn, badDecoder, wrongBuffer, newRecord, pushRecord, finalizeRecord, resetRecord, payloadRecord, askRecord};
 ghost use Rattle.decoder.specs.Cut.{code, cut, storedOn, pushedOn, inState, quiet, freshWith, normalStep, escapeAt, waitStep, sound, verdict, endStep, otherStep, judgeStep, escapeStep, isFresh, isDone, isNormal, plainByte, payloadIn};
 
 pub enum DecodeState {
@@ -23,9 +25,10 @@ pub enum DecodeState {
 // Where the counts of noise and raw bytes stop: as many as 32 bits hold.
 pub const COUNT_STOP: u32 = 4_294_967_295;
 
-// What never changes of a decoder.
+// What never changes of a decoder: its capacity, and its way of searching for a start sequence.
 pub struct Setup {
     pub capacity: usize,
+    pub way: u8,
 }
 
 pub struct Decoder {
@@ -33,6 +36,7 @@ pub struct Decoder {
     pub fill: usize,
     pub raw_msg_len: u32,
     pub crc: u16,
+    pub way: u8,
     pub crc_idx: usize,
     pub state: DecodeState,
 }
@@ -85,11 +89,26 @@ impl Decoder {
     // The bytes behind an escape, which are stored and judged together.
     pub const ESC_PAYLOAD_LEN: usize = 4;
 
+    // The ways of searching: the Rust's, in which a byte that doesn't match begins the search anew behind it, and one that a stray 1b doesn't fool (document 02, Q-7).
+    pub const FIRST_WAY: u8 = 1;
+
+    pub const SECOND_WAY: u8 = 2;
+
     // Decoder::new of transport.rs: nothing is seen yet.
     pub fn new(capacity: usize) -> Decoder
         ensures { λ r. ⌜ r ≡ newRecord (sized capacity) ⌝ }
     {
-        new_record(Setup { capacity: capacity })
+        Decoder::with_way(capacity, Decoder::FIRST_WAY)
+    }
+
+    // The same in a way of searching. An unknown one is taken, as a capacity over the limit is: a push refuses it.
+    pub fn with_way(capacity: usize, way: u8) -> Decoder
+        ensures { λ r. ⌜ r ≡ newRecord (inWay way capacity) ⌝ }
+    {
+        new_record(Setup {
+            capacity: capacity,
+            way: way,
+        })
     }
 }
 
@@ -99,6 +118,7 @@ fn setup_of(d: Decoder) -> Setup
 {
     Setup {
         capacity: d.capacity,
+        way: d.way,
     }
 }
 
@@ -118,6 +138,7 @@ fn made(
         fill: fill,
         raw_msg_len: raw_msg_len,
         crc: crc,
+        way: c.way,
         crc_idx: crc_idx,
         state: state,
     }
@@ -241,30 +262,36 @@ pub fn matching(n: u8, b: u8) -> bool
     if n < 4 { b == Decoder::ESC } else { b == 0x01 }
 }
 
-// How many start bytes are matched behind n of them and the byte b: the step of the search.
-fn next_match(n: u8, b: u8) -> u8
-    requires { ⌜ n < 8 ⌝ }
-    ensures { λ r. ⌜ r ≡ matchedBehind n b ⌝ }
+// How many start bytes stay matched behind n of them and a byte that is not the next: in the first way none, even if it is itself 1b.
+fn still_matched(way: u8, n: u8, b: u8) -> u8
+    requires { ⌜ starts n b ≡ false ⌝ }
+    ensures { λ r. ⌜ r ≡ matchedBehind way n b ⌝ }
 {
-    if matching(n, b) { n + 1 } else { 0 }
+    if way == Decoder::SECOND_WAY {
+        return search::advance(n, b);
+    }
+    0
 }
 
 // The arm LookingForMessageStart of push_byte: one byte of a search.
 fn looking_for_message_start(d: Decoder, noise: u32, n: u8, b: u8) -> Pushed
     requires { ⌜ n < 8 ⌝ }
-    ensures { λ r. ⌜ r ≡ code (setup d) (searching n noise (d .«raw_msg_len») b) ⌝ }
+    ensures { λ r. ⌜ r ≡ code (setup d) (searching (d .way) n noise (d .«raw_msg_len») b) ⌝ }
 {
-    let k = next_match(n, b);
-    if k == 8 {
-        let begun = begun_frame(setup_of(d));
-        if noise == 0 {
-            return quiet(begun);
+    if matching(n, b) {
+        if n == 7 {
+            let begun = begun_frame(setup_of(d));
+            if noise == 0 {
+                return quiet(begun);
+            }
+            return Pushed {
+                decoder: begun,
+                event: Event::DiscardedBytes(noise),
+            };
         }
-        return Pushed {
-            decoder: begun,
-            event: Event::DiscardedBytes(noise),
-        };
+        return quiet(looking(d, noise, n + 1));
     }
+    let k = still_matched(d.way, n, b);
     quiet(looking(d, more_noise(noise, n, k), k))
 }
 
@@ -492,10 +519,59 @@ fn parsing_esc_payload(d: Decoder, buf: &mut [u8], n: u8, b: u8) -> Pushed
     fresh_with(setup_of(d), Event::OutOfMemory)
 }
 
-// Refusal 4: a record that no pushes lead to. Public for decoder_slice, which asks it before it takes a byte.
+// A way of searching that is neither the first nor the second.
+fn unknown_way(way: u8) -> bool
+    ensures { λ r. ⌜ r ≡ unknownWay way ⌝ }
+{
+    if way == Decoder::FIRST_WAY {
+        return false;
+    }
+    way != Decoder::SECOND_WAY
+}
+
+// What no push leaves of the counts, by the state.
+fn bad_in(fill: usize, crc_idx: usize, raw_msg_len: u32, s: DecodeState) -> bool
+    requires { ⌜ «crc_idx» ≤ fill ⌝ }
+    ensures { λ r. ⌜ r ≡ badIn fill «crc_idx» «raw_msg_len» s ⌝ }
+{
+    match s {
+        DecodeState::LookingForMessageStart {
+            num_discarded_bytes: _,
+            num_init_seq_bytes,
+        } => {
+            if fill == 0 {
+                7 < num_init_seq_bytes
+            } else {
+                true
+            }
+        }
+        DecodeState::ParsingNormal => raw_msg_len < Decoder::START_LEN,
+        DecodeState::ParsingEscChars(n) => {
+            if raw_msg_len < Decoder::START_LEN {
+                return true;
+            }
+            if n == 0 { true } else { 3 < n }
+        }
+        DecodeState::ParsingEscPayload(n) => {
+            if raw_msg_len < Decoder::START_LEN {
+                return true;
+            }
+            if 3 < n {
+                return true;
+            }
+            fill - crc_idx < n as usize
+        }
+        DecodeState::Done => false,
+    }
+}
+
+// Refusal 4: an unknown way, or counts that no push leaves. Public for decoder_slice, which asks it before it takes a byte.
 pub fn bad_decoder(d: Decoder) -> bool
     ensures { λ r. ⌜ r ≡ badDecoder d ⌝ }
 {
+    if unknown_way(d.way) {
+        return true;
+    }
     if d.capacity < d.fill {
         return true;
     }
@@ -503,35 +579,7 @@ pub fn bad_decoder(d: Decoder) -> bool
         return true;
     }
     let s = d.state;
-    match s {
-        DecodeState::LookingForMessageStart {
-            num_discarded_bytes: _,
-            num_init_seq_bytes,
-        } => {
-            if d.fill == 0 {
-                7 < num_init_seq_bytes
-            } else {
-                true
-            }
-        }
-        DecodeState::ParsingNormal => d.raw_msg_len < Decoder::START_LEN,
-        DecodeState::ParsingEscChars(n) => {
-            if d.raw_msg_len < Decoder::START_LEN {
-                return true;
-            }
-            if n == 0 { true } else { 3 < n }
-        }
-        DecodeState::ParsingEscPayload(n) => {
-            if d.raw_msg_len < Decoder::START_LEN {
-                return true;
-            }
-            if 3 < n {
-                return true;
-            }
-            d.fill - d.crc_idx < n as usize
-        }
-        DecodeState::Done => false,
-    }
+    bad_in(d.fill, d.crc_idx, d.raw_msg_len, s)
 }
 
 // Refusal 5: the lent buffer isn't as long as the recorded one, or is over the limit; the Rust's buffer is in its type. Public for decoder_slice, too.
@@ -565,6 +613,10 @@ fn is_normal(s: DecodeState) -> bool
 fn is_plain(d: Decoder, lent: usize, b: u8) -> bool
     ensures { λ r. ⌜ r ≡ plainByte d lent b ⌝ }
 {
+    let s = d.state;
+    if !is_normal(s) {
+        return false;
+    }
     if b == Decoder::ESC {
         return false;
     }
@@ -583,25 +635,32 @@ fn is_plain(d: Decoder, lent: usize, b: u8) -> bool
     if refusals::LIMIT < lent {
         return false;
     }
-    let s = d.state;
-    is_normal(s)
+    !unknown_way(d.way)
 }
 
-// Pushes a byte: the checks of record and buffer, then one step. A push of a slice calls this at the bytes that are not plain.
+// A refusal that leaves the record as it is. It is made anew, since a copy has its padding to carry.
+fn unchanged(d: Decoder, e: Event) -> Pushed
+    ensures { λ r. ⌜ r ≡ record { decoder = d; event = e } ⌝ }
+{
+    let s = d.state;
+    Pushed {
+        decoder: in_state(d, s),
+        event: e,
+    }
+}
+
+// Pushes a byte: the checks of record and buffer (wrong_buffer's two, one by one), then one step. A push of a slice calls this at the bytes that are not plain.
 pub fn push_any(d: Decoder, buf: &mut [u8], b: u8) -> Pushed
     ensures { λ r. ⌜ afterPush r (now (buf .exit)) ≡ pushRecord d (now (buf .entry)) b ⌝ }
 {
     if bad_decoder(d) {
-        return Pushed {
-            decoder: d,
-            event: Event::BadState,
-        };
+        return unchanged(d, Event::BadState);
     }
-    if wrong_buffer(d.capacity, buf.len()) {
-        return Pushed {
-            decoder: d,
-            event: Event::WrongBuffer,
-        };
+    if d.capacity != buf.len() {
+        return unchanged(d, Event::WrongBuffer);
+    }
+    if refusals::LIMIT < buf.len() {
+        return unchanged(d, Event::WrongBuffer);
     }
     let s = d.state;
     match s {
@@ -663,7 +722,7 @@ impl Decoder {
         let s = self.state;
         if is_plain(self, buf.len(), b) {
             buf[at] = b;
-            return quiet(stored_on(self, 1, DecodeState::ParsingNormal));
+            return quiet(stored_on(self, 1, s));
         }
         let p = push_any(in_state(self, s), buf, b);
         let d = p.decoder;

@@ -1,14 +1,14 @@
 // A push of many bytes at once. Only the bytes that may end a state are pushed one by one; the stretches between them change counts and the buffer alone.
 ghost use mathlib.Core.Path.{_≡_};
 ghost use mathlib.Core.List.{List, []};
-ghost use mathlib.Core.Bool.{true};
+ghost use mathlib.Core.Bool.{true, false};
 ghost use Prim.Native.Nat.{ℕ, _+_, _-_, _%_, _<_, _≤_, _^_};
 ghost use lib.ListN.{length};
 ghost use Rattle.decoder.specs.declared.DecodeState.the-variants.{LookingForMessageStart, ParsingNormal, ParsingEscChars, ParsingEscPayload};
 ghost use Rattle.refusals.specs.Numbers.{limit};
 ghost use Rattle.crc_x25.specs.Crc.{start};
-ghost use Rattle.decoder.specs.Push.{stopped};
-ghost use Rattle.decoder.specs.Record.{answerOf};
+ghost use Rattle.decoder.specs.Push.{firstWay, secondWay, stopped};
+ghost use Rattle.decoder.specs.Record.{answerOf, unknownWay, badDecoder, wrongBuffer};
 ghost use Rattle.decoder_slice.specs.Slice.{afterSlice, saysNothing, pushesFrom, sliceRecord};
 ghost use Rattle.decoder.specs.Cut.{inState};
 ghost use Rattle.decoder_slice.specs.Stretch.{movedBy, Goes, Plain, Escapes};
@@ -112,12 +112,12 @@ fn plain_fours(chunk: &[u8], from: usize, to: usize) -> usize
     k
 }
 
-// The place of the first 1b in from..to, or `to`.
-fn plain_end(chunk: &[u8], from: usize, to: usize) -> usize
+// The place of the first 1b in from..to, or `to`, a byte a turn: for stretches that are mostly short.
+fn plain_ones(chunk: &[u8], from: usize, to: usize) -> usize
     requires { ⌜ (from ≤ to) × (to ≤ length (now chunk)) ⌝ }
     ensures { λ r. ⌜ (from ≤ r) × (r ≤ to) × Plain (now (chunk .entry)) from r ⌝ }
 {
-    let mut k = plain_fours(chunk, from, to);
+    let mut k = from;
     while k < to {
         if chunk[k] == Decoder::ESC {
             break;
@@ -127,9 +127,18 @@ fn plain_end(chunk: &[u8], from: usize, to: usize) -> usize
     k
 }
 
+// The same for stretches that are mostly long.
+fn plain_end(chunk: &[u8], from: usize, to: usize) -> usize
+    requires { ⌜ (from ≤ to) × (to ≤ length (now chunk)) ⌝ }
+    ensures { λ r. ⌜ (from ≤ r) × (r ≤ to) × Plain (now (chunk .entry)) from r ⌝ }
+{
+    let k = plain_fours(chunk, from, to);
+    plain_ones(chunk, k, to)
+}
+
 // The bytes from `from` on that are no 1b, as many as there is room for, go to the buffer.
 fn store_plain(d: Decoder, buf: &mut [u8], chunk: &[u8], from: usize) -> Stretch
-    requires { ⌜ (d .«crc_idx» ≤ d .fill) × (d .fill ≤ length (now buf)) × (8 ≤ d .«raw_msg_len») × (length (now buf) ≡ d .capacity) × (d .capacity ≤ limit) × (from ≤ length (now chunk)) ⌝ }
+    requires { ⌜ (unknownWay (d .way) ≡ false) × (d .«crc_idx» ≤ d .fill) × (d .fill ≤ length (now buf)) × (8 ≤ d .«raw_msg_len») × (length (now buf) ≡ d .capacity) × (d .capacity ≤ limit) × (from ≤ length (now chunk)) ⌝ }
     ensures { λ r. ⌜ (r .at ≤ length (now (chunk .entry))) × (from ≤ r .at) × Goes (r .decoder) (r .at) (now (buf .exit)) from (inState d ParsingNormal) (now (buf .entry)) (now (chunk .entry)) ⌝ }
 {
     let at = d.fill;
@@ -195,9 +204,45 @@ fn fives_end(chunk: &[u8], from: usize) -> usize
     k
 }
 
-// The bytes of a search from `from` on, up to the last of a start sequence. Matched bytes and noise are all the bytes there are.
-fn search_more(d: Decoder, noise: u32, n: u8, chunk: &[u8], from: usize) -> Stretch
-    requires { ⌜ (d .«crc_idx» ≡ 0) × (d .fill ≡ 0) × (d .capacity ≤ limit) × (n < 8) × (from ≤ length (now chunk)) × (d .crc ≡ start) ⌝ }
+// Where the run of 1b from `from` on ends.
+fn escapes_end(chunk: &[u8], from: usize) -> usize
+    requires { ⌜ from ≤ length (now chunk) ⌝ }
+    ensures { λ r. ⌜ (from ≤ r) × (r ≤ length (now (chunk .entry))) × Escapes (now (chunk .entry)) from r ⌝ }
+{
+    let mut k = from;
+    while k < chunk.len() {
+        if chunk[k] != Decoder::ESC {
+            break;
+        }
+        k += 1;
+    }
+    k
+}
+
+// A search behind k more bytes, with q matched then and n before. Matched bytes and noise are all the bytes there are.
+fn searched(d: Decoder, noise: u32, n: u8, q: u8, from: usize, k: usize) -> Stretch
+    requires { ⌜ (d .fill ≡ 0) × (n + k < 2 ^ 64) × (q ≤ n + k) × (from + k < 2 ^ 64) ⌝ }
+    ensures { λ r. ⌜ (r .decoder ≡ movedBy d 0 k (LookingForMessageStart q (stopped (noise + (n + k - q))))) × (r .at ≡ from + k) ⌝ }
+{
+    let all = more(noise, (n as usize) + k - (q as usize));
+    let g = moved_by(
+        d,
+        0,
+        k,
+        DecodeState::LookingForMessageStart {
+            num_discarded_bytes: all,
+            num_init_seq_bytes: q,
+        },
+    );
+    Stretch {
+        decoder: g,
+        at: from + k,
+    }
+}
+
+// The bytes of a search from `from` on, up to the last of a start sequence, in the first way.
+fn search_first(d: Decoder, noise: u32, n: u8, chunk: &[u8], from: usize) -> Stretch
+    requires { ⌜ (d .way ≡ firstWay) × (d .«crc_idx» ≡ 0) × (d .fill ≡ 0) × (d .capacity ≤ limit) × (n < 8) × (from ≤ length (now chunk)) × (d .crc ≡ start) ⌝ }
     ensures { λ r. ⌜ (r .at ≤ length (now (chunk .entry))) × (from ≤ r .at) × ((m : List ℕ) → length m ≡ d .capacity → Goes (r .decoder) (r .at) m from (inState d (LookingForMessageStart n noise)) m (now (chunk .entry))) ⌝ }
 {
     let left = chunk.len() - from;
@@ -219,25 +264,49 @@ fn search_more(d: Decoder, noise: u32, n: u8, chunk: &[u8], from: usize) -> Stre
             k = plain_end(chunk, from + (k + 1), chunk.len()) - from;
         }
     }
-    let all = more(noise, (n as usize) + k - (q as usize));
-    let g = moved_by(
-        d,
-        0,
-        k,
-        DecodeState::LookingForMessageStart {
-            num_discarded_bytes: all,
-            num_init_seq_bytes: q,
-        },
-    );
-    Stretch {
-        decoder: g,
-        at: from + k,
+    searched(d, noise, n, q, from, k)
+}
+
+// The same in the second way, in which a 1b may be the first of a start sequence whatever was matched.
+fn search_second(d: Decoder, noise: u32, n: u8, chunk: &[u8], from: usize) -> Stretch
+    requires { ⌜ (d .way ≡ secondWay) × (d .«crc_idx» ≡ 0) × (d .fill ≡ 0) × (d .capacity ≤ limit) × (n < 8) × (from ≤ length (now chunk)) × (d .crc ≡ start) ⌝ }
+    ensures { λ r. ⌜ (r .at ≤ length (now (chunk .entry))) × (from ≤ r .at) × ((m : List ℕ) → length m ≡ d .capacity → Goes (r .decoder) (r .at) m from (inState d (LookingForMessageStart n noise)) m (now (chunk .entry))) ⌝ }
+{
+    let left = chunk.len() - from;
+    let mut k = 0;
+    let mut q = n;
+    while k < left {
+        let next = search::advance(q, chunk[from + k]);
+        if next == 8 {
+            break;
+        }
+        q = next;
+        k += 1;
+        if q == 0 {
+            // As in the first way, but byte by byte: among many 1b the fours' turns cost more than they save.
+            k = plain_ones(chunk, from + k, chunk.len()) - from;
+        } else if q == 4 {
+            // Behind four matched ones a further 1b leaves four.
+            k = escapes_end(chunk, from + k) - from;
+        }
     }
+    searched(d, noise, n, q, from, k)
+}
+
+// The same in the decoder's way.
+fn search_more(d: Decoder, noise: u32, n: u8, chunk: &[u8], from: usize) -> Stretch
+    requires { ⌜ (unknownWay (d .way) ≡ false) × (d .«crc_idx» ≡ 0) × (d .fill ≡ 0) × (d .capacity ≤ limit) × (n < 8) × (from ≤ length (now chunk)) × (d .crc ≡ start) ⌝ }
+    ensures { λ r. ⌜ (r .at ≤ length (now (chunk .entry))) × (from ≤ r .at) × ((m : List ℕ) → length m ≡ d .capacity → Goes (r .decoder) (r .at) m from (inState d (LookingForMessageStart n noise)) m (now (chunk .entry))) ⌝ }
+{
+    if d.way == Decoder::SECOND_WAY {
+        return search_second(d, noise, n, chunk, from);
+    }
+    search_first(d, noise, n, chunk, from)
 }
 
 // More 1b, up to three.
 fn wait_more(d: Decoder, n: u8, chunk: &[u8], from: usize) -> Stretch
-    requires { ⌜ (d .«crc_idx» ≤ d .fill) × (d .fill ≤ d .capacity) × (8 ≤ d .«raw_msg_len») × (d .capacity ≤ limit) × (1 ≤ n) × (n ≤ 3) × (from ≤ length (now chunk)) ⌝ }
+    requires { ⌜ (unknownWay (d .way) ≡ false) × (d .«crc_idx» ≤ d .fill) × (d .fill ≤ d .capacity) × (8 ≤ d .«raw_msg_len») × (d .capacity ≤ limit) × (1 ≤ n) × (n ≤ 3) × (from ≤ length (now chunk)) ⌝ }
     ensures { λ r. ⌜ (r .at ≤ length (now (chunk .entry))) × (from ≤ r .at) × ((m : List ℕ) → length m ≡ d .capacity → Goes (r .decoder) (r .at) m from (inState d (ParsingEscChars n)) m (now (chunk .entry))) ⌝ }
 {
     let left = chunk.len() - from;
@@ -262,7 +331,7 @@ fn wait_more(d: Decoder, n: u8, chunk: &[u8], from: usize) -> Stretch
 
 // The bytes behind an escape, up to three.
 fn put_judged(d: Decoder, n: u8, buf: &mut [u8], chunk: &[u8], from: usize) -> Stretch
-    requires { ⌜ (d .«crc_idx» + n ≤ d .fill) × (d .fill ≤ length (now buf)) × (8 ≤ d .«raw_msg_len») × (length (now buf) ≡ d .capacity) × (d .capacity ≤ limit) × (n ≤ 3) × (from ≤ length (now chunk)) ⌝ }
+    requires { ⌜ (unknownWay (d .way) ≡ false) × (d .«crc_idx» + n ≤ d .fill) × (d .fill ≤ length (now buf)) × (8 ≤ d .«raw_msg_len») × (length (now buf) ≡ d .capacity) × (d .capacity ≤ limit) × (n ≤ 3) × (from ≤ length (now chunk)) ⌝ }
     ensures { λ r. ⌜ (r .at ≤ length (now (chunk .entry))) × (from ≤ r .at) × Goes (r .decoder) (r .at) (now (buf .exit)) from (inState d (ParsingEscPayload n)) (now (buf .entry)) (now (chunk .entry)) ⌝ }
 {
     let at = d.fill;
@@ -284,21 +353,9 @@ fn put_judged(d: Decoder, n: u8, buf: &mut [u8], chunk: &[u8], from: usize) -> S
 
 // The bytes from `from` on that change nothing but counts and the buffer. A search whose register isn't ffff yet gets it from a single push.
 fn ahead(d: Decoder, buf: &mut [u8], chunk: &[u8], from: usize) -> Stretch
-    requires { ⌜ from < length (now chunk) ⌝ }
+    requires { ⌜ (badDecoder d ≡ false) × (wrongBuffer (d .capacity) (length (now buf)) ≡ false) × (from < length (now chunk)) ⌝ }
     ensures { λ r. ⌜ (r .at ≤ length (now (chunk .entry))) × (from ≤ r .at) × Goes (r .decoder) (r .at) (now (buf .exit)) from d (now (buf .entry)) (now (chunk .entry)) ⌝ }
 {
-    if decoder::bad_decoder(d) {
-        return Stretch {
-            decoder: d,
-            at: from,
-        };
-    }
-    if decoder::wrong_buffer(d.capacity, buf.len()) {
-        return Stretch {
-            decoder: d,
-            at: from,
-        };
-    }
     let s = d.state;
     match s {
         DecodeState::LookingForMessageStart {
@@ -325,8 +382,9 @@ fn ahead(d: Decoder, buf: &mut [u8], chunk: &[u8], from: usize) -> Stretch
     }
 }
 
-// Bytes pushed one after another, up to and with the one that brings the first event.
+// Bytes pushed one after another, up to and with the one that brings the first event. Record and buffer were judged before, and a push that says nothing leaves them good.
 fn until_event(d: Decoder, buf: &mut [u8], chunk: &[u8]) -> Sliced
+    requires { ⌜ (badDecoder d ≡ false) × (wrongBuffer (d .capacity) (length (now buf)) ≡ false) ⌝ }
     ensures { λ r. ⌜ afterSlice r (now (buf .exit)) ≡ pushesFrom 0 d (now (buf .entry)) (now (chunk .entry)) ⌝ }
 {
     let mut now = d;

@@ -1,3 +1,4 @@
 pub mod Cases
+pub mod Same
 pub mod Escapes
 pub mod Frames

@@ -1,6 +1,6 @@
 -- rule: the frame rules of SML transport version 1, in document 01's words.
 use mathlib.Core.Path.{_≡_}
-use mathlib.Core.Bool.{cond}
+use mathlib.Core.Bool.{Bool, true, false, cond}
 use mathlib.Core.List.{List, [], _∷_, _++_}
 use Prim.Native.Nat.{ℕ, suc, _-_, _/_, _%_, _≤_}
 use lib.ListN.{length, take, replicate}
@@ -15,6 +15,13 @@ restartSeq = 0x01 ∷ 0x01 ∷ 0x01 ∷ 0x01 ∷ []
 
 abbrev pub startSeq : List ℕ
 startSeq = escSeq ++ restartSeq
+
+-- are two lists of bytes the same?
+unfoldable pub same : List ℕ → List ℕ → Bool
+same [] [] = true
+same [] (y ∷ ys) = false
+same (x ∷ xs) [] = false
+same (x ∷ xs) (y ∷ ys) = cond (eqb x y) (same xs ys) false
 
 -- the 1b of a run that stand behind its last fourth one, with the byte b more
 abbrev pub runWith : ℕ → ℕ → ℕ

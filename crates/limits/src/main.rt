@@ -1,5 +1,6 @@
-// The limits of document 01, met and passed by one, and each refusal that the crate doesn't have: 1, 4, 5, 9 and 16. Prints a word or the refusal's number for what is answered, the
-// record that is left, and of a push whether the memory is as before.
+// The limits of document 01, met and passed by one, and each refusal that the crate doesn't have: 1, 4, 5, 9 and 16; and the ways of searching that document 02 doesn't have. Prints a word or the refusal's
+// number for what is answered, the record that is left, and of a push whether the memory is as before.
+use decoder::AfterReset;
 use decoder::Asked;
 use decoder::DecodeState;
 use decoder::Decoder;
@@ -73,6 +74,7 @@ fn state(s: DecodeState) {
     }
 }
 
+// The way is told where it isn't the first.
 fn decoder_is(d: Decoder) {
     counted(b"; record", d.capacity as u64);
     number(d.fill as u64);
@@ -81,6 +83,9 @@ fn decoder_is(d: Decoder) {
     number(d.crc_idx as u64);
     let s = d.state;
     state(s);
+    if d.way != Decoder::FIRST_WAY {
+        counted(b" way", d.way as u64);
+    }
 }
 
 // Whether no byte of the memory was stored.
@@ -162,6 +167,22 @@ fn pushed(label: &[u8], d: Decoder) {
     finalized(label, d);
 }
 
+fn cleared(r: AfterReset) {
+    counted(b" count", r.count as u64);
+    let left = r.decoder;
+    decoder_is(left);
+    text(b"\n");
+}
+
+fn reset(label: &[u8], d: Decoder) {
+    text(label);
+    text(b", reset:");
+    cleared(d.reset());
+    text(label);
+    text(b", reset_lent:");
+    cleared(in_place::reset_lent(d));
+}
+
 // A record with a capacity of 8.
 fn record(fill: usize, raw_msg_len: u32, crc_idx: usize, state: DecodeState) -> Decoder {
     Decoder {
@@ -169,7 +190,22 @@ fn record(fill: usize, raw_msg_len: u32, crc_idx: usize, state: DecodeState) -> 
         fill,
         raw_msg_len,
         crc: 0xffff,
+        way: Decoder::FIRST_WAY,
         crc_idx,
+        state,
+    }
+}
+
+// The same record with another way of searching.
+fn in_way(way: u8, d: Decoder) -> Decoder {
+    let state = d.state;
+    Decoder {
+        capacity: d.capacity,
+        fill: d.fill,
+        raw_msg_len: d.raw_msg_len,
+        crc: d.crc,
+        way,
+        crc_idx: d.crc_idx,
         state,
     }
 }
@@ -217,6 +253,30 @@ fn bad_decoders() {
         b"none of these",
         record(0, 8, 0, DecodeState::ParsingNormal),
     );
+}
+
+// A new decoder's record and one inside a frame, each with this way, and a payload of no bytes.
+fn with_way(label: &[u8], inside: &[u8], way: u8) {
+    let buf = [FILL; 8];
+    let fresh = Decoder::with_way(8, way);
+    let framed = in_way(way, record(0, 8, 0, DecodeState::ParsingNormal));
+    pushed(label, fresh);
+    reset(label, fresh);
+    pushed(inside, framed);
+    reset(inside, framed);
+    text(label);
+    asked(
+        b", payload",
+        in_way(way, record(0, 0, 0, DecodeState::Done)),
+        &buf,
+    );
+}
+
+fn ways() {
+    with_way(b"way 0", b"way 0 inside a frame", 0);
+    with_way(b"way 2", b"way 2 inside a frame", 2);
+    with_way(b"way 3", b"way 3 inside a frame", 3);
+    with_way(b"way 255", b"way 255 inside a frame", 255);
 }
 
 // The record is judged before the buffer.
@@ -488,6 +548,7 @@ fn main() {
     beyond();
     at_most();
     bad_decoders();
+    ways();
     other_buffers();
     bad_encoders(&four);
     bad_readers(&four);

@@ -11,6 +11,7 @@ use Rattle.decoder.specs.Record.{DecoderAnswer, nothing, After, after, pushReco
 use Rattle.decoder.specs.Run.{Op, push, act}
 use Rattle.decoder.specs.declared.Decoder.{Decoder}
 use Rattle.decoder.specs.declared.Setup.{Setup}
+use Rattle.decoder.proofs.Search.{known-is}
 use Rattle.decoder.proofs.Faithful.{Fit, push-is-step}
 use Rattle.decoder.proofs.Runs.{leads, new-fit}
 use Rattle.decoder.proofs.Split.{cases}
@@ -134,7 +135,7 @@ slices-say (n ∷ cuts) d m bytes f =
     }
 
 pub chunks : Chunks ourSlicer
-chunks C m l le before bytes cuts =
+chunks C m way l le before bytes cuts =
     let x : After = after nothing (newRecord C) m in
     let k = kept-is before x in
-    slices-say cuts (leftBehind ours (newRecord C) m before .decoder) (leftBehind ours (newRecord C) m before .memory) bytes (rw k (leads before x (new-fit C m l le) .fit))
+    slices-say cuts (leftBehind ours (newRecord C) m before .decoder) (leftBehind ours (newRecord C) m before .memory) bytes (rw k (leads before x (new-fit C m (known-is (C .way) way) l le) .fit))

@@ -5,6 +5,7 @@ use Rattle.tlf.proofs.Decided as Tlf
 use Rattle.numbers.proofs.Decided as Numbers
 use Rattle.octet_string.proofs.Decided as OctetString
 use Rattle.encoder.proofs.Decided as Encoder
+use Rattle.search.proofs.Decided as Search
 use Rattle.decoder.proofs.Decided as Decoder
 use Rattle.in_place.proofs.Decided as InPlace
 use Rattle.decoder_slice.proofs.Decided as Slice
@@ -45,6 +46,7 @@ decided =
       numbers = Numbers.decided;
       octet-string = OctetString.decided;
       encoder = Encoder.decided;
+      search = Search.decided;
       decoder = Decoder.decided;
       in-place = InPlace.decided;
       decoder-slice = Slice.decided;

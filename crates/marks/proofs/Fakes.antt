@@ -8,13 +8,17 @@ use lib.ListN.{length, getD, take, replicate, length-append}
 use lib.Dec.{ltb}
 use Rattle.frame.proofs.Cases.{by-lt}
 use Rattle.crc_x25.specs.Crc.{reflect, polynomial, bitStep, bitSteps, byteStep, register, finalXor, crcOf}
-use Rattle.frame.specs.Frame.{Sound, escaped, closed, frameOf, framed}
+use Rattle.frame.specs.Frame.{Sound, startSeq, escaped, closed, frameOf, framed, same}
 use Rattle.encoder.specs.Encode.{encodeTo}
 use Rattle.encoder.specs.Encoder.{NextAnswer, byte, finished}
 use Rattle.encoder.specs.Encoder as N
-use Rattle.decoder.specs.Push.{sized, searching, store, same, finish, judge, step, finalized}
-use Rattle.decoder.specs.Record.{DecoderAnswer, nothing, payload, count, refusal, wrote, badDecoder, wrongBuffer, pushed, pushRecord, finalizeRecord, newRecord, hasPayload, payloadRecord}
-use Rattle.decoder.specs.Run.{Op, push, act}
+use Rattle.search.specs.Search.{greatest, mostMatched}
+use Rattle.search.specs.Found.{EndsInStart, NoneWhole}
+use Rattle.search.proofs.Matched.{start-matched, start-last, none-in-nil}
+use Rattle.since.specs.Bytes.{sinceFrom}
+use Rattle.decoder.specs.Push.{firstWay, secondWay, inWay, sized, searching, store, finish, judge, step, finalized}
+use Rattle.decoder.specs.Record.{DecoderAnswer, nothing, payload, count, refusal, wrote, badDecoder, wrongBuffer, pushed, pushRecord, finalizeRecord, resetRecord, newRecord, hasPayload, payloadRecord}
+use Rattle.decoder.specs.Run.{KnownWay, isFirst, isSecond, Op, push, reset, act}
 use Rattle.decoder.specs.declared.DecodeState.{DecodeState}
 use Rattle.decoder.specs.declared.DecodeState.the-variants.{LookingForMessageStart, ParsingNormal, ParsingEscChars, ParsingEscPayload, Done}
 use Rattle.decoder.specs.declared.Decoder.{Decoder}
@@ -36,16 +40,18 @@ use Rattle.events.specs.Events.{nth, answer, saysFirst, atStart, inside, entrie
 use Rattle.events.specs.Message.{Message, messageAt}
 use Rattle.places.specs.Calls.{Why, theFirst, repeated}
 use Rattle.places.proofs.Calls.{only-first, broke-in-start}
-use Rattle.marks.specs.Decoders.{LeftBehind, answers, behindOf, leftBehind, bytesFrom, countFrom, ours}
-use Rattle.marks.specs.Mark2.{PushesBytes, Soundness, Completeness, Unmatched, nothingMatched, behindPayload, OurSearch}
+use Rattle.marks.specs.Decoders.{Gave, LeftBehind, answers, behindOf, leftBehind, bytesFrom, searchedFrom, ours}
+use Rattle.marks.specs.Mark2.{PushesBytes, Soundness, Completeness, Ready, nothingMatched, someMatched, behindPayload, OurSearch}
 use Rattle.marks.specs.Mark3.{Job, framesFor, restSays, Mark3, Suits}
 use Rattle.marks.specs.Hides.{Hides}
 use Rattle.marks.specs.Chunks.{bySlices, Chunks}
+use Rattle.marks.specs.Second.{Begins, SearchesAgain, HearsBehindNoise, Seeking, inSearch, beforeSearch, ourSeeks, ourBegun}
+use Rattle.marks.specs.Ways.{ourWay, KeepsWay, RefusesUnknown}
 use Rattle.marks.specs.Encoders.{callsOf, ourEncoder, SameBytes}
 use Rattle.marks.specs.Bench.{Outcome, sheetEncoded, sheetEvents, sheetField, sheetString, sheetSigned, sheetUnsigned, saidFrom, Holds, payload1, frame1, b1, b2, b3, b6}
 use Rattle.marks.specs.Events as Ev
 use Rattle.marks.specs.Events.{saysAt, hears, ReaderGives, GoesOn, readerWith, Follows, ListsEntries, SaysWhere, CallSaysWhere, TenAgain}
-use Rattle.marks.specs.Fakes.{refusesAll, constant, idle, invents, once, firstOnce, stale, hasty, forgiving, lastOf, swallows, takesNone, Withheld, withholds, shrugs, forgetful, blamesTheMessage, saysItAgain, writesNothing, refusesToEncode, finishedAtOnce, withoutEvents, noEntries, Fall}
+use Rattle.marks.specs.Fakes.{refusesAll, constant, idle, invents, once, firstOnce, stale, hasty, forgiving, firstOnly, countsEight, deaf, forgetsWay, servesAnyWay, lastOf, swallows, takesNone, Withheld, withholds, shrugs, forgetful, blamesTheMessage, saysItAgain, writesNothing, refusesToEncode, finishedAtOnce, withoutEvents, noEntries, NotOurs, Fall}
 use Rattle.marks.proofs.Completeness.{new-searches}
 
 -- a number for an answer, in which the fakes differ from what is claimed
@@ -122,7 +128,7 @@ sound1 = record { D = payload1; p = 0; whole = refl; aligned = refl; small = ome
 idle-mark2 : Completeness idle OurSearch → ⊥
 unfolding codeAt answerCode answers sound1
 idle-mark2 h =
-    let e = h C (newRecord C) zeros 0 (new-searches C zeros refl (omega arith)) frame1 payload1 sound1 .0 (omega arith) in
+    let e = h C (newRecord C) zeros 0 (new-searches C zeros (isFirst refl) refl (omega arith)) frame1 payload1 sound1 .0 (omega arith) in
     let z : _≡_ {A = ℕ} 0 1018 = ap (codeAt 19) e in
     omega arith
 
@@ -171,14 +177,103 @@ stateCode (ParsingEscChars n) = 0
 stateCode (ParsingEscPayload n) = 0
 stateCode Done = 0
 
-unmatched-code : {s : DecodeState} {noise : ℕ} → Unmatched s noise → stateCode s ≡ 0 → noise ≡ 9 → ⊥
+ready-code : {way : ℕ} {s : DecodeState} {noise : ℕ} → Ready way s noise → stateCode s ≡ 0 → noise ≡ 9 → ⊥
 unfolding stateCode
-unmatched-code (nothingMatched e) z n = let x : _≡_ {A = ℕ} 1 0 = ap stateCode (sym e) ∙ z in omega arith
-unmatched-code (behindPayload e y) z n = omega arith
+ready-code (nothingMatched e) z n = let x : _≡_ {A = ℕ} 1 0 = ap stateCode (sym e) ∙ z in omega arith
+ready-code (someMatched k before w e small y) z n = let x : _≡_ {A = ℕ} 1 0 = ap stateCode (sym e) ∙ z in omega arith
+ready-code (behindPayload e y) z n = omega arith
 
-forgiving-hides : Hides forgiving OurSearch → ⊥
+forgiving-hides : Hides firstWay forgiving OurSearch → ⊥
 unfolding stateCode answers leftBehind reflect polynomial bitStep bitSteps byteStep register finalXor crcOf searching store same finish judge step finalized wrote badDecoder wrongBuffer pushed pushRecord finalizeRecord act
-forgiving-hides h = unmatched-code (h C (newRecord C) zeros 0 (new-searches C zeros refl (omega arith)) .1 .searches) refl refl
+forgiving-hides h = ready-code (h C (newRecord C) zeros 0 refl (new-searches C zeros (isFirst refl) refl (omega arith)) .1 .searches) refl refl
+
+-- ---- the second way
+
+abbrev C₂ : Setup
+C₂ = inWay secondWay 8
+
+-- B5 up to its ninth byte: a stray 1b, and a start
+abbrev eightOps : List Op
+eightOps = map push (0x1b ∷ take 7 startSeq)
+
+-- the first way says nothing there
+first-only-begins : Begins firstOnly ourSeeks ourBegun → ⊥
+unfolding answerCode answers leftBehind searchedFrom reflect polynomial bitStep bitSteps byteStep register finalXor crcOf mostMatched greatest searching store same finish judge step finalized wrote badDecoder wrongBuffer pushed pushRecord finalizeRecord act
+first-only-begins h =
+    let e = h C₂ zeros refl refl (omega arith) eightOps 0x01 (inSearch 0 8 refl) .1 .begins (record { before = 0x1b ∷ []; is = refl }) .0 in
+    let z : _≡_ {A = ℕ} 0 3001 = ap answerCode e in
+    omega arith
+
+-- no event comes of the frame
+seven-are : 7 ≡ mostMatched (0x1b ∷ take 7 startSeq)
+unfolding mostMatched greatest same
+seven-are = refl
+
+no-start : NoneWhole (0x1b ∷ take 7 startSeq)
+no-start s =
+    let f : EndsInStart (0x1b ∷ take 7 startSeq) = start-last (0x1b ∷ take 6 startSeq) 0x01 (λ r. let n = ap length (r .is) ∙ length-append (r .before) (startSeq ++ r .behind) in omega arith) s in
+    let z : _≡_ {A = ℕ} 7 8 = seven-are ∙ start-matched _ f in
+    omega arith
+
+first-only-hears : HearsBehindNoise NoneWhole firstOnly encodeTo ourSeeks → ⊥
+unfolding codeAt answerCode answers leftBehind searchedFrom escaped closed frameOf encodeTo reflect polynomial bitStep bitSteps byteStep register finalXor crcOf mostMatched greatest searching store same finish judge step finalized wrote badDecoder wrongBuffer pushed pushRecord finalizeRecord act
+first-only-hears h =
+    let e = h C₂ zeros refl refl (omega arith) [] (0x1b ∷ []) job suits (inSearch 0 0 refl) no-start in
+    let z : _≡_ {A = ℕ} 0 1018 = ap (codeAt 20) e in
+    omega arith
+
+-- DiscardedBytes(9) for one byte of noise
+counts-eight-begins : Begins countsEight ourSeeks ourBegun → ⊥
+unfolding answerCode answers leftBehind searchedFrom reflect polynomial bitStep bitSteps byteStep register finalXor crcOf mostMatched greatest searching store same finish judge step finalized wrote badDecoder wrongBuffer pushed pushRecord finalizeRecord act
+counts-eight-begins h =
+    let e = h C₂ zeros refl refl (omega arith) eightOps 0x01 (inSearch 7 1 refl) .1 .begins (record { before = 0x1b ∷ []; is = refl }) .0 in
+    let z : _≡_ {A = ℕ} 3009 3001 = ap answerCode e in
+    omega arith
+
+seeking-code : {s : DecodeState} → Seeking s → s ≡ ParsingNormal → ⊥
+seeking-code (inSearch n noise e) q = let z : _≡_ {A = ℕ} 0 1 = cc in omega arith
+seeking-code (beforeSearch e) q = let z : _≡_ {A = ℕ} 0 1 = cc in omega arith
+
+-- behind an unknown escape the bytes since the search began are none
+deaf-again : SearchesAgain deaf ourSeeks → ⊥
+unfolding answers leftBehind sinceFrom reflect polynomial bitStep bitSteps byteStep register finalXor crcOf mostMatched greatest searching store same finish judge step finalized wrote badDecoder wrongBuffer pushed pushRecord finalizeRecord act
+deaf-again h = seeking-code (h C₂ zeros refl refl (omega arith) (map push (startSeq ++ (0x1b ∷ 0x1b ∷ 0x1b ∷ 0x1b ∷ 0x02 ∷ 0x00 ∷ 0x00 ∷ 0x00 ∷ []))) none-in-nil) refl
+
+forgets-keeps : KeepsWay forgetsWay ourWay → ⊥
+unfolding act resetRecord
+forgets-keeps h =
+    let z : _≡_ {A = ℕ} 1 2 = h .kept (newRecord C₂) zeros reset in
+    omega arith
+
+three-unknown : KnownWay 3 → ⊥
+three-unknown (isFirst e) = omega arith
+three-unknown (isSecond e) = omega arith
+
+serves-any-refuses : RefusesUnknown servesAnyWay ourWay → ⊥
+unfolding answerCode reflect polynomial bitStep bitSteps byteStep register finalXor crcOf mostMatched greatest searching store same finish judge step finalized wrote badDecoder wrongBuffer pushed pushRecord finalizeRecord act
+serves-any-refuses h =
+    let e = h .by-push (newRecord (inWay 3 8)) zeros 0x00 three-unknown in
+    let z : _≡_ {A = ℕ} 0 3000 = ap (λ (g : Gave Decoder). answerCode (g .answer)) e in
+    omega arith
+
+-- the ninth byte tells the one before the start
+hides-second : Hides secondWay ours OurSearch → ⊥
+unfolding codeAt answerCode answers leftBehind reflect polynomial bitStep bitSteps byteStep register finalXor crcOf mostMatched greatest searching store same finish judge step finalized wrote badDecoder wrongBuffer pushed pushRecord finalizeRecord act
+hides-second h =
+    let e = h C₂ (newRecord C₂) zeros 0 refl (new-searches C₂ zeros (isSecond refl) refl (omega arith)) .0 in
+    let z : _≡_ {A = ℕ} 3001 0 = ap (codeAt 8) e in
+    omega arith
+
+-- a start sequence and a 1b before the frame: its start is an unknown escape, told at the sixteenth byte
+hears-anywhere : HearsBehindNoise (λ l. Unit {0}) ours encodeTo ourSeeks → ⊥
+unfolding codeAt answerCode answers leftBehind searchedFrom escaped closed frameOf encodeTo reflect polynomial bitStep bitSteps byteStep register finalXor crcOf mostMatched greatest searching store same finish judge step finalized wrote badDecoder wrongBuffer pushed pushRecord finalizeRecord act
+hears-anywhere h =
+    let e = h C₂ zeros refl refl (omega arith) [] (startSeq ++ 0x1b ∷ []) job suits (inSearch 0 0 refl) tt in
+    let z : _≡_ {A = ℕ} 3027 0 = ap (codeAt 15) e in
+    omega arith
+
+pub not-ours : NotOurs
+not-ours = record { hides-second = hides-second; hears-anywhere = hears-anywhere }
 
 -- ---- slices
 
@@ -186,7 +281,7 @@ forgiving-hides h = unmatched-code (h C (newRecord C) zeros 0 (new-searches C ze
 swallows-chunks : Chunks swallows → ⊥
 unfolding codeAt answerCode answers leftBehind bySlices lastOf reflect polynomial bitStep bitSteps byteStep register finalXor crcOf searching store same finish judge step finalized wrote badDecoder wrongBuffer pushed pushRecord finalizeRecord act
 swallows-chunks h =
-    let s = h C zeros refl (omega arith) [] (frame1 ++ 0x00 ∷ []) (21 ∷ []) in
+    let s = h C zeros (isFirst refl) refl (omega arith) [] (frame1 ++ 0x00 ∷ []) (21 ∷ []) in
     let w : s .took ≡ frame1 ++ 0x00 ∷ [] = sym (append-nil (s .took)) ∙ s .parts in
     let e = s .same-answers ∙ ap (λ (l : List ℕ). answers ours (newRecord C) zeros (map push l)) w in
     let z : _≡_ {A = ℕ} 0 1018 = ap (codeAt 19) e in
@@ -201,44 +296,44 @@ never-hidden (o ∷ os) d m = never-hidden os (ours .act d m o .decoder) (ours .
 withholds-chunks : Chunks withholds → ⊥
 unfolding leftBehind bySlices pushesFrom sliceRecord reflect polynomial bitStep bitSteps byteStep register finalXor crcOf searching store same finish judge step finalized wrote badDecoder wrongBuffer pushed pushRecord finalizeRecord act
 withholds-chunks h =
-    let s = h C zeros refl (omega arith) [] (frame1 ++ 0x00 ∷ []) (21 ∷ []) in
+    let s = h C zeros (isFirst refl) refl (omega arith) [] (frame1 ++ 0x00 ∷ []) (21 ∷ []) in
     let e : _≡_ {A = Bool} true (leftBehind (withholds .machine) (record { decoder = newRecord C; hidden = false }) zeros (map push (s .took)) .decoder .hidden) = ap (λ (k : LeftBehind Withheld). k .decoder .hidden) (s .same-kept) in
     false≢true (sym (e ∙ never-hidden (map push (s .took)) (newRecord C) zeros))
 
 takes-none-chunks : Chunks takesNone → ⊥
 unfolding leftBehind bySlices
 takes-none-chunks h =
-    let e = h C zeros refl (omega arith) [] (0x00 ∷ []) (1 ∷ []) .all-taken (omega arith, tt) (omega arith) in
+    let e = h C zeros (isFirst refl) refl (omega arith) [] (0x00 ∷ []) (1 ∷ []) .all-taken (omega arith, tt) (omega arith) in
     let z : _≡_ {A = ℕ} 1 0 = ap length e in
     omega arith
 
 -- ---- mark 3
 
 refuses-mark3 : Mark3 refusesAll encodeTo → ⊥
-unfolding codeAt answerCode answers framesFor restSays countFrom reflect polynomial bitStep bitSteps byteStep register finalXor crcOf escaped closed frameOf encodeTo
+unfolding codeAt answerCode answers framesFor restSays searchedFrom reflect polynomial bitStep bitSteps byteStep register finalXor crcOf escaped closed frameOf encodeTo
 refuses-mark3 h =
-    let e = h C zeros refl (omega arith) [] job [] (suits, tt) in
+    let e = h C zeros (isFirst refl) refl (omega arith) [] job [] (suits, tt) in
     let z : _≡_ {A = ℕ} 3000 1018 = ap (codeAt 32) e in
     omega arith
 
 constant-mark3 : Mark3 constant encodeTo → ⊥
-unfolding codeAt answerCode answers framesFor restSays countFrom reflect polynomial bitStep bitSteps byteStep register finalXor crcOf escaped closed frameOf encodeTo searching store same finish judge step finalized wrote badDecoder wrongBuffer pushed pushRecord finalizeRecord act
+unfolding codeAt answerCode answers framesFor restSays searchedFrom reflect polynomial bitStep bitSteps byteStep register finalXor crcOf escaped closed frameOf encodeTo searching store same finish judge step finalized wrote badDecoder wrongBuffer pushed pushRecord finalizeRecord act
 constant-mark3 h =
-    let e = h C zeros refl (omega arith) [] job [] (suits, tt) in
+    let e = h C zeros (isFirst refl) refl (omega arith) [] job [] (suits, tt) in
     let z : _≡_ {A = ℕ} 1042 1018 = ap (codeAt 32) e in
     omega arith
 
 idle-mark3 : Mark3 idle encodeTo → ⊥
-unfolding codeAt answerCode answers framesFor restSays countFrom reflect polynomial bitStep bitSteps byteStep register finalXor crcOf escaped closed frameOf encodeTo
+unfolding codeAt answerCode answers framesFor restSays searchedFrom reflect polynomial bitStep bitSteps byteStep register finalXor crcOf escaped closed frameOf encodeTo
 idle-mark3 h =
-    let e = h C zeros refl (omega arith) [] job [] (suits, tt) in
+    let e = h C zeros (isFirst refl) refl (omega arith) [] job [] (suits, tt) in
     let z : _≡_ {A = ℕ} 0 1018 = ap (codeAt 32) e in
     omega arith
 
 invents-mark3 : Mark3 invents encodeTo → ⊥
-unfolding codeAt answerCode answers framesFor restSays countFrom reflect polynomial bitStep bitSteps byteStep register finalXor crcOf escaped closed frameOf encodeTo searching store same finish judge step finalized wrote badDecoder wrongBuffer pushed pushRecord finalizeRecord act
+unfolding codeAt answerCode answers framesFor restSays searchedFrom reflect polynomial bitStep bitSteps byteStep register finalXor crcOf escaped closed frameOf encodeTo searching store same finish judge step finalized wrote badDecoder wrongBuffer pushed pushRecord finalizeRecord act
 invents-mark3 h =
-    let e = h C zeros refl (omega arith) [] job [] (suits, tt) in
+    let e = h C zeros (isFirst refl) refl (omega arith) [] job [] (suits, tt) in
     let z : _≡_ {A = ℕ} 3014 3013 = ap (codeAt 20) e in
     omega arith
 
@@ -253,17 +348,17 @@ once-first = refl
 
 -- the second frame's last byte is at place 52
 once-mark3 : Mark3 once encodeTo → ⊥
-unfolding codeAt answerCode answers framesFor restSays countFrom reflect polynomial bitStep bitSteps byteStep register finalXor crcOf escaped closed frameOf encodeTo searching store same finish judge step finalized wrote badDecoder wrongBuffer pushed pushRecord finalizeRecord act
+unfolding codeAt answerCode answers framesFor restSays searchedFrom reflect polynomial bitStep bitSteps byteStep register finalXor crcOf escaped closed frameOf encodeTo searching store same finish judge step finalized wrote badDecoder wrongBuffer pushed pushRecord finalizeRecord act
 once-mark3 h =
-    let e = h C zeros refl (omega arith) [] job (job ∷ []) (suits, (suits, tt)) in
+    let e = h C zeros (isFirst refl) refl (omega arith) [] job (job ∷ []) (suits, (suits, tt)) in
     let z : _≡_ {A = ℕ} 1000 1018 = ap (codeAt 52) e in
     omega arith
 
 -- no frame is pushed, so no event comes
 writes-nothing-mark3 : Mark3 ours writesNothing → ⊥
-unfolding codeAt answerCode answers framesFor restSays countFrom reflect polynomial bitStep bitSteps byteStep register finalXor crcOf searching store same finish judge step finalized wrote badDecoder wrongBuffer pushed pushRecord finalizeRecord act
+unfolding codeAt answerCode answers framesFor restSays searchedFrom reflect polynomial bitStep bitSteps byteStep register finalXor crcOf searching store same finish judge step finalized wrote badDecoder wrongBuffer pushed pushRecord finalizeRecord act
 writes-nothing-mark3 h =
-    let e = h C zeros refl (omega arith) [] job [] (suits, tt) in
+    let e = h C zeros (isFirst refl) refl (omega arith) [] job [] (suits, tt) in
     let z : _≡_ {A = ℕ} 0 3013 = ap (codeAt 20) e in
     omega arith
 
@@ -396,6 +491,12 @@ fall =
       once-first = once-first;
       once-mark3 = once-mark3;
       forgiving-hides = forgiving-hides;
+      first-only-begins = first-only-begins;
+      first-only-hears = first-only-hears;
+      counts-eight-begins = counts-eight-begins;
+      deaf-again = deaf-again;
+      forgets-keeps = forgets-keeps;
+      serves-any-refuses = serves-any-refuses;
       swallows-chunks = swallows-chunks;
       takes-none-chunks = takes-none-chunks;
       withholds-chunks = withholds-chunks;

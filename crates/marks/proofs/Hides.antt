@@ -1,12 +1,12 @@
--- A stray 1b and a start sequence are nine bytes of noise.
-use mathlib.Core.Path.{_≡_, refl, ap, _∙_}
+-- In the first way a stray 1b and a start sequence are nine bytes of noise.
+use mathlib.Core.Path.{_≡_, refl, ap, sym, _∙_, subst}
 use mathlib.Core.List.{List, [], _∷_, _++_, map}
 use Prim.Native.Nat.{ℕ, suc, _+_}
 use native.Mathlib.Omega.{arith}
 use lib.ListN.{take, replicate}
 use Rattle.crc_x25.specs.Crc.{reflect, polynomial, bitStep, bitSteps, byteStep, register, finalXor, crcOf}
-use Rattle.frame.specs.Frame.{startSeq, escaped, closed, frameOf}
-use Rattle.decoder.specs.Push.{sized, State, search, done, stopped, searching, store, same, finish, judge, step}
+use Rattle.frame.specs.Frame.{startSeq, escaped, closed, frameOf, same}
+use Rattle.decoder.specs.Push.{firstWay, inWay, sized, State, search, done, stopped, searching, store, finish, judge, step}
 use Rattle.decoder.specs.Record.{nothing, payload, refusal, After, after, stateAs, stateOf, wrote, badDecoder, wrongBuffer, pushed, pushRecord}
 use Rattle.decoder.specs.Run as R
 use Rattle.decoder.specs.Run.{Op, push, act}
@@ -18,7 +18,7 @@ use Rattle.decoder.proofs.States.{runState, stateBehind, actState, answerState}
 use Rattle.decoder.proofs.Faithful.{Fit}
 use Rattle.decoder.proofs.Runs.{leads, run-is}
 use Rattle.marks.specs.Decoders.{ours, answers, leftBehind}
-use Rattle.marks.specs.Mark2.{Unmatched, nothingMatched, behindPayload, OurSearch}
+use Rattle.marks.specs.Mark2.{Ready, nothingMatched, someMatched, behindPayload, OurSearch}
 use Rattle.marks.specs.Hides.{Hides}
 use Rattle.marks.specs.Bench.{SheetSaid, sheetSaid, saidFrom}
 use Rattle.marks.proofs.Recovery.{answers-run}
@@ -33,17 +33,17 @@ record Sought (noise : ℕ) (s : State) : Type 0 where
   raw : ℕ
   is : s ≡ search 0 noise raw
 
-hears-none : (C : Setup) (noise raw : ℕ) → runState C (search 0 noise raw) os ≡ replicate 9 nothing
+hears-none : (c noise raw : ℕ) → runState (sized c) (search 0 noise raw) os ≡ replicate 9 nothing
 unfolding runState actState answerState step searching
-hears-none C noise raw = refl
+hears-none c noise raw = refl
 
 -- the noise behind five bytes that the fifth makes noise, and the four 01, each noise by itself
 nine-more : (noise : ℕ) → stopped (stopped (stopped (stopped (stopped (noise + 5) + 1) + 1) + 1) + 1) ≡ stopped (noise + 9)
 nine-more noise = omega arith
 
-seeks-on : (C : Setup) (noise raw : ℕ) → Sought (stopped (noise + 9)) (stateBehind C (search 0 noise raw) os)
+seeks-on : (c noise raw : ℕ) → Sought (stopped (noise + 9)) (stateBehind (sized c) (search 0 noise raw) os)
 unfolding stateBehind actState step searching
-seeks-on C noise raw =
+seeks-on c noise raw =
     let up : ℕ → ℕ = λ r. stopped (suc r) in
     let r : ℕ = up (up (up (up (up (up (up (up (up raw)))))))) in
     record { raw = r; is = ap (λ (n : ℕ). search 0 n r) (nine-more noise) }
@@ -61,30 +61,40 @@ record Hidden (C : Setup) (noise : ℕ) (s : State) : Type 0 where
   hears : runState C s os ≡ replicate 9 nothing
   seeks : Sought (stopped (noise + 9)) (stateBehind C s os)
 
-hides-as : (C : Setup) (d : Decoder) (m : List ℕ) (noise : ℕ) → Unmatched (d .state) noise → Hidden C noise (stateOf d m)
-hides-as C d m noise (nothingMatched e) = rw e (record { hears = hears-none C noise (d .«raw_msg_len»); seeks = seeks-on C noise (d .«raw_msg_len») })
-hides-as C d m noise (behindPayload e z) =
-    rw (e, z) (record { hears = hears-done C (take (d .fill) m) ∙ hears-none C 0 0; seeks = rw (seeks-done C (take (d .fill) m)) (seeks-on C 0 0) })
+hides-as : (c : ℕ) (d : Decoder) (m : List ℕ) (noise : ℕ) → d .way ≡ firstWay → Ready (d .way) (d .state) noise → Hidden (sized c) noise (stateOf d m)
+hides-as c d m noise w (nothingMatched e) = rw e (record { hears = hears-none c noise (d .«raw_msg_len»); seeks = seeks-on c noise (d .«raw_msg_len») })
+hides-as c d m noise w (someMatched n before s e small z) = absurd (let x = sym w ∙ s in omega arith)
+hides-as c d m noise w (behindPayload e z) =
+    rw (e, z) (record { hears = hears-done (sized c) (take (d .fill) m) ∙ hears-none c 0 0; seeks = rw (seeks-done (sized c) (take (d .fill) m)) (seeks-on c 0 0) })
 
 -- ---- over the record
 
-looking-back : (s : DecodeState) (d : Decoder) (m : List ℕ) (n noise raw : ℕ) → stateAs s d m ≡ search n noise raw → s ≡ LookingForMessageStart n noise
+pub looking-back : (s : DecodeState) (d : Decoder) (m : List ℕ) (n noise raw : ℕ) → stateAs s d m ≡ search n noise raw → s ≡ LookingForMessageStart n noise
 looking-back (LookingForMessageStart k x) d m n noise raw e = cc
 looking-back ParsingNormal d m n noise raw e = cc
 looking-back (ParsingEscChars k) d m n noise raw e = cc
 looking-back (ParsingEscPayload k) d m n noise raw e = cc
 looking-back Done d m n noise raw e = cc
 
+pub done-back : (s : DecodeState) (d : Decoder) (m P : List ℕ) → stateAs s d m ≡ done P → s ≡ Done
+done-back (LookingForMessageStart k x) d m P e = cc
+done-back ParsingNormal d m P e = cc
+done-back (ParsingEscChars k) d m P e = cc
+done-back (ParsingEscPayload k) d m P e = cc
+done-back Done d m P e = refl
+
 pub kept-is : (l : List Op) (a : After) → leftBehind ours (a .decoder) (a .memory) l ≡ record { decoder = R.behind a l .decoder; memory = R.behind a l .memory }
 unfolding leftBehind R.behind
 kept-is [] a = refl
 kept-is (o ∷ l) a = kept-is l (act (a .decoder) (a .memory) o)
 
-pub hides : Hides ours OurSearch
-hides C d m noise h =
+pub hides : Hides firstWay ours OurSearch
+hides C d m noise w h =
     let f : Fit d m = record { state = h .good; buffer = h .lent } in
     let x : After = after nothing d m in
-    let t = hides-as C d m noise (h .searches) in
+    let way : d .way ≡ firstWay = ap (λ (c : Setup). c .way) (h .setup′) ∙ w in
+    let is : C ≡ sized (C .capacity) = λ i. inWay (w i) (C .capacity) in
+    let t : Hidden C noise (stateOf d m) = subst (λ (c : Setup). Hidden c noise (stateOf d m)) (sym is) (hides-as (C .capacity) d m noise way (h .searches)) in
     let there = leads os x f in
     let b : stateOf (R.behind x os .decoder) (R.behind x os .memory) ≡ search 0 (stopped (noise + 9)) (t .seeks .raw) =
     there .view′ ∙ ap (λ (c : Setup). stateBehind c (stateOf d m) os) (h .setup′) ∙ t .seeks .is in (

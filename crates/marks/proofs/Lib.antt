@@ -1,11 +1,15 @@
 pub mod Rules
+pub mod Starts
 pub mod Inside
 pub mod RoundTrip
+pub mod Searched
 pub mod Recovery
 pub mod Soundness
 pub mod Hides
 pub mod Chunks
 pub mod Completeness
+pub mod Second
+pub mod Ways
 pub mod Bench
 pub mod Encoders
 pub mod Events

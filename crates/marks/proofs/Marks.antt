@@ -8,11 +8,13 @@ use Rattle.marks.proofs.Soundness.{soundness}
 use Rattle.marks.proofs.Completeness.{completeness, new-searches, reached-searches}
 use Rattle.marks.proofs.Hides.{hides}
 use Rattle.marks.proofs.Chunks.{chunks}
+use Rattle.marks.proofs.Second.{begins-exactly, searches-again, second-searches, reached-counts, hears-behind-noise}
+use Rattle.marks.proofs.Ways.{keeps-way, refuses-unknown, unknown-asked}
 use Rattle.marks.proofs.Encoders.{same-bytes}
 use Rattle.marks.proofs.Recovery.{mark3}
 use Rattle.marks.proofs.Events.{reader-gives, parser-gives, reader-goes-on, parser-goes-on, reader-lists, parser-lists, reader-says-where, parser-says-where, reader-call-says-where, parser-call-says-where, reader-ten-again, parser-ten-again}
-use Rattle.marks.proofs.Bench.{bench}
-use Rattle.marks.proofs.Fakes.{fall}
+use Rattle.marks.proofs.Bench.{bench, bench-second}
+use Rattle.marks.proofs.Fakes.{not-ours, fall}
 
 pub marks : Marks
 marks =
@@ -24,6 +26,14 @@ marks =
       new-searches = new-searches;
       reached-searches = reached-searches;
       hides = hides;
+      begins = begins-exactly;
+      searches-again = searches-again;
+      second-searches = second-searches;
+      hears-behind-noise = hears-behind-noise;
+      keeps-way = keeps-way;
+      refuses-unknown = refuses-unknown;
+      unknown-asked = unknown-asked;
+      counts = reached-counts;
       chunks = chunks;
       same-bytes = same-bytes;
       mark3 = mark3;
@@ -43,5 +53,7 @@ marks =
       parser-ten-again = parser-ten-again;
       fall-readers = fall-readers;
       bench = bench;
+      bench-second = bench-second;
+      not-ours = not-ours;
       fall = fall;
     }

@@ -1,6 +1,5 @@
 -- From any state that a decoder comes to, C + 5 zero bytes bring it back to a search, and then every frame is heard.
 use mathlib.Core.Path.{_≡_, refl, ap, sym, _∙_, subst}
-use mathlib.Core.Bool.{Bool, false}
 use mathlib.Core.List.{List, [], _∷_, _++_, map}
 use Prim.Native.Nat.{ℕ, zero, suc, _+_, _-_, _≤_, _<_}
 use native.Mathlib.Omega.{arith}
@@ -8,9 +7,8 @@ use native.Mathlib.Nat.{sub-zero}
 use lib.ListN.{length, replicate, drop, length-append}
 use lib.Seq.{drop-append-le, take-at}
 use borrow.Author.Tests.{ne-eqb, le-leb}
-use lib.Dec.{ltb}
 use Rattle.frame.specs.Frame.{restartSeq, frameOf, closed}
-use Rattle.decoder.specs.Push.{Mem, State, search, body, escape, done, silent, memory, Out, searching, says, put, starts, step, noticed, fresh, stopped}
+use Rattle.decoder.specs.Push.{Mem, State, search, body, escape, done, silent, memory, Out, searching, says, put, step, noticed, fresh, stopped}
 use Rattle.decoder.specs.Record.{DecoderAnswer, nothing, payload, count, refusal, numbered, newRecord}
 use Rattle.decoder.specs.Run.{Op, push, finalize, reset, act, run}
 use Rattle.decoder.proofs.States.{runState, stateBehind, actState, answerState}
@@ -18,17 +16,17 @@ use Rattle.decoder.specs.Saw as W
 use Rattle.decoder.specs.Saw.{Judged, is-data, restarts, good, bad, shifts, Saw, sought, began, again, waits, opens, stores, full, collects, judges, full′}
 use Rattle.decoder.proofs.Saw.{saw}
 use Rattle.decoder.proofs.Faithful.{contents}
+use Rattle.decoder.proofs.Search.{Known, known-is, matched-zero}
 use Rattle.decoder.proofs.Runs.{run-new}
 use Rattle.decoder.specs.declared.Decoder.{Decoder}
 use Rattle.decoder.specs.declared.Setup.{Setup}
-use Rattle.since.specs.Since.{grownSince, ReadSince}
-use Rattle.since.proofs.Kept.{kept, reads-fresh}
 use Rattle.since.proofs.Counts.{reads-counted}
 use Rattle.refusals.specs.Numbers.{limit}
 use Rattle.encoder.specs.Encode.{encodeTo}
-use Rattle.marks.specs.Decoders.{ours, answers, countFrom, countSince, frameSays}
+use Rattle.marks.specs.Decoders.{ours, answers, searchedFrom, countSince, frameSays}
 use Rattle.marks.specs.Mark3.{Job, Suits, AllSuit, wroteFor, framesFor, restSays, Mark3}
-use Rattle.frame.proofs.Cases.{by-test}
+use Rattle.marks.proofs.Starts.{starts-none}
+use Rattle.marks.proofs.Searched.{grownSearch, grownSearchOp, searched-cons, Heard, heard-fresh, heard-act}
 use Rattle.marks.proofs.RoundTrip.{round-trip}
 
 -- ---- n bytes were pushed since the last event
@@ -40,82 +38,27 @@ tally (payload bytes) n = 0
 tally (count k) n = 0
 tally (refusal k values) n = 0
 
-abbrev tallyOp : Op → DecoderAnswer → ℕ → ℕ
-tallyOp (push b) a n = tally a n
-tallyOp finalize a n = 0
-tallyOp reset a n = 0
+tally-is : (a : DecoderAnswer) (g : List ℕ) (b : ℕ) → tally a (length g) ≡ length (grownSearch a g b)
+tally-is nothing g b = simp length-append (omega arith)
+tally-is (payload bytes) g b = refl
+tally-is (count k) g b = refl
+tally-is (refusal k values) g b = refl
 
-count-cons : (n : ℕ) (o : Op) (a : DecoderAnswer) (os : List Op) (more : List DecoderAnswer) → countFrom n (o ∷ os) (a ∷ more) ≡ countFrom (tallyOp o a n) os more
-unfolding countFrom
-count-cons n (push b) nothing os more = refl
-count-cons n (push b) (payload bytes) os more = refl
-count-cons n (push b) (count k) os more = refl
-count-cons n (push b) (refusal k values) os more = refl
-count-cons n finalize a os more = refl
-count-cons n reset a os more = refl
-
--- outside a frame they are the bytes since the search began
-abbrev Same : ℕ → List ℕ → State → Type 0
-Same n h (search k noise raw) = n ≡ length h
-Same n h (body r m) = Unit {0}
-Same n h (escape k m) = Unit {0}
-Same n h (done P) = n ≡ length h
-
-same-judged : (n : ℕ) (h : List ℕ) (b : ℕ) (m : Mem) (four : List ℕ) (o : Out) → Judged m four o → Same (tally (numbered (o .event)) n) (grownSince (numbered (o .event)) h b) (o .state)
-same-judged n h b m four o (is-data e) = tt
-same-judged n h b m four o (restarts e) = tt
-same-judged n h b m four o (good e p) = refl
-same-judged n h b m four o (bad e p) = refl
-same-judged n h b m four o (shifts a e lo hi t) = tt
-same-judged n h b m four o (W.unknown w x y z) = refl
-
-same-saw : (C : Setup) (n : ℕ) (h : List ℕ) (s : State) (b : ℕ) (o : Out) → Same n h s → Saw C s b o → Same (tally (numbered (o .event)) n) (grownSince (numbered (o .event)) h b) (o .state)
-same-saw C n h s b o e (sought k f ne) = simp length-append (omega arith)
-same-saw C n h s b o e (began f) = tt
-same-saw C n h s b o e (again w) = same-saw C n h fresh b o e w
-same-saw C n h s b o e (waits f ne) = tt
-same-saw C n h s b o e (opens f g) = tt
-same-saw C n h s b o e (stores ne fit) = tt
-same-saw C n h s b o e (full ne f) = refl
-same-saw C n h s b o e (collects fit lt) = tt
-same-saw C n h s b o e (judges {m = m} fit ge j) = same-judged n h b (put m (b ∷ [])) _ o j
-same-saw C n h s b o e (full′ f) = refl
-
--- what is known behind any operations
-record Heard (C : Setup) (n : ℕ) (s : State) : Type 0 where
-  since : List ℕ
-  reads′ : ReadSince C since s
-  same′ : Same n since s
-
-heard-fresh : (C : Setup) → Heard C 0 fresh
-heard-fresh C = record { since = []; reads′ = reads-fresh C; same′ = refl }
-
-heard-act : (C : Setup) (n : ℕ) (s : State) (o : Op) → Heard C n s → Heard C (tallyOp o (answerState C s o) n) (actState C s o)
-unfolding actState answerState
-heard-act C n s (push b) k =
-    record {
-      since = grownSince (numbered ((step C s b) .event)) (k .since) b;
-      reads′ = kept C (k .since) s b (k .reads′) .reads;
-      same′ = same-saw C n (k .since) s b (step C s b) (k .same′) (saw C s b);
-    }
-heard-act C n s finalize k = heard-fresh C
-heard-act C n s reset k = heard-fresh C
-
--- of which mark 3 needs
+-- what mark 3 needs of what is known
 abbrev RoomKept : Setup → ℕ → State → Type 0
 RoomKept C n (search k noise raw) = (k ≤ n) × (noise ≡ stopped (n - k))
 RoomKept C n (body r m) = length (m .stored) ≤ C .capacity
 RoomKept C n (escape k m) = length (m .stored) ≤ C .capacity
 RoomKept C n (done P) = n ≡ 0
 
-ok : (C : Setup) (n : ℕ) (s : State) → Heard C n s → RoomKept C n s
-ok C n (search j noise raw) k =
+ok : (C : Setup) (g : List ℕ) (s : State) → Heard C g s → RoomKept C (length g) s
+ok C g (search j noise raw) k =
     let c = reads-counted C (k .since) (search j noise raw) (k .reads′) in
-    let e : n ≡ length (k .since) = k .same′ in
+    let e : length g ≡ length (k .since) = ap length (k .same′) in
     (omega arith, omega arith)
-ok C n (body r m) k = k .reads′ .fits
-ok C n (escape j m) k = k .reads′ .fits
-ok C n (done P) k = k .same′ ∙ ap length (k .reads′ .0)
+ok C g (body r m) k = k .reads′ .fits
+ok C g (escape j m) k = k .reads′ .fits
+ok C g (done P) k = ap length (k .same′ ∙ k .reads′ .0)
 
 -- ---- a zero byte: in a frame the fill goes up, or the frame ends
 
@@ -187,45 +130,44 @@ near-from C k f n (body r m) mv le h = omega arith
 near-from C k f n (escape j m) mv le h = omega arith
 near-from C k f n (done P) mv le h = omega arith
 
-starts-zero : (n : ℕ) → starts n 0 ≡ false
-starts-zero n = by-test (λ (t : Bool). t ≡ false) (ltb n 4) false false (λ e. refl) (λ e. refl)
-
-search-zero : (n noise raw : ℕ) → searching n noise raw 0 ≡ says (search 0 (stopped (noise + suc n)) (stopped (suc raw))) silent
+search-zero : (way n noise raw : ℕ) → searching way n noise raw 0 ≡ says (search 0 (stopped (noise + suc n)) (stopped (suc raw))) silent
 unfolding searching
-search-zero n noise raw = rw (starts-zero n, ne-eqb 0 (suc n) (λ e. omega arith), sub-zero)
+search-zero way n noise raw = rw (matched-zero way n, ne-eqb 0 (suc n) (λ e. omega arith), sub-zero)
 
 near-step : (C : Setup) (k n : ℕ) (s : State) → RoomKept C n s → Near C (suc k) n s → Near C k (tally (numbered ((step C s 0) .event)) n) ((step C s 0) .state)
 unfolding step searching
-near-step C k n (search j noise raw) ok h = rw (search-zero j noise raw) (omega arith, λ e. refl)
+near-step C k n (search j noise raw) ok h = rw (search-zero (C .way) j noise raw) (omega arith, λ e. refl)
 near-step C k n (body r m) ok h = near-from C k (length (m .stored)) (tally (numbered ((step C (body r m) 0) .event)) n) ((step C (body r m) 0) .state) (moved C (body r m) 0 (step C (body r m) 0) refl tt (saw C (body r m) 0)) ok h
 near-step C k n (escape j m) ok h = near-from C k (length (m .stored)) (tally (numbered ((step C (escape j m) 0) .event)) n) ((step C (escape j m) 0) .state) (moved C (escape j m) 0 (step C (escape j m) 0) refl tt (saw C (escape j m) 0)) ok h
-near-step C k n (done P) ok h = (omega arith, λ e. refl)
+near-step C k n (done P) ok h = rw (search-zero (C .way) 0 0 0) (omega arith, λ e. refl)
 
--- behind the operations os, from s and n bytes: a search with nothing matched, whose noise is all that was pushed since the last answer of note
-pub record Searching (C : Setup) (s : State) (n : ℕ) (os : List Op) : Type 0 where
+-- behind the operations os, from s and the bytes g: a search with nothing matched, whose noise is all that was pushed since the last answer of note
+pub record Searching (C : Setup) (s : State) (g : List ℕ) (os : List Op) : Type 0 where
   pub raw : ℕ
-  pub state′ : stateBehind C s os ≡ search 0 (stopped (countFrom n os (runState C s os))) raw
-  pub some : 1 ≤ countFrom n os (runState C s os)
+  pub state′ : stateBehind C s os ≡ search 0 (stopped (length (searchedFrom g os (runState C s os)))) raw
+  pub some : 1 ≤ length (searchedFrom g os (runState C s os))
 
-searching-cons : (C : Setup) (s : State) (n : ℕ) (o : Op) (os : List Op) → Searching C (actState C s o) (tallyOp o (answerState C s o) n) os → Searching C s n (o ∷ os)
+searching-cons : (C : Setup) (s : State) (g : List ℕ) (o : Op) (os : List Op) → Searching C (actState C s o) (grownSearchOp o (answerState C s o) g) os → Searching C s g (o ∷ os)
 unfolding stateBehind runState
-searching-cons C s n o os t =
-    let e = count-cons n o (answerState C s o) os (runState C (actState C s o) os) in
+searching-cons C s g o os t =
+    let e = searched-cons g o (answerState C s o) os (runState C (actState C s o) os) in
     record { raw = t .raw; state′ = rw e (t .state′); some = rw e (t .some) }
 
-settle : (C : Setup) (k n : ℕ) (s : State) → Heard C n s → Near C k n s → Searching C s n (replicate k (push 0))
-unfolding stateBehind runState countFrom actState answerState
-settle C zero n (search j noise raw) b h =
-    let c = ok C n (search j noise raw) b in
+settle : (C : Setup) (k : ℕ) (g : List ℕ) (s : State) → Heard C g s → Near C k (length g) s → Searching C s g (replicate k (push 0))
+unfolding stateBehind runState searchedFrom actState answerState
+settle C zero g (search j noise raw) b h =
+    let c = ok C g (search j noise raw) b in
     let e : j ≡ 0 = h .1 refl in
-    let f : noise ≡ stopped n = omega arith in
+    let f : noise ≡ stopped (length g) = omega arith in
     record { raw = raw; state′ = cc; some = omega arith }
-settle C zero n (body r m) b h = absurd (let c = ok C n (body r m) b in omega arith)
-settle C zero n (escape j m) b h = absurd (let c = ok C n (escape j m) b in omega arith)
-settle C zero n (done P) b h = absurd (omega arith)
-settle C (suc k) n s b h =
-    searching-cons C s n (push 0) (replicate k (push 0))
-    (settle C k (tally (numbered ((step C s 0) .event)) n) ((step C s 0) .state) (heard-act C n s (push 0) b) (near-step C k n s (ok C n s b) h))
+settle C zero g (body r m) b h = absurd (let c = ok C g (body r m) b in omega arith)
+settle C zero g (escape j m) b h = absurd (let c = ok C g (escape j m) b in omega arith)
+settle C zero g (done P) b h = absurd (omega arith)
+settle C (suc k) g s b h =
+    let a : DecoderAnswer = numbered ((step C s 0) .event) in
+    searching-cons C s g (push 0) (replicate k (push 0))
+    (settle C k (grownSearch a g 0) ((step C s 0) .state) (heard-act C g s (push 0) b)
+    (subst (λ (n : ℕ). Near C k n ((step C s 0) .state)) (tally-is a g 0) (near-step C k (length g) s (ok C g s b) h)))
 
 near : (C : Setup) (n : ℕ) (s : State) → RoomKept C n s → Near C (C .capacity + 5) n s
 near C n (search j noise raw) ok = (omega arith, λ e. absurd (omega arith))
@@ -234,20 +176,20 @@ near C n (escape j m) ok = omega arith
 near C n (done P) ok = omega arith
 
 -- whatever was pushed, finalized and reset: its capacity + 5 zero bytes more, and the decoder searches
-recovers : (C : Setup) (before : List Op) (s : State) (n : ℕ) → Heard C n s → Searching C s n (before ++ replicate (C .capacity + 5) (push 0))
-recovers C [] s n k = settle C (C .capacity + 5) n s k (near C n s (ok C n s k))
-recovers C (o ∷ os) s n k =
-    searching-cons C s n o (os ++ replicate (C .capacity + 5) (push 0))
-    (recovers C os (actState C s o) (tallyOp o (answerState C s o) n) (heard-act C n s o k))
+recovers : (C : Setup) (before : List Op) (s : State) (g : List ℕ) → Heard C g s → Searching C s g (before ++ replicate (C .capacity + 5) (push 0))
+recovers C [] s g k = settle C (C .capacity + 5) g s k (near C (length g) s (ok C g s k))
+recovers C (o ∷ os) s g k =
+    searching-cons C s g o (os ++ replicate (C .capacity + 5) (push 0))
+    (recovers C os (actState C s o) (grownSearchOp o (answerState C s o) g) (heard-act C g s o k))
 
 -- ---- several frames
 
-run-state-append : (C : Setup) (a b : List Op) (s : State) → runState C s (a ++ b) ≡ runState C s a ++ runState C (stateBehind C s a) b
+pub run-state-append : (C : Setup) (a b : List Op) (s : State) → runState C s (a ++ b) ≡ runState C s a ++ runState C (stateBehind C s a) b
 unfolding runState stateBehind
 run-state-append C [] b s = refl
 run-state-append C (o ∷ a) b s = ap (λ (l : List DecoderAnswer). answerState C s o ∷ l) (run-state-append C a b (actState C s o))
 
-map-push : (a b : List ℕ) → map push (a ++ b) ≡ map push a ++ map push b
+pub map-push : (a b : List ℕ) → map push (a ++ b) ≡ map push a ++ map push b
 map-push [] b = refl
 map-push (x ∷ a) b = ap (λ (l : List Op). push x ∷ l) (map-push a b)
 
@@ -258,7 +200,7 @@ wrote-frame j short room =
     let f : List ℕ = frameOf (j .payload) in
     rw (le-leb (length (j .payload)) limit short, le-leb (length f) (length (j .output)) room) (take-at f (drop (length f) (j .output)) (length f) refl)
 
-wrote-is : (C : Setup) (j : Job) → C .capacity ≤ 1048576 → Suits C j → wroteFor encodeTo j ≡ frameOf (j .payload)
+pub wrote-is : (C : Setup) (j : Job) → C .capacity ≤ 1048576 → Suits C j → wroteFor encodeTo j ≡ frameOf (j .payload)
 wrote-is C j small s = wrote-frame j (omega arith) (s .1)
 
 -- behind a payload it is as if fresh
@@ -280,7 +222,7 @@ module _ (C : Setup) (small : C .capacity ≤ 1048576) where
   rest-says [] P fit = no-frames C P
   rest-says (j ∷ js) P fit =
       ap (runState C (done P)) (frames-cons j js (fit .0)) ∙ after-done C P (j .payload) (map push (framesFor encodeTo js))
-      ∙ round-trip C 0 0 (j .payload) (fit .0 .0) .answers′ (map push (framesFor encodeTo js))
+      ∙ round-trip C fresh 0 (starts-none C 0 0) (j .payload) (fit .0 .0) .answers′ (map push (framesFor encodeTo js))
       ∙ ap (λ (l : List DecoderAnswer). frameSays nothing (frameOf (j .payload)) (j .payload) ++ l) (rest-says js (j .payload) (fit .1))
       ∙ ap (λ (f : List ℕ). frameSays nothing f (j .payload) ++ restSays encodeTo js) (sym (wrote-is C j small (fit .0)))
 
@@ -289,7 +231,7 @@ module _ (C : Setup) (small : C .capacity ≤ 1048576) where
       ≡ frameSays (refusal 6 (stopped n ∷ [])) (wroteFor encodeTo j) (j .payload) ++ restSays encodeTo js
   first-says n raw j js pos fit =
       ap (runState C (search 0 (stopped n) raw)) (frames-cons j js (fit .0))
-      ∙ round-trip C (stopped n) raw (j .payload) (fit .0 .0) .answers′ (map push (framesFor encodeTo js))
+      ∙ round-trip C (search 0 (stopped n) raw) (stopped n) (starts-none C (stopped n) raw) (j .payload) (fit .0 .0) .answers′ (map push (framesFor encodeTo js))
       ∙ ap (λ (l : List DecoderAnswer). frameSays (numbered (noticed (stopped n))) (frameOf (j .payload)) (j .payload) ++ l) (rest-says js (j .payload) (fit .1))
       ∙ ap (λ (a : DecoderAnswer). frameSays a (frameOf (j .payload)) (j .payload) ++ restSays encodeTo js) noisy
       ∙ ap (λ (f : List ℕ). frameSays (refusal 6 (stopped n ∷ [])) f (j .payload) ++ restSays encodeTo js) (sym (wrote-is C j small (fit .0)))
@@ -304,17 +246,18 @@ unfolding answers run
 answers-run [] d m = refl
 answers-run (o ∷ os) d m = ap (λ (l : List DecoderAnswer). act d m o .answer ∷ l) (answers-run os (act d m o .decoder) (act d m o .memory))
 
-pub answers-new : (C : Setup) (m : List ℕ) (os : List Op) → length m ≡ C .capacity → C .capacity ≤ 1048576 → answers ours (ours .new C) m os ≡ runState C fresh os
-answers-new C m os l le = answers-run os (newRecord C) m ∙ run-new C m os l le
+pub answers-new : (C : Setup) (m : List ℕ) (os : List Op) → Known C → length m ≡ C .capacity → C .capacity ≤ 1048576 → answers ours (ours .new C) m os ≡ runState C fresh os
+answers-new C m os w l le = answers-run os (newRecord C) m ∙ run-new C m os w l le
 
 pub mark3 : Mark3 ours encodeTo
-mark3 C m l le before j js fit =
+mark3 C m way l le before j js fit =
+    let w : Known C = known-is (C .way) way in
     let os : List Op = before ++ replicate (C .capacity + 5) (push 0) in
     let fs : List Op = map push (framesFor encodeTo (j ∷ js)) in
     let heard : List DecoderAnswer = answers ours (ours .new C) m os in
-    let same : heard ≡ runState C fresh os = answers-new C m os l le in
-    let t : Searching C fresh 0 os = recovers C before fresh 0 (heard-fresh C) in
-    answers-new C m (os ++ fs) l le ∙ run-state-append C os fs fresh
+    let same : heard ≡ runState C fresh os = answers-new C m os w l le in
+    let t : Searching C fresh [] os = recovers C before fresh [] (heard-fresh C) in
+    answers-new C m (os ++ fs) w l le ∙ run-state-append C os fs fresh
     ∙ ap (λ (s : State). runState C fresh os ++ runState C s fs) (t .state′)
-    ∙ ap (λ (l : List DecoderAnswer). runState C fresh os ++ l) (first-says C le (countFrom 0 os (runState C fresh os)) (t .raw) j js (t .some) fit)
+    ∙ ap (λ (l : List DecoderAnswer). runState C fresh os ++ l) (first-says C le (length (searchedFrom [] os (runState C fresh os))) (t .raw) j js (t .some) fit)
     ∙ ap (λ (h : List DecoderAnswer). h ++ (frameSays (refusal 6 (stopped (countSince os h) ∷ [])) (wroteFor encodeTo j) (j .payload) ++ restSays encodeTo js)) (sym same)

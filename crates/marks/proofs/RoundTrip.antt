@@ -9,8 +9,8 @@ use lib.Seq.{take-at, drop-append-seam}
 use borrow.Author.Tests.{eq-eqb, le-leb, lt-leb}
 use Rattle.crc_x25.specs.Crc.{register, finalXor, crcOf}
 use Rattle.crc_x25.proofs.Laws.{register-append, register-none, crc-is}
-use Rattle.frame.specs.Frame.{Sound, missing, escSeq, startSeq, escaped, closed, framed, frameOf, runBehind}
-use Rattle.decoder.specs.Push.{Mem, State, search, body, escape, done, silent, paysOut, Out, begun, searching, says, put, tick, opened, store, same, judge, finish, computed, step, noticed, fresh, memory}
+use Rattle.frame.specs.Frame.{Sound, missing, escSeq, startSeq, escaped, closed, framed, frameOf, runBehind, same}
+use Rattle.decoder.specs.Push.{Mem, State, search, body, escape, done, silent, paysOut, Out, begun, searching, says, put, tick, opened, store, judge, finish, computed, step, noticed, fresh, memory}
 use Rattle.decoder.specs.Record.{DecoderAnswer, nothing, payload, numbered}
 use Rattle.decoder.specs.Run as R
 use Rattle.decoder.specs.Run.{Op}
@@ -20,6 +20,7 @@ use Rattle.marks.specs.Decoders.{frameSays}
 use Rattle.frame.proofs.Cases.{either}
 use Rattle.frame.proofs.Escapes.{swap-escSeq, run-le, escaped-append, escaped-zeros, escaped-other, run-other, escaped-wait, run-wait}
 use Rattle.marks.proofs.Rules.{Silent, stop, silentOn, andThen, step-other, step-wait, step-open, step-read, step-judge, silent-run, nothings}
+use Rattle.marks.proofs.Starts.{Starts}
 use Rattle.marks.proofs.Inside.{InsideFrame, begins, inside-other, inside-wait}
 use Rattle.since.proofs.Lists.{computed-is, trimmed}
 
@@ -212,11 +213,11 @@ module _ (C : Setup) (m : Mem) (D h : List ℕ) (p y z : ℕ) (right : y + 256 *
 
 -- ---- the theorem
 
--- a frame, pushed byte by byte in a search with no start byte matched
-pub record Decodes (C : Setup) (noise raw : ℕ) (f P : List ℕ) : Type 0 where
-  pub answers′ : (os : List Op) → runState C (search 0 noise raw) (map R.push f ++ os) ≡ frameSays (numbered (noticed noise)) f P ++ runState C (done P) os
+-- a frame, pushed byte by byte in a state
+pub record Decodes (C : Setup) (s : State) (noise : ℕ) (f P : List ℕ) : Type 0 where
+  pub answers′ : (os : List Op) → runState C s (map R.push f ++ os) ≡ frameSays (numbered (noticed noise)) f P ++ runState C (done P) os
 
-quiet-replicate : (l : List ℕ) → nothings l ≡ replicate (length l) nothing
+pub quiet-replicate : (l : List ℕ) → nothings l ≡ replicate (length l) nothing
 quiet-replicate [] = refl
 quiet-replicate (x ∷ l) = ap (λ (k : List DecoderAnswer). nothing ∷ k) (quiet-replicate l)
 
@@ -224,21 +225,15 @@ map-append : (a b : List ℕ) (os : List Op) → map R.push (a ++ b) ++ os ≡ m
 map-append [] b os = refl
 map-append (x ∷ a) b os = ap (λ (l : List Op). R.push x ∷ l) (map-append a b os)
 
--- behind the start
-module _ (C : Setup) (noise raw : ℕ) (l : List ℕ) (os : List Op) where
-  pub begun-run : runState C (search 0 noise raw) (map R.push (startSeq ++ l) ++ os) ≡ replicate 7 nothing ++ numbered (noticed noise) ∷ runState C begun (map R.push l ++ os)
-  unfolding runState actState answerState step searching
-  begun-run = refl
-
-module _ (C : Setup) (noise raw : ℕ) (l : List ℕ) (z : ℕ) (P : List ℕ) (need : ℕ) (t : Ends C begun l z P need) (os : List Op) where
+module _ (C : Setup) (s : State) (noise : ℕ) (finds : Starts C s noise) (l : List ℕ) (z : ℕ) (P : List ℕ) (need : ℕ) (t : Ends C begun l z P need) (os : List Op) where
   ends-run : runState C begun (map R.push (l ++ z ∷ []) ++ os) ≡ nothings l ++ payload P ∷ runState C (done P) os
   unfolding runState actState answerState
   ends-run = ap (runState C begun) (map-append l (z ∷ []) os) ∙ silent-run (t .quietly) (R.push z ∷ os)
       ∙ ap (λ (o : Out). nothings l ++ numbered (o .event) ∷ runState C (o .state) os) (t .last)
 
-  says-all : runState C (search 0 noise raw) (map R.push (startSeq ++ (l ++ z ∷ [])) ++ os) ≡ frameSays (numbered (noticed noise)) (startSeq ++ (l ++ z ∷ [])) P ++ runState C (done P) os
+  says-all : runState C s (map R.push (startSeq ++ (l ++ z ∷ [])) ++ os) ≡ frameSays (numbered (noticed noise)) (startSeq ++ (l ++ z ∷ [])) P ++ runState C (done P) os
   says-all =
-      begun-run C noise raw (l ++ z ∷ []) os
+      finds .leads (l ++ z ∷ []) os
       ∙ ap (λ (k : List DecoderAnswer). replicate 7 nothing ++ numbered (noticed noise) ∷ k)
       (ends-run ∙ ap (λ (k : List DecoderAnswer). k ++ payload P ∷ runState C (done P) os) (quiet-replicate l ∙ ap (λ (n : ℕ). replicate n nothing) long)
       ∙ sym (append-assoc (replicate (length (startSeq ++ (l ++ z ∷ [])) - 9) nothing) (payload P ∷ []) (runState C (done P) os)))
@@ -284,10 +279,10 @@ framed-runs C D p aligned small within fit = record { l = l; z = z; shape = shap
     t : Ends C begun l z P (length D + 4)
     t = record { s′ = e .s′; quietly = andThen (fed .quietly) (e .quietly); last = e .last; full = e .full }
 
-pub sound-decodes : (C : Setup) (noise raw : ℕ) (f P : List ℕ) (s : Sound f P) → length (s .D) + 4 ≤ C .capacity → Decodes C noise raw f P
-sound-decodes C noise raw f P s fit =
-    let r = framed-runs C (s .D) (s .p) (s .aligned) (s .small) (s .within) fit in
-    rw (s .whole ∙ r .shape, s .cut) (record { answers′ = says-all C noise raw (r .l) (r .z) (take (length (s .D) - s .p) (s .D)) _ (r .ends) })
+pub sound-decodes : (C : Setup) (s : State) (noise : ℕ) → Starts C s noise → (f P : List ℕ) (t : Sound f P) → length (t .D) + 4 ≤ C .capacity → Decodes C s noise f P
+sound-decodes C s noise finds f P t fit =
+    let r = framed-runs C (t .D) (t .p) (t .aligned) (t .small) (t .within) fit in
+    rw (t .whole ∙ r .shape, t .cut) (record { answers′ = says-all C s noise finds (r .l) (r .z) (take (length (t .D) - t .p) (t .D)) _ (r .ends) })
 
 -- what encode writes, as a frame of the padded payload
 frame-framed : (P : List ℕ) → frameOf P ≡ framed (P ++ replicate (missing (length P)) 0) (missing (length P))
@@ -298,8 +293,8 @@ frame-framed P =
     (append-assoc startSeq (escaped 0 P) (replicate n 0)
     ∙ ap (λ (l : List ℕ). startSeq ++ l) (sym (escaped-append 0 P (replicate n 0) ∙ rw (escaped-zeros n (runBehind 0 P)))))
 
-pub round-trip : (C : Setup) (noise raw : ℕ) (P : List ℕ) → length P + missing (length P) + 4 ≤ C .capacity → Decodes C noise raw (frameOf P) P
-round-trip C noise raw P fit = sound-decodes C noise raw (frameOf P) P padded (simp (length-append, length-replicate) fit)
+pub round-trip : (C : Setup) (s : State) (noise : ℕ) → Starts C s noise → (P : List ℕ) → length P + missing (length P) + 4 ≤ C .capacity → Decodes C s noise (frameOf P) P
+round-trip C s noise finds P fit = sound-decodes C s noise finds (frameOf P) P padded (simp (length-append, length-replicate) fit)
   where
     n : ℕ
     n = missing (length P)

@@ -8,17 +8,19 @@ use lib.ListN.{length}
 use Rattle.frame.specs.Frame.{Sound, startSeq}
 use Rattle.frame.proofs.Cases.{by-eq}
 use Rattle.decoder.specs.Push.{State, search, body, escape, done, PushEvent, silent, discarded, paysOut, memory, badEscape, badMessage, step, fresh, finalized, resetCount}
-use Rattle.decoder.specs.Record.{DecoderAnswer, nothing, payload, count, refusal, numbered, After, after, setup, stateOf, newRecord, wrongBuffer, pushRecord, finalizeRecord, resetRecord, hasPayload, payloadRecord}
+use Rattle.decoder.specs.Record.{DecoderAnswer, nothing, payload, count, refusal, numbered, After, after, setup, stateOf, newRecord, badDecoder, wrongBuffer, pushRecord, finalizeRecord, resetRecord, hasPayload, payloadRecord}
 use Rattle.decoder.specs.Run as R
 use Rattle.decoder.specs.Run.{Op, push, finalize, reset, act, brought}
 use Rattle.decoder.proofs.States.{runState, stateBehind, actState, answerState}
 use Rattle.decoder.specs.declared.Decoder.{Decoder}
 use Rattle.decoder.specs.declared.Setup.{Setup}
 use Rattle.decoder.proofs.Payload.{heldPayload, act-brings, payload-held}
-use Rattle.decoder.proofs.Valid.{not-bad, right-buffer}
+use Rattle.decoder.proofs.Search.{Known}
+use Rattle.decoder.proofs.Valid.{sane-way, right-buffer}
 use Rattle.decoder.proofs.Split.{cases}
 use Rattle.decoder.proofs.Runs.{acts, Leads, leads, new-fit}
-use Rattle.since.specs.Since.{grownSince, grownSinceOp, sinceFrom, frameHead, ReadSince, AllBytes, EventSays, goesOn, startFound, startInside, noRoom, noEscape, noMessage, frameEnds}
+use Rattle.since.specs.Bytes.{grownSince, grownSinceOp, sinceFrom}
+use Rattle.since.specs.Since.{frameHead, ReadSince, AllBytes, EventSays, goesOn, startFound, startInside, noRoom, noEscape, noMessage, frameEnds}
 use Rattle.since.proofs.Lists.{bytes-back}
 use Rattle.since.proofs.Kept.{kept, reads-fresh, reads-act, reads-behind}
 use Rattle.marks.specs.Decoders.{Gave, gave, ours, answers, behindOf, bytesFrom}
@@ -53,9 +55,9 @@ record EndsWith (g h : List ℕ) : Type 0 where
 nothing-left : (g : List ℕ) → EndsWith g []
 nothing-left g = record { pre = g; here = sym (append-nil g) }
 
-ends-told : (C : Setup) (g h : List ℕ) (b : ℕ) (e : PushEvent) → EndsWith g h → EventSays (h ++ b ∷ []) e → EndsWith (grown (push b) (numbered e) g) (grownSince (numbered e) h b)
+ends-told : (C : Setup) (g h : List ℕ) (b : ℕ) (e : PushEvent) → EndsWith g h → EventSays C (h ++ b ∷ []) e → EndsWith (grown (push b) (numbered e) g) (grownSince (numbered e) h b)
 ends-told C g h b e k goesOn = record { pre = k .pre; here = rw (k .here) (append-assoc (k .pre) h (b ∷ [])) }
-ends-told C g h b e k (startFound v x is m pos c) = record { pre = k .pre ++ x; here = rw (k .here, append-assoc (k .pre) h (b ∷ []), is) (sym (append-assoc (k .pre) x startSeq)) }
+ends-told C g h b e k (startFound v x is m n pos c) = record { pre = k .pre ++ x; here = rw (k .here, append-assoc (k .pre) h (b ∷ []), is) (sym (append-assoc (k .pre) x startSeq)) }
 ends-told C g h b e k (startInside v D is c) = record { pre = k .pre ++ frameHead D; here = rw (k .here, append-assoc (k .pre) h (b ∷ []), is) (sym (append-assoc (k .pre) (frameHead D) startSeq)) }
 ends-told C g h b e k noRoom = nothing-left (g ++ b ∷ [])
 ends-told C g h b e k noEscape = nothing-left (g ++ b ∷ [])
@@ -96,9 +98,9 @@ bytes-behind C (o ∷ os) h s b t p =
     subst (λ (l : List ℕ). AllBytes (l ++ b ∷ [])) (sym (bytes-cons h o (answerState C s o) os (runState C (actState C s o) os)))
     (bytes-behind C os (grown o (answerState C s o) h) (actState C s o) b (q .0) (q .1))
 
-told-sound : {w : List ℕ} (e : PushEvent) (P : List ℕ) → e ≡ paysOut P → EventSays w e → AllBytes w → Sound w P
+told-sound : {C : Setup} {w : List ℕ} (e : PushEvent) (P : List ℕ) → e ≡ paysOut P → EventSays C w e → AllBytes w → Sound w P
 told-sound e P q goesOn bs = absurd (let z : _≡_ {A = ℕ} 0 1 = cc in omega arith)
-told-sound e P q (startFound v x is m pos c) bs = absurd (let z : _≡_ {A = ℕ} 0 1 = cc in omega arith)
+told-sound e P q (startFound v x is m n pos c) bs = absurd (let z : _≡_ {A = ℕ} 0 1 = cc in omega arith)
 told-sound e P q (startInside v D is c) bs = absurd (let z : _≡_ {A = ℕ} 0 1 = cc in omega arith)
 told-sound e P q noRoom bs = absurd (let z : _≡_ {A = ℕ} 0 1 = cc in omega arith)
 told-sound e P q noEscape bs = absurd (let z : _≡_ {A = ℕ} 0 1 = cc in omega arith)
@@ -150,7 +152,7 @@ never-refusal k P h = let z : _≡_ {A = ℕ} 0 1 = cc in omega arith
 
 -- ---- the claim, where the buffer is as long as the capacity
 
-module _ (C : Setup) (m : List ℕ) (l : length m ≡ C .capacity) (le : C .capacity ≤ 1048576) (os : List Op) where
+module _ (C : Setup) (m : List ℕ) (w : Known C) (l : length m ≡ C .capacity) (le : C .capacity ≤ 1048576) (os : List Op) where
   -- behind the operations: the record and the memory, the state, the bytes
   abbrev x : After
   x = R.behind (after nothing (newRecord C) m) os
@@ -166,7 +168,7 @@ module _ (C : Setup) (m : List ℕ) (l : length m ≡ C .capacity) (le : C .capa
   since = sinceFrom [] os (runState C fresh os)
 
   there : Leads (newRecord C) m os x
-  there = leads os (after nothing (newRecord C) m) (new-fit C m l le)
+  there = leads os (after nothing (newRecord C) m) (new-fit C m w l le)
 
   answer-is : (o : Op) → act (x .decoder) (x .memory) o .answer ≡ answerState C s o
   answer-is o = acts (x .decoder) (x .memory) o (there .fit) .answer ∙ rw (there .setup′, there .view′)
@@ -189,31 +191,38 @@ module _ (C : Setup) (m : List ℕ) (l : length m ≡ C .capacity) (le : C .capa
   ends-frame finalize P bytes e = absurd (never-final s P (sym (answer-is finalize) ∙ e))
   ends-frame reset P bytes e = absurd (never-count _ P (sym (answer-is reset) ∙ e))
 
--- ---- and where it is not: every push is 5, and the decoder stays new
+-- ---- and where it is not: every push is 5, or 4 where the way is unknown, and the decoder stays new
 
-module _ (C : Setup) (m : List ℕ) (w : wrongBuffer (C .capacity) (length m) ≡ true) where
+data Unfit (C : Setup) (m : List ℕ) : Type 0 where
+  byWay : badDecoder (newRecord C) ≡ true → Unfit C m
+  byBuffer : badDecoder (newRecord C) ≡ false → wrongBuffer (C .capacity) (length m) ≡ true → Unfit C m
+
+module _ (C : Setup) (m : List ℕ) where
   record Stays (a : After) : Type 0 where
     decoder-is : a .decoder ≡ newRecord C
     memory-is : a .memory ≡ m
     brings-none : [] ≡ brought (a .answer)
     no-payload : (P : List ℕ) → a .answer ≡ payload P → ⊥
 
-  stays-act : (o : Op) → Stays (act (newRecord C) m o)
+  stays-act : (o : Op) → Unfit C m → Stays (act (newRecord C) m o)
   unfolding act pushRecord finalizeRecord resetRecord finalized resetCount
-  stays-act (push b) = rw (not-bad C fresh (omega arith), w) (record { decoder-is = refl; memory-is = refl; brings-none = refl; no-payload = λ P e. never-refusal 5 P e })
-  stays-act finalize = rw (not-bad C fresh (omega arith)) (record { decoder-is = refl; memory-is = refl; brings-none = refl; no-payload = λ P e. never-nothing P e })
-  stays-act reset = record { decoder-is = refl; memory-is = refl; brings-none = refl; no-payload = λ P e. never-count 0 P e }
+  stays-act (push b) (byWay u) = rw u (record { decoder-is = refl; memory-is = refl; brings-none = refl; no-payload = λ P e. never-refusal 4 P e })
+  stays-act (push b) (byBuffer g w) = rw (g, w) (record { decoder-is = refl; memory-is = refl; brings-none = refl; no-payload = λ P e. never-refusal 5 P e })
+  stays-act finalize (byWay u) = rw u (record { decoder-is = refl; memory-is = refl; brings-none = refl; no-payload = λ P e. never-refusal 4 P e })
+  stays-act finalize (byBuffer g w) = rw g (record { decoder-is = refl; memory-is = refl; brings-none = refl; no-payload = λ P e. never-nothing P e })
+  stays-act reset u = record { decoder-is = refl; memory-is = refl; brings-none = refl; no-payload = λ P e. never-count 0 P e }
 
-  stays-behind : (os : List Op) (a : After) → a .decoder ≡ newRecord C → a .memory ≡ m → (o : Op) → Stays (act (R.behind a os .decoder) (R.behind a os .memory) o)
+  stays-behind : Unfit C m → (os : List Op) (a : After) → a .decoder ≡ newRecord C → a .memory ≡ m → (o : Op) → Stays (act (R.behind a os .decoder) (R.behind a os .memory) o)
   unfolding R.behind
-  stays-behind [] a d n o = rw (d, n) (stays-act o)
-  stays-behind (p ∷ os) a d n o =
-      let b : Stays (act (a .decoder) (a .memory) p) = rw (d, n) (stays-act p) in
-      stays-behind os (act (a .decoder) (a .memory) p) (b .decoder-is) (b .memory-is) o
+  stays-behind u [] a d n o = rw (d, n) (stays-act o u)
+  stays-behind u (p ∷ os) a d n o =
+      let b : Stays (act (a .decoder) (a .memory) p) = rw (d, n) (stays-act p u) in
+      stays-behind u os (act (a .decoder) (a .memory) p) (b .decoder-is) (b .memory-is) o
 
-  new-empty : payloadRecord (newRecord C) m ≡ []
+  new-empty : Unfit C m → payloadRecord (newRecord C) m ≡ []
   unfolding payloadRecord hasPayload
-  new-empty = rw (not-bad C fresh (omega arith), w)
+  new-empty (byWay u) = rw u
+  new-empty (byBuffer g w) = rw (g, w)
 
 -- ---- either way
 
@@ -226,27 +235,30 @@ ClaimFor C m =
     (payloadRecord (a .decoder) (a .memory) ≡ brought (a .answer))
     × ((P : List ℕ) → PushesBytes (os ++ o ∷ []) → a .answer ≡ payload P → EndsFrame (bytesFrom [] os (answers ours (newRecord C) m os)) o P))
 
-wrong-sound : (C : Setup) (m : List ℕ) → wrongBuffer (C .capacity) (length m) ≡ true → ClaimFor C m
-wrong-sound C m w = (
-  new-empty C m w,
+unfit-sound : (C : Setup) (m : List ℕ) → Unfit C m → ClaimFor C m
+unfit-sound C m u = (
+  new-empty C m u,
   λ os o.
       let x : After = R.behind (after nothing (newRecord C) m) os in
-      let b : Stays C m w (act (x .decoder) (x .memory) o) = stays-behind C m w os (after nothing (newRecord C) m) refl refl o in
+      let b : Stays C m (act (x .decoder) (x .memory) o) = stays-behind C m u os (after nothing (newRecord C) m) refl refl o in
       rw (behind-is os (after nothing (newRecord C) m) o) (
-        rw (b .decoder-is, b .memory-is) (new-empty C m w) ∙ b .brings-none,
+        rw (b .decoder-is, b .memory-is) (new-empty C m u) ∙ b .brings-none,
         λ P bytes e. absurd (b .no-payload P e),
       ),
 )
 
-right-sound : (C : Setup) (m : List ℕ) → wrongBuffer (C .capacity) (length m) ≡ false → ClaimFor C m
-right-sound C m w =
-    let r = right-buffer (C .capacity) (length m) w in
+fit-sound : (C : Setup) (m : List ℕ) → badDecoder (newRecord C) ≡ false → wrongBuffer (C .capacity) (length m) ≡ false → ClaimFor C m
+fit-sound C m g b =
+    let w : Known C = sane-way (newRecord C) g in
+    let r = right-buffer (C .capacity) (length m) b in
     let le : C .capacity ≤ 1048576 = omega (arith, r .0, r .1) in (
-      payload-held _ _ (new-fit C m (r .0) le),
+      payload-held _ _ (new-fit C m w (r .0) le),
       λ os o.
-          rw (answers-new C m os (r .0) le, behind-is os (after nothing (newRecord C) m) o)
-          (hands-back C m (r .0) le os o, ends-frame C m (r .0) le os o),
+          rw (answers-new C m os w (r .0) le, behind-is os (after nothing (newRecord C) m) o)
+          (hands-back C m w (r .0) le os o, ends-frame C m w (r .0) le os o),
     )
 
 pub soundness : Soundness ours
-soundness C m = cases (wrongBuffer (C .capacity) (length m)) (wrong-sound C m) (right-sound C m)
+soundness C m =
+    cases (badDecoder (newRecord C)) (λ u. unfit-sound C m (byWay u))
+    (λ g. cases (wrongBuffer (C .capacity) (length m)) (λ w. unfit-sound C m (byBuffer g w)) (fit-sound C m g))

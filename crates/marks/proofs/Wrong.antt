@@ -1,14 +1,17 @@
 -- What the claims rule out: each fake of docs/WRONG-READINGS.md falls, by one of the parts of Fall.
 use Rattle.encoder.specs.Encode.{encodeTo}
+use Rattle.decoder.specs.Push.{firstWay, secondWay}
 use Rattle.marks.specs.Decoders.{ours}
 use Rattle.marks.specs.Mark2.{Soundness, OurSearch}
 use Rattle.marks.specs.Mark3.{Mark3}
 use Rattle.marks.specs.Hides.{Hides}
 use Rattle.marks.specs.Chunks.{Chunks}
+use Rattle.marks.specs.Second.{Begins, SearchesAgain, HearsBehindNoise, ourSeeks, ourBegun}
+use Rattle.marks.specs.Ways.{ourWay, KeepsWay, RefusesUnknown}
 use Rattle.marks.specs.Encoders.{ourEncoder, SameBytes}
 use Rattle.marks.specs.Events.{ReaderGives, GoesOn, readerWith, ListsEntries, SaysWhere}
-use Rattle.marks.specs.Fakes.{refusesAll, constant, idle, invents, once, stale, hasty, forgiving, swallows, takesNone, withholds, shrugs, forgetful, blamesTheMessage, saysItAgain, writesNothing, finishedAtOnce, withoutEvents, noEntries}
-use Rattle.marks.proofs.Fakes.{fall}
+use Rattle.marks.specs.Fakes.{refusesAll, constant, idle, invents, once, stale, hasty, forgiving, firstOnly, countsEight, deaf, forgetsWay, servesAnyWay, swallows, takesNone, withholds, shrugs, forgetful, blamesTheMessage, saysItAgain, writesNothing, finishedAtOnce, withoutEvents, noEntries}
+use Rattle.marks.proofs.Fakes.{not-ours, fall}
 
 fake-refuses-everything : Mark3 refusesAll encodeTo → ⊥
 fake-refuses-everything = fall .refuses-mark3
@@ -43,7 +46,7 @@ fake-payload-where-none-stands = fall .stale-mark2
 fake-encode-gives-other-bytes : SameBytes ourEncoder writesNothing → ⊥
 fake-encode-gives-other-bytes = fall .writes-nothing-bytes
 
-fake-stray-1b-forgiven : Hides forgiving OurSearch → ⊥
+fake-stray-1b-forgiven : Hides firstWay forgiving OurSearch → ⊥
 fake-stray-1b-forgiven = fall .forgiving-hides
 
 fake-slice-swallows-events : Chunks swallows → ⊥
@@ -69,3 +72,24 @@ fake-reader-blames-the-message = fall .blames-where
 
 fake-refusal-said-again : SaysWhere saysItAgain → ⊥
 fake-refusal-said-again = fall .again-where
+
+second-way-is-the-first : Begins firstOnly ourSeeks ourBegun → ⊥
+second-way-is-the-first = fall .first-only-begins
+
+eight-start-bytes-are-noise : Begins countsEight ourSeeks ourBegun → ⊥
+eight-start-bytes-are-noise = fall .counts-eight-begins
+
+a-start-in-the-noise-is-harmless : HearsBehindNoise (λ l. Unit {0}) ours encodeTo ourSeeks → ⊥
+a-start-in-the-noise-is-harmless = not-ours .hears-anywhere
+
+a-stray-1b-hides-in-the-second-way : Hides secondWay ours OurSearch → ⊥
+a-stray-1b-hides-in-the-second-way = not-ours .hides-second
+
+fake-deaf-behind-an-escape : SearchesAgain deaf ourSeeks → ⊥
+fake-deaf-behind-an-escape = fall .deaf-again
+
+fake-way-forgotten : KeepsWay forgetsWay ourWay → ⊥
+fake-way-forgotten = fall .forgets-keeps
+
+fake-any-way-is-served : RefusesUnknown servesAnyWay ourWay → ⊥
+fake-any-way-is-served = fall .serves-any-refuses

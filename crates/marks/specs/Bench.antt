@@ -1,4 +1,4 @@
--- check: the bench sheet of document 01, B1 to B14, as one table of inputs and outcomes; B14 as document 02 (Q-2) has it.
+-- check: the bench sheet of document 01, B1 to B14, as one table of inputs and outcomes; B14 as document 02 (Q-2) has it, and beside the table B5 in the second way of searching (Q-7).
 use mathlib.Core.Path.{_≡_}
 use mathlib.Core.List.{List, [], _∷_, _++_, map}
 use mathlib.Core.Option.{Option, some}
@@ -15,7 +15,7 @@ use Rattle.numbers.specs.Numbers.{unsignedAt, signedAt}
 use Rattle.octet_string.specs.Strings.{octetsAt}
 use Rattle.octet_string.specs.Optional.{optional}
 use Rattle.encoder.specs.Encode.{AfterEncode, afterEncode, length-is}
-use Rattle.decoder.specs.Push.{sized}
+use Rattle.decoder.specs.Push.{secondWay, inWay, sized}
 use Rattle.decoder.specs.Record.{DecoderAnswer, nothing, payload, count, refusal}
 use Rattle.decoder.specs.Run.{push, finalize}
 use Rattle.decoder.specs.declared.Setup.{Setup}
@@ -127,7 +127,11 @@ b1 = row 1 (encode payload1 20) (sheetEncoded (afterEncode (length-is 20) frame1
 abbrev pub b2 : Row
 b2 = row 2 (encode (0x13 ∷ 0x24 ∷ 0x35 ∷ 0x46 ∷ []) 20) (sheetEncoded (afterEncode (length-is 20) frame2))
 
--- The sheet, B1 to B14 in order. OutOfMemory is 3, DiscardedBytes is 6, InvalidEsc 7, InvalidMessage 8: read CRC, computed CRC, aligned (0), p
+-- B5 in the second way, as document 02 (Q-7) has it: the stray byte is told at the ninth, and the payload comes at the last
+abbrev pub b5Second : Row
+b5Second = row 5 (decode (inWay secondWay 8) (0x1b ∷ frame1)) (sheetEvents (sheetSaid 9 (refusal 6 (1 ∷ [])) ∷ sheetSaid 21 (payload payload1) ∷ []))
+
+-- The sheet, B1 to B14 in order, decoders in the first way. OutOfMemory is 3, DiscardedBytes is 6, InvalidEsc 7, InvalidMessage 8: read CRC, computed CRC, aligned (0), p
 abbrev pub sheet : List Row
 sheet =
     b1

@@ -5,7 +5,7 @@ use Prim.Native.Nat.{ℕ, zero, suc, _≤_}
 use lib.ListN.{length, take, drop, replicate}
 use Rattle.refusals.specs.Numbers.{limit}
 use Rattle.decoder.specs.Record.{DecoderAnswer, nothing, payload, count, refusal}
-use Rattle.decoder.specs.Run.{Op, push}
+use Rattle.decoder.specs.Run.{KnownWay, Op, push}
 use Rattle.decoder.specs.declared.Decoder.{Decoder}
 use Rattle.decoder.specs.declared.Setup.{Setup}
 use Rattle.decoder_slice.specs.Slice.{Took, sliceRecord}
@@ -68,9 +68,9 @@ pub record SlicesSay {S : Type 0} (M : Slicer S) (d : S) (m bytes cuts : List �
   pub same-kept : record { decoder = h .decoder; memory = h .memory } ≡ leftBehind (M .machine) d m (map push took)
   pub all-taken : NoneEmpty cuts → length bytes ≤ length cuts → h .left′ ≡ []
 
--- behind any operations on a new decoder with its one buffer, which is as long as its capacity
+-- behind any operations on a new decoder of either way with its one buffer, which is as long as its capacity
 abbrev pub Chunks : {S : Type 0} → Slicer S → Type 0
 Chunks {S} M =
-    (C : Setup) (m : List ℕ) → length m ≡ C .capacity → C .capacity ≤ limit → (before : List Op)
+    (C : Setup) (m : List ℕ) → KnownWay (C .way) → length m ≡ C .capacity → C .capacity ≤ limit → (before : List Op)
     → let k : LeftBehind S = leftBehind (M .machine) (M .machine .new C) m before in
     (bytes cuts : List ℕ) → SlicesSay M (k .decoder) (k .memory) bytes cuts (bySlices M (k .decoder) (k .memory) bytes cuts)

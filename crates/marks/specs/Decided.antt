@@ -5,6 +5,7 @@ use Rattle.tlf.specs.Decided as Tlf
 use Rattle.numbers.specs.Decided as Numbers
 use Rattle.octet_string.specs.Decided as OctetString
 use Rattle.encoder.specs.Decided as Encoder
+use Rattle.search.specs.Decided as Search
 use Rattle.decoder.specs.Decided as Decoder
 use Rattle.in_place.specs.Decided as InPlace
 use Rattle.decoder_slice.specs.Decided as Slice
@@ -41,6 +42,7 @@ pub record Decided : Type 0 where
   pub numbers : Numbers.Decided
   pub octet-string : OctetString.Decided
   pub encoder : Encoder.Decided
+  pub search : Search.Decided
   pub decoder : Decoder.Decided
   pub in-place : InPlace.Decided
   pub decoder-slice : Slice.Decided

@@ -1,6 +1,6 @@
 -- claim: a decoder in use, whichever decoder it is. Operations one after another with one buffer lent each time, what they answer, and which bytes were pushed since the last answer of note.
 use mathlib.Core.List.{List, [], _∷_, _++_}
-use Prim.Native.Nat.{ℕ, suc, _-_}
+use Prim.Native.Nat.{ℕ, _-_}
 use lib.ListN.{length, replicate}
 use Rattle.decoder.specs.Record.{DecoderAnswer, nothing, payload, count, refusal, After, newRecord, payloadRecord}
 use Rattle.decoder.specs.Run as R
@@ -14,7 +14,7 @@ pub record Gave (S : Type 0) : Type 0 where
   pub decoder : S
   pub memory : List ℕ
 
--- a decoder that keeps an S: a new one, of what never changes (its capacity); what a push, finalize or reset gives, with the lent memory; what it hands back as the payload
+-- a decoder that keeps an S: a new one, of what never changes (its capacity and its way of searching); what a push, finalize or reset gives, with the lent memory; what it hands back as the payload
 pub record Machine (S : Type 0) : Type 0 where
   pub new : Setup → S
   pub act : S → List ℕ → Op → Gave S
@@ -24,7 +24,7 @@ pub record Machine (S : Type 0) : Type 0 where
 abbrev pub gave : After → Gave Decoder
 gave a = record { answer = a .answer; decoder = a .decoder; memory = a .memory }
 
--- ours, by the definitions that the contracts of new, push_byte, finalize, reset and payload cite. An operation (`Op` of crate decoder) is a push of one byte, finalize or reset; `R.act` there takes the definition that it names:
+-- ours, by the definitions that the contracts of with_way, push_byte, finalize, reset and payload cite. An operation (`Op` of crate decoder) is a push of one byte, finalize or reset; `R.act` there takes the definition that it names:
 -- pushRecord, finalizeRecord or resetRecord, of which the last two leave the memory as it is
 abbrev pub ours : Machine Decoder
 ours = record { new = newRecord; act = λ d m o. gave (R.act d m o); payloadOf = payloadRecord }
@@ -59,22 +59,26 @@ leftBehind M d m (o ∷ os) =
 
 -- ---- what was pushed, told by the operations and their answers alone
 
--- how many bytes were pushed since the last payload, refusal, finalize or reset, with n before these operations; the list `more` has their answers. Each operation has one, so the second case never occurs
-unfoldable pub countFrom : ℕ → List Op → List DecoderAnswer → ℕ
-countFrom n [] more = n
-countFrom n (o ∷ os) [] = n
-countFrom n (push b ∷ os) (nothing ∷ more) = countFrom (suc n) os more
-countFrom n (push b ∷ os) (payload bytes ∷ more) = countFrom 0 os more
-countFrom n (push b ∷ os) (count k ∷ more) = countFrom 0 os more
-countFrom n (push b ∷ os) (refusal k values ∷ more) = countFrom 0 os more
-countFrom n (finalize ∷ os) (a ∷ more) = countFrom 0 os more
-countFrom n (reset ∷ os) (a ∷ more) = countFrom 0 os more
+-- the bytes since the last payload, refusal, finalize or reset, behind those in h; where the decoder searches, those since the search began. The list `more` has the operations' answers: each has one, so the second case never occurs
+unfoldable pub searchedFrom : List ℕ → List Op → List DecoderAnswer → List ℕ
+searchedFrom h [] more = h
+searchedFrom h (o ∷ os) [] = h
+searchedFrom h (push b ∷ os) (nothing ∷ more) = searchedFrom (h ++ b ∷ []) os more
+searchedFrom h (push b ∷ os) (payload bytes ∷ more) = searchedFrom [] os more
+searchedFrom h (push b ∷ os) (count k ∷ more) = searchedFrom [] os more
+searchedFrom h (push b ∷ os) (refusal k values ∷ more) = searchedFrom [] os more
+searchedFrom h (finalize ∷ os) (a ∷ more) = searchedFrom [] os more
+searchedFrom h (reset ∷ os) (a ∷ more) = searchedFrom [] os more
 
 -- or else since the start
-abbrev pub countSince : List Op → List DecoderAnswer → ℕ
-countSince os more = countFrom 0 os more
+abbrev pub searchedSince : List Op → List DecoderAnswer → List ℕ
+searchedSince os more = searchedFrom [] os more
 
--- the bytes themselves since the last payload, finalize or reset, behind those in h: a refusal is passed over. The second case never occurs here either
+-- and how many they are
+abbrev pub countSince : List Op → List DecoderAnswer → ℕ
+countSince os more = length (searchedSince os more)
+
+-- the bytes since the last payload, finalize or reset, behind those in h: a refusal is passed over. The second case never occurs here either
 unfoldable pub bytesFrom : List ℕ → List Op → List DecoderAnswer → List ℕ
 bytesFrom h [] more = h
 bytesFrom h (o ∷ os) [] = h

@@ -2,15 +2,16 @@
 use mathlib.Core.Bool.{Bool, true, false, cond, not, _&&_}
 use mathlib.Core.Path.{_≡_}
 use mathlib.Core.List.{List, [], _∷_, map}
-use Prim.Native.Nat.{ℕ, suc}
+use Prim.Native.Nat.{ℕ, suc, _+_}
 use lib.ListN.{length, take, replicate}
 use lib.Dec.{eqb, ltb}
-use Rattle.refusals.specs.Numbers.{payloadTooLongNo, badStateNo}
+use Rattle.refusals.specs.Numbers.{payloadTooLongNo, badStateNo, invalidEscNo}
+use Rattle.search.specs.Found.{NoneWhole}
 use Rattle.encoder.specs.Encode.{encodeTo, length-is, afterEncode}
 use Rattle.encoder.specs.Encode as E
 use Rattle.encoder.specs.Encoder.{finished}
-use Rattle.decoder.specs.Push.{sized}
-use Rattle.decoder.specs.Record.{DecoderAnswer, nothing, payload, count, refusal, badDecoder, wrongBuffer, hasPayload, payloadRecord}
+use Rattle.decoder.specs.Push.{firstWay, secondWay, sized, begun}
+use Rattle.decoder.specs.Record.{DecoderAnswer, nothing, payload, count, refusal, setup, recordWith, recordOf, badDecoder, wrongBuffer, hasPayload, payloadRecord}
 use Rattle.decoder.specs.Run.{Op, push, finalize, reset}
 use Rattle.decoder.specs.declared.DecodeState.{DecodeState}
 use Rattle.decoder.specs.declared.DecodeState.the-variants.{LookingForMessageStart, ParsingNormal, ParsingEscChars, ParsingEscPayload, Done}
@@ -22,6 +23,8 @@ use Rattle.marks.specs.Mark2.{Soundness, Completeness, OurSearch}
 use Rattle.marks.specs.Mark3.{Encode, Mark3}
 use Rattle.marks.specs.Hides.{Hides}
 use Rattle.marks.specs.Chunks.{GaveSlice, Slicer, ourSlicer, Chunks}
+use Rattle.marks.specs.Second.{Begins, SearchesAgain, HearsBehindNoise, ourSeeks, ourBegun}
+use Rattle.marks.specs.Ways.{ourWay, KeepsWay, RefusesUnknown}
 use Rattle.marks.specs.Encoders.{Caller, ourEncoder, SameBytes}
 use Rattle.marks.specs.Events.{Told, Reader, Numbers, ourReader, ReaderGives, GoesOn, readerWith, ListsEntries, SaysWhere, CallSaysWhere, TenAgain}
 use Rattle.marks.specs.Bench.{Holds, payload1, frame1, b1, b2, b3, b6}
@@ -141,6 +144,58 @@ forgivingly d m reset = ours .act d m reset
 -- behind a stray 1b it finds the frame
 abbrev pub forgiving : Machine Decoder
 forgiving = record { new = ours .new; act = forgivingly; payloadOf = ours .payloadOf }
+
+-- makes every decoder in the first way
+abbrev pub firstOnly : Machine Decoder
+firstOnly = record { new = λ C. ours .new (sized (C .capacity)); act = ours .act; payloadOf = ours .payloadOf }
+
+-- what it answers: the count of DiscardedBytes, and only that has one number, with the start sequence's eight bytes
+abbrev pub withEight : DecoderAnswer → DecoderAnswer
+withEight nothing = nothing
+withEight (payload bytes) = payload bytes
+withEight (count k) = count k
+withEight (refusal k []) = refusal k []
+withEight (refusal k (n ∷ [])) = refusal k ((n + 8) ∷ [])
+withEight (refusal k (n ∷ more ∷ values)) = refusal k (n ∷ more ∷ values)
+
+abbrev pub countsEight : Machine Decoder
+countsEight = retold withEight
+
+-- what it leaves: behind an unknown escape (7) a frame, as if one had begun
+abbrev pub insideStill : DecoderAnswer → Decoder → Decoder
+insideStill nothing d = d
+insideStill (payload bytes) d = d
+insideStill (count k) d = d
+insideStill (refusal k values) d = cond (eqb k invalidEscNo) (recordOf (setup d) begun) d
+
+-- searches for no start behind an unknown escape
+abbrev pub deaf : Machine Decoder
+deaf =
+    record {
+      new = ours .new;
+      act = λ d m o.
+          let a = ours .act d m o in
+          record { answer = a .answer; decoder = insideStill (a .answer) (a .decoder); memory = a .memory };
+      payloadOf = ours .payloadOf;
+    }
+
+-- the record, in the first way
+abbrev pub asFirst : Decoder → Decoder
+asFirst d = recordWith (sized (d .capacity)) (d .fill) (d .«raw_msg_len») (d .crc) (d .«crc_idx») (d .state)
+
+-- what it gives: behind reset it is in the first way
+abbrev pub forgetting : Decoder → List ℕ → Op → Gave Decoder
+forgetting d m (push b) = ours .act d m (push b)
+forgetting d m finalize = ours .act d m finalize
+forgetting d m reset = ours .act (asFirst d) m reset
+
+-- forgets its way at reset
+abbrev pub forgetsWay : Slicer Decoder
+forgetsWay = record { machine = record { new = ours .new; act = forgetting; payloadOf = ours .payloadOf }; pushSlice = ourSlicer .pushSlice }
+
+-- serves a decoder of any way as one of the first
+abbrev pub servesAnyWay : Slicer Decoder
+servesAnyWay = record { machine = record { new = ours .new; act = λ d m o. ours .act (asFirst d) m o; payloadOf = ours .payloadOf }; pushSlice = ourSlicer .pushSlice }
 
 -- ours by single bytes; a slice is taken to its end, and only its last byte's answer is told
 unfoldable pub lastOf : Decoder → List ℕ → DecoderAnswer → List ℕ → ℕ → GaveSlice Decoder
@@ -268,6 +323,11 @@ saysItAgain =
           record { said = t .said; reader = notMoved r t };
     }
 
+-- and what is false of ours: that in the second way a stray 1b hides every frame (it hides none, `HearsBehindNoise`), and that a start sequence in the noise is harmless
+pub record NotOurs : Type 0 where
+  pub hides-second : Hides secondWay ours OurSearch → ⊥
+  pub hears-anywhere : HearsBehindNoise (λ l. Unit {0}) ours encodeTo ourSeeks → ⊥
+
 -- each of them falls: a row of the bench sheet or a mark that is false of it. The one that is right for its first frame has row B3, and hands that payload back
 pub record Fall : Type 0 where
   pub refuses-b3 : Holds refusesAll encodeTo b3 → ⊥
@@ -287,7 +347,13 @@ pub record Fall : Type 0 where
   pub once-b3 : Holds once encodeTo b3
   pub once-first : once .payloadOf (firstOnce .decoder) (firstOnce .memory) ≡ payload1
   pub once-mark3 : Mark3 once encodeTo → ⊥
-  pub forgiving-hides : Hides forgiving OurSearch → ⊥
+  pub forgiving-hides : Hides firstWay forgiving OurSearch → ⊥
+  pub first-only-begins : Begins firstOnly ourSeeks ourBegun → ⊥
+  pub first-only-hears : HearsBehindNoise NoneWhole firstOnly encodeTo ourSeeks → ⊥
+  pub counts-eight-begins : Begins countsEight ourSeeks ourBegun → ⊥
+  pub deaf-again : SearchesAgain deaf ourSeeks → ⊥
+  pub forgets-keeps : KeepsWay forgetsWay ourWay → ⊥
+  pub serves-any-refuses : RefusesUnknown servesAnyWay ourWay → ⊥
   pub swallows-chunks : Chunks swallows → ⊥
   pub takes-none-chunks : Chunks takesNone → ⊥
   pub withholds-chunks : Chunks withholds → ⊥

@@ -3,6 +3,8 @@ pub mod Mark2
 pub mod Mark3
 pub mod Hides
 pub mod Chunks
+pub mod Second
+pub mod Ways
 pub mod Encoders
 pub mod Events
 pub mod Bench

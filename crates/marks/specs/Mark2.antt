@@ -5,8 +5,9 @@ use mathlib.Core.List.{List, [], _∷_, _++_, map}
 use Prim.Native.Nat.{ℕ, _+_, _≤_, _<_}
 use lib.ListN.{length, replicate}
 use lib.Dec.{eqb}
-use Rattle.refusals.specs.Numbers.{decoderOutOfMemoryNo, discardedBytesNo, limit}
+use Rattle.refusals.specs.Numbers.{decoderOutOfMemoryNo, discardedBytesNo, countStop}
 use Rattle.frame.specs.Frame.{Sound}
+use Rattle.decoder.specs.Push.{secondWay, stopped}
 use Rattle.decoder.specs.Record.{DecoderAnswer, nothing, payload, refusal, setup, badDecoder, wrongBuffer}
 use Rattle.decoder.specs.Run.{Op, push, finalize, reset, brought}
 use Rattle.decoder.specs.declared.DecodeState.{DecodeState}
@@ -56,7 +57,7 @@ pub record NoRoom (noise : ℕ) (heard : List DecoderAnswer) : Type 0 where
   pub rest : List DecoderAnswer
   pub is : heard ≡ replicate 7 nothing ++ eighth noise ∷ (replicate quiet nothing ++ refusal decoderOutOfMemoryNo [] ∷ rest)
 
--- From any search with nothing matched (`Searching C d m noise`: the decoder d, with the memory m, is one, with this noise), every sound frame, pads of any value. Its data D fits where D's length plus 4 is at most the capacity: then the
+-- From any search from which a start sequence pushed next is found (`Searching C d m noise`: the decoder d, with the memory m, is one, with this noise before that start), every sound frame, pads of any value. Its data D fits where D's length plus 4 is at most the capacity: then the
 -- eighth byte answers for the noise, the last with the payload, and every other nothing. Where it doesn't fit, the first event behind the eighth byte is 3
 abbrev pub Completeness : {S : Type 0} → Machine S → (Setup → S → List ℕ → ℕ → Type 0) → Type 0
 Completeness {S} M Searching =
@@ -66,14 +67,15 @@ Completeness {S} M Searching =
     (length (sound .D) + 4 ≤ C .capacity → heard ≡ frameSays (eighth noise) frame P)
     × (C .capacity < length (sound .D) + 4 → NoRoom noise heard)
 
--- a state with nothing matched: a search, or behind a payload, where the next byte begins a search without noise
-pub data Unmatched (s : DecodeState) (noise : ℕ) : Type 0 where
-  nothingMatched : s ≡ LookingForMessageStart 0 noise → Unmatched s noise
-  behindPayload : s ≡ Done → noise ≡ 0 → Unmatched s noise
+-- a state from which a start sequence pushed next is found: a search with nothing matched; in the second way any search, what is matched being noise before that start; or behind a payload, where the next byte begins a search without noise
+pub data Ready (way : ℕ) (s : DecodeState) (noise : ℕ) : Type 0 where
+  nothingMatched : s ≡ LookingForMessageStart 0 noise → Ready way s noise
+  someMatched : (n dropped : ℕ) → way ≡ secondWay → s ≡ LookingForMessageStart n dropped → dropped ≤ countStop → noise ≡ stopped (dropped + n) → Ready way s noise
+  behindPayload : s ≡ Done → noise ≡ 0 → Ready way s noise
 
--- ours: a record with nothing matched, whatever else it holds, that with this memory is refused neither with 4 nor with 5
+-- ours: a record in such a state, whatever else it holds, that with this memory is refused neither with 4 nor with 5
 pub record OurSearch (C : Setup) (d : Decoder) (m : List ℕ) (noise : ℕ) : Type 0 where
-  pub searches : Unmatched (d .state) noise
+  pub searches : Ready (d .way) (d .state) noise
   pub good : badDecoder d ≡ false
   pub lent : wrongBuffer (d .capacity) (length m) ≡ false
   pub setup′ : setup d ≡ C

@@ -9,7 +9,7 @@ use Rattle.encoder.specs.Encode.{AfterEncode, length-is}
 use Rattle.encoder.specs.Encode as E
 use Rattle.decoder.specs.Push.{stopped}
 use Rattle.decoder.specs.Record.{DecoderAnswer, nothing, refusal}
-use Rattle.decoder.specs.Run.{Op, push}
+use Rattle.decoder.specs.Run.{KnownWay, Op, push}
 use Rattle.decoder.specs.declared.Setup.{Setup}
 use Rattle.marks.specs.Decoders.{Machine, answers, countSince, frameSays}
 
@@ -58,11 +58,11 @@ unfoldable pub restSays : Encode → List Job → List DecoderAnswer
 restSays encode [] = []
 restSays encode (j ∷ js) = frameSays nothing (wroteFor encode j) (j .payload) ++ restSays encode js
 
--- Any pushes, finalize and reset calls on a new decoder, its capacity + 5 zero bytes, then one or more encoded payloads back to back. Behind what came before, the whole list of answers is: one DiscardedBytes (6), at the
+-- Any pushes, finalize and reset calls on a new decoder of either way, its capacity + 5 zero bytes, then one or more encoded payloads back to back. Behind what came before, the whole list of answers is: one DiscardedBytes (6), at the
 -- first frame's eighth byte, with the count of the bytes before that frame since the last payload, refusal, finalize or reset, or else since the start, stopped at 4,294,967,295; each payload at its own last byte; nothing else
 abbrev pub Mark3 : {S : Type 0} → Machine S → Encode → Type 0
 Mark3 M encode =
-    (C : Setup) (m : List ℕ) → length m ≡ C .capacity → C .capacity ≤ limit
+    (C : Setup) (m : List ℕ) → KnownWay (C .way) → length m ≡ C .capacity → C .capacity ≤ limit
     → (before : List Op) (j : Job) (js : List Job) → AllSuit C (j ∷ js)
     → let os : List Op = before ++ replicate (C .capacity + 5) (push 0x00) in
     let heard : List DecoderAnswer = answers M (M .new C) m os in

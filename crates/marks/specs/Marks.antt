@@ -1,40 +1,61 @@
 -- claim: the marks, all that this crate claims of ours, in one place. proofs/Marks.antt proves it.
 use mathlib.Core.Path.{_≡_}
-use mathlib.Core.List.{List}
+use mathlib.Core.List.{List, []}
 use Prim.Native.Nat.{ℕ, _≤_}
 use lib.ListN.{length}
-use Rattle.refusals.specs.Numbers.{limit}
-use Rattle.decoder.specs.Run.{Op}
+use Rattle.refusals.specs.Numbers.{badSpanNo, limit}
+use Rattle.decoder.specs.Push.{firstWay, secondWay, stopped}
+use Rattle.decoder.specs.Record.{refusal, stateOf, askRecord}
+use Rattle.decoder.specs.Run.{KnownWay, Op}
 use Rattle.decoder.specs.declared.Decoder.{Decoder}
 use Rattle.decoder.specs.declared.Setup.{Setup}
+use Rattle.search.specs.Found.{NoneWhole}
+use Rattle.since.specs.Bytes.{sinceFrom, Counted}
 use Rattle.tlf.specs.Lengths.{tlfAt}
 use Rattle.tlf.specs.Overflow.{Overflows}
 use Rattle.places.specs.Readers.{Readers}
 use Rattle.places.specs.Fakes.{FallReaders}
 use Rattle.marks.specs.Decided.{Views, Decided}
-use Rattle.marks.specs.Decoders.{Gave, ours, behindOf}
-use Rattle.marks.specs.Mark2.{Soundness, Completeness, Unmatched, OurSearch}
+use Rattle.marks.specs.Decoders.{Gave, LeftBehind, ours, answers, behindOf, leftBehind, countSince}
+use Rattle.marks.specs.Mark2.{Soundness, Completeness, Ready, OurSearch}
 use Rattle.marks.specs.Mark3.{ourEncode, Mark3}
 use Rattle.marks.specs.Hides.{Hides}
 use Rattle.marks.specs.Chunks.{ourSlicer, Chunks}
+use Rattle.marks.specs.Second.{Begins, SearchesAgain, HearsBehindNoise, ourSeeks, ourBegun}
+use Rattle.marks.specs.Ways.{ourWay, KeepsWay, RefusesUnknown}
 use Rattle.marks.specs.Encoders.{ourEncoder, SameBytes}
 use Rattle.marks.specs.Events.{ourReader, ourParser, ReaderGives, GoesOn, readerWith, parserWith, ListsEntries, SaysWhere, CallSaysWhere, TenAgain}
-use Rattle.marks.specs.Bench.{Bench}
-use Rattle.marks.specs.Fakes.{Fall}
+use Rattle.marks.specs.Bench.{b5Second, Holds, Bench}
+use Rattle.marks.specs.Fakes.{NotOurs, Fall}
 
 pub record Marks : Type 0 where
   -- mark 1: one outcome for each input
   pub views : Views
   pub decided : Decided
-  -- mark 2: payloads only of sound frames, and of every sound frame that fits; a new decoder is such a search, and so is what any operations with one buffer leave, wherever nothing is matched
+  -- mark 2: payloads only of sound frames, and of every sound frame that fits; a new decoder of either way is such a search, and so is what any operations with one buffer leave, wherever its state is `Ready`
   pub soundness : Soundness ours
   pub completeness : Completeness ours OurSearch
-  pub new-searches : (C : Setup) (m : List ℕ) → length m ≡ C .capacity → C .capacity ≤ limit → OurSearch C (ours .new C) m 0
-  pub reached-searches : (C : Setup) (m : List ℕ) → length m ≡ C .capacity → C .capacity ≤ limit → (os : List Op) (o : Op) (noise : ℕ)
+  pub new-searches : (C : Setup) (m : List ℕ) → KnownWay (C .way) → length m ≡ C .capacity → C .capacity ≤ limit → OurSearch C (ours .new C) m 0
+  pub reached-searches : (C : Setup) (m : List ℕ) → KnownWay (C .way) → length m ≡ C .capacity → C .capacity ≤ limit → (os : List Op) (o : Op) (noise : ℕ)
       → let a : Gave Decoder = behindOf ours (ours .new C) m os o in
-      Unmatched (a .decoder .state) noise → OurSearch C (a .decoder) (a .memory) noise
-  -- and what a stray 1b does to them
-  pub hides : Hides ours OurSearch
+      Ready (a .decoder .way) (a .decoder .state) noise → OurSearch C (a .decoder) (a .memory) noise
+  -- and what a stray 1b does to them in the first way
+  pub hides : Hides firstWay ours OurSearch
+  -- the second way: when a frame begins, where it searches, and that noise in which no whole start sequence lies hides none; every search that is reached is one of completeness, its noise all bytes since it began
+  pub begins : Begins ours ourSeeks ourBegun
+  pub searches-again : SearchesAgain ours ourSeeks
+  pub second-searches : (C : Setup) (m : List ℕ) → C .way ≡ secondWay → length m ≡ C .capacity → C .capacity ≤ limit → (os : List Op)
+      → let k : LeftBehind Decoder = leftBehind ours (ours .new C) m os in
+      ourSeeks (k .decoder) → OurSearch C (k .decoder) (k .memory) (stopped (countSince os (answers ours (ours .new C) m os)))
+  pub hears-behind-noise : HearsBehindNoise NoneWhole ours ourEncode ourSeeks
+  -- the way is kept, and an unknown one refused; asked for, its payload is 16
+  pub keeps-way : KeepsWay ourSlicer ourWay
+  pub refuses-unknown : RefusesUnknown ourSlicer ourWay
+  pub unknown-asked : (d : Decoder) (m : List ℕ) → (KnownWay (ourWay d) → ⊥) → askRecord d m ≡ refusal badSpanNo []
+  -- what the counts are in each state that is reached, in either way
+  pub counts : (C : Setup) (m : List ℕ) → KnownWay (C .way) → length m ≡ C .capacity → C .capacity ≤ limit → (os : List Op)
+      → let k : LeftBehind Decoder = leftBehind ours (ours .new C) m os in
+      Counted C (stateOf (k .decoder) (k .memory)) (sinceFrom [] os (answers ours (ours .new C) m os))
   -- slices, cut anyhow, say what single pushes say
   pub chunks : Chunks ourSlicer
   -- encode and the Encoder give the same bytes
@@ -59,7 +80,9 @@ pub record Marks : Type 0 where
   pub reader-ten-again : TenAgain ourReader readerWith
   pub parser-ten-again : TenAgain ourParser parserWith
   pub fall-readers : FallReaders
-  -- B1 to B14
+  -- B1 to B14, and B5 in the second way
   pub bench : Bench ours ourEncode
+  pub bench-second : Holds ours ourEncode b5Second
   -- and what they are false of
+  pub not-ours : NotOurs
   pub fall : Fall

@@ -116,6 +116,9 @@ pub(crate) fn same_record(x: Decoder, y: Decoder) -> bool {
     if x.crc != y.crc {
         return false;
     }
+    if x.way != y.way {
+        return false;
+    }
     if x.crc_idx != y.crc_idx {
         return false;
     }

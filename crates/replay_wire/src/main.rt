@@ -1,9 +1,10 @@
-// The commands of the wire, one a line, and an answer of one line each (docs/REPLAY.md): encode, encode_cap, stream, crc and push. A line that is none of them is answered `bad command`.
+// The commands of the wire, one a line, and an answer of one line each (docs/REPLAY.md): encode, encode_cap, stream, crc, push and push2. A line that is none of them is answered `bad command`.
 mod alike;
 mod frames;
 mod line;
 mod pushes;
 
+use decoder::Decoder;
 use line::bad;
 use line::behind;
 use line::find;
@@ -61,9 +62,10 @@ pub(crate) fn hex_u16(x: u16) {
 
 pub(crate) fn command(s: &[u8]) {
     let rest = behind(s, b' ');
-    match find(b"encode,encode_cap,stream,crc,push", first(s, b' ')) {
+    match find(b"encode,encode_cap,stream,crc,push,push2", first(s, b' ')) {
         1 => with_bytes(1, number(first(rest, b' ')), behind(rest, b' ')),
-        4 => pushes::push(rest),
+        4 => pushes::push(Decoder::FIRST_WAY, rest),
+        5 => pushes::push(Decoder::SECOND_WAY, rest),
         which => with_bytes(which, 0, rest),
     }
 }

@@ -1,5 +1,5 @@
-// The command `push`: a list of operations on a fresh decoder. The three ways to push are run side by side: by value, with the record lent to be changed in place, by the push of slices.
-// As long as the ways agree they leave the same record, so that one is kept; each way has its own memory. All is run without a word first; where the ways disagree, that is the answer.
+// The commands `push` and `push2`: a list of operations on a fresh decoder, which searches in the first way or the second. The three forms of a push are run side by side: by value, with the record lent to be changed in place, by the push of slices.
+// As long as the forms agree they leave the same record, so that one is kept; each form has its own memory. All is run without a word first; where the forms disagree, that is the answer.
 use super::LARGEST;
 use super::SMALL;
 use super::alike::both;
@@ -103,7 +103,7 @@ fn said_reset(said: bool, index: u64, count: u32) {
 
 // ---- operations
 
-// The decoder that all ways left, as long as they agreed; how many operations were done, and whether all were operations; whether events are written, and whether one was.
+// The decoder that all forms left, as long as they agreed; how many operations were done, and whether all were operations; whether events are written, and whether one was.
 struct Running {
     decoder: Decoder,
     index: u64,
@@ -121,7 +121,7 @@ fn one_more(x: u64) -> u64 {
     if x < u64::MAX { x + 1 } else { x }
 }
 
-// One operation more, which left the decoder `d` and brought the event `e`, and whether the ways agreed on both.
+// One operation more, which left the decoder `d` and brought the event `e`, and whether the forms agreed on both.
 fn done(r: Running, d: Decoder, e: Event, agree: bool, buf: &[u8]) -> Running {
     let index = one_more(r.index);
     let told = told_event(e);
@@ -189,7 +189,7 @@ fn agreeing(r: Running, agree: bool) -> Running {
     }
 }
 
-// All ways behind the bytes that a push of a slice took, which left the decoder `d`.
+// All forms behind the bytes that a push of a slice took, which left the decoder `d`.
 fn caught_up(r: Running, d: Decoder, v: &[u8], p: &[u8], s: &[u8]) -> Running {
     let now = r.decoder;
     agreeing(r, both(same_record(now, d), same_payload(now, v, p, s)))
@@ -400,11 +400,11 @@ fn run_ops(r: Running, ops: &[u8], v: &mut [u8], p: &mut [u8], s: &mut [u8]) -> 
     now
 }
 
-// ---- push
+// ---- push and push2
 
-fn begun(capacity: usize, loud: bool, known: bool) -> Running {
+fn begun(capacity: usize, way: u8, loud: bool, known: bool) -> Running {
     Running {
-        decoder: Decoder::new(capacity),
+        decoder: Decoder::with_way(capacity, way),
         index: 0,
         known,
         agree: true,
@@ -413,9 +413,9 @@ fn begun(capacity: usize, loud: bool, known: bool) -> Running {
     }
 }
 
-// A list of operations on a fresh decoder whose capacity is the memory's. Compared are each event, the record behind it, each payload, and the memory behind all.
-fn run_new(ops: &[u8], loud: bool, v: &mut [u8], p: &mut [u8], s: &mut [u8]) -> Running {
-    let first = begun(v.len(), loud, true);
+// A list of operations on a fresh decoder of this way whose capacity is the memory's. Compared are each event, the record behind it, each payload, and the memory behind all.
+fn run_new(ops: &[u8], way: u8, loud: bool, v: &mut [u8], p: &mut [u8], s: &mut [u8]) -> Running {
+    let first = begun(v.len(), way, loud, true);
     let last = run_ops(first, ops, v, p, s);
     let memory = both(same(&v[..], &p[..]), same(&v[..], &s[..]));
     agreeing(last, memory)
@@ -425,22 +425,24 @@ fn run_new(ops: &[u8], loud: bool, v: &mut [u8], p: &mut [u8], s: &mut [u8]) -> 
 fn run_in(
     ops: &[u8],
     capacity: usize,
+    way: u8,
     loud: bool,
     v: &mut [u8],
     p: &mut [u8],
     s: &mut [u8],
 ) -> Running {
     if v.len() < capacity {
-        return begun(0, loud, false);
+        return begun(0, way, loud, false);
     }
     if p.len() < capacity {
-        return begun(0, loud, false);
+        return begun(0, way, loud, false);
     }
     if s.len() < capacity {
-        return begun(0, loud, false);
+        return begun(0, way, loud, false);
     }
     run_new(
         ops,
+        way,
         loud,
         &mut v[..capacity],
         &mut p[..capacity],
@@ -448,44 +450,45 @@ fn run_in(
     )
 }
 
-fn run_small(ops: &[u8], capacity: usize, loud: bool) -> Running {
+fn run_small(ops: &[u8], capacity: usize, way: u8, loud: bool) -> Running {
     let mut v = [0u8; SMALL];
     let mut p = [0u8; SMALL];
     let mut s = [0u8; SMALL];
-    run_in(ops, capacity, loud, &mut v, &mut p, &mut s)
+    run_in(ops, capacity, way, loud, &mut v, &mut p, &mut s)
 }
 
 // Arrays are lent by their own type, so that their length is known.
 fn run_lent(
     ops: &[u8],
     capacity: usize,
+    way: u8,
     loud: bool,
     v: &mut [u8; LARGEST],
     p: &mut [u8; LARGEST],
     s: &mut [u8; LARGEST],
 ) -> Running {
-    run_in(ops, capacity, loud, v, p, s)
+    run_in(ops, capacity, way, loud, v, p, s)
 }
 
-fn run_large(ops: &[u8], capacity: usize, loud: bool) -> Running {
+fn run_large(ops: &[u8], capacity: usize, way: u8, loud: bool) -> Running {
     let mut v = [0u8; LARGEST];
     let mut p = [0u8; LARGEST];
     let mut s = [0u8; LARGEST];
-    run_lent(ops, capacity, loud, &mut v, &mut p, &mut s)
+    run_lent(ops, capacity, way, loud, &mut v, &mut p, &mut s)
 }
 
-fn run_sized(ops: &[u8], capacity: usize, loud: bool) -> Running {
+fn run_sized(ops: &[u8], capacity: usize, way: u8, loud: bool) -> Running {
     if capacity <= SMALL {
-        run_small(ops, capacity, loud)
+        run_small(ops, capacity, way, loud)
     } else {
-        run_large(ops, capacity, loud)
+        run_large(ops, capacity, way, loud)
     }
 }
 
-pub(crate) fn push(rest: &[u8]) {
+pub(crate) fn push(way: u8, rest: &[u8]) {
     let capacity = number(first(rest, b' '));
     let ops = behind(rest, b' ');
-    let tried = run_sized(ops, capacity, false);
+    let tried = run_sized(ops, capacity, way, false);
     if !tried.known {
         bad();
         return;
@@ -494,7 +497,7 @@ pub(crate) fn push(rest: &[u8]) {
         text(b"differ");
         return;
     }
-    let last = run_sized(ops, capacity, true);
+    let last = run_sized(ops, capacity, way, true);
     if !last.said {
         text(b"-");
     }

@@ -10,29 +10,23 @@ use Rattle.decoder.specs.Record.{After, after, nothing, stateOf, newRecord}
 use Rattle.decoder.specs.Run.{Op, run, behind}
 use Rattle.decoder.proofs.States.{runState, stateBehind}
 use Rattle.decoder.specs.declared.Setup.{Setup}
+use Rattle.decoder.proofs.Search.{Known}
 use Rattle.decoder.proofs.Runs.{run-new, leads, new-fit}
-use Rattle.since.specs.Since.{sinceFrom, frameHead, ReadSince}
+use Rattle.since.specs.Bytes.{sinceFrom, Counted}
+use Rattle.since.specs.Since.{frameHead, ReadSince}
 use Rattle.since.proofs.Lists.{matched-long}
 use Rattle.since.proofs.Kept.{reads-behind}
-
--- the counts of a state, n bytes behind the beginning of its search or frame
-abbrev pub Counted : State → ℕ → Type 0
-Counted (search k noise raw) n = (k ≤ n) × (k ≤ 7) × (noise ≡ stopped (n - k)) × (raw ≡ stopped n)
-Counted (body r m) n = (8 ≤ n) × (m .raw ≡ stopped n)
-Counted (escape k m) n = (8 ≤ n) × (m .raw ≡ stopped n)
-Counted (done bytes) n = n ≡ 0
 
 head-long : (D : List ℕ) → length (frameHead D) ≡ 8 + length (escaped 0 D)
 unfolding frameHead
 head-long D = omega arith
 
-pub reads-counted : (C : Setup) (h : List ℕ) (s : State) → ReadSince C h s → Counted s (length h)
+pub reads-counted : (C : Setup) (h : List ℕ) (s : State) → ReadSince C h s → Counted C s h
 reads-counted C h (search n skip raw) k =
     let l : length h ≡ length (k .passed) + n = ap length (k .here) ∙ simp (length-append, matched-long n (k .most)) in
     let m = k .most in
     let d = k .dropped in
-    let r = k .long in
-    omega arith
+    (omega arith, m, omega arith, k .long, k .matched)
 reads-counted C h (body r m) k =
     let l : length h ≡ 8 + length (escaped 0 (m .stored)) + length {A = ℕ} (replicate r 0x1b) = ap length (k .here) ∙ simp (length-append, head-long) in
     (omega arith, k .long)
@@ -42,11 +36,11 @@ reads-counted C h (escape j m) k =
 reads-counted C h (done P) k = rw (k .0)
 
 -- every state that is reached from fresh
-pub counts : (C : Setup) (os : List Op) → Counted (stateBehind C fresh os) (length (sinceFrom [] os (runState C fresh os)))
+pub counts : (C : Setup) (os : List Op) → Counted C (stateBehind C fresh os) (sinceFrom [] os (runState C fresh os))
 counts C os = reads-counted C (sinceFrom [] os (runState C fresh os)) (stateBehind C fresh os) (reads-behind C os)
 
 -- and so every record that is reached from a new one, with a buffer of its capacity
-module _ (C : Setup) (m : List ℕ) (os : List Op) (l : length m ≡ C .capacity) (le : C .capacity ≤ 1048576) where
+module _ (C : Setup) (m : List ℕ) (os : List Op) (w : Known C) (l : length m ≡ C .capacity) (le : C .capacity ≤ 1048576) where
   abbrev a : After
   a = behind (after nothing (newRecord C) m) os
 
@@ -55,8 +49,8 @@ module _ (C : Setup) (m : List ℕ) (os : List Op) (l : length m ≡ C .capacity
 
   pub record-reads : ReadSince C since (stateOf (a .decoder) (a .memory))
   record-reads =
-      let r = leads os (after nothing (newRecord C) m) (new-fit C m l le) in
-      rw (run-new C m os l le) (subst (ReadSince C (sinceFrom [] os (runState C fresh os))) (sym (r .view′)) (reads-behind C os))
+      let r = leads os (after nothing (newRecord C) m) (new-fit C m w l le) in
+      rw (run-new C m os w l le) (subst (ReadSince C (sinceFrom [] os (runState C fresh os))) (sym (r .view′)) (reads-behind C os))
 
-  pub record-counts : Counted (stateOf (a .decoder) (a .memory)) (length since)
+  pub record-counts : Counted C (stateOf (a .decoder) (a .memory)) since
   record-counts = reads-counted C since (stateOf (a .decoder) (a .memory)) record-reads

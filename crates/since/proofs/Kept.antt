@@ -3,14 +3,19 @@ use mathlib.Core.Path.{_≡_, refl, ap, sym, _∙_, subst}
 use mathlib.Core.List.{List, [], _∷_, _++_, append-assoc, append-nil}
 use Prim.Native.Nat.{ℕ, zero, suc, _+_, _-_, _*_, _%_, _/_, _≤_, _<_}
 use native.Mathlib.Omega.{arith}
+use native.Mathlib.Numerals.{add-one}
 use lib.ListN.{length, replicate, drop, take, getD, length-append, length-take}
 use lib.Seq.{drop-append-le, drop-length}
 use Rattle.crc_x25.specs.Crc.{start, register, finalXor, crcOf}
 use Rattle.crc_x25.proofs.Laws.{register-append, register-none, crc-is}
 use Rattle.frame.specs.Frame.{escSeq, restartSeq, startSeq, closed, framed, runBehind}
-use Rattle.frame.proofs.Cases.{by-eq}
+use Rattle.frame.proofs.Cases.{by-eq, either}
 use Rattle.frame.proofs.Escapes.{run-append, replicate-snoc}
-use Rattle.decoder.specs.Push.{Mem, State, search, body, escape, done, PushEvent, silent, discarded, paysOut, memory, Out, begun, says, put, tick, opened, starts, matchedBehind, moreNoise, computed, noticed, fresh, stopped, step}
+use Rattle.search.specs.Search.{mostMatched}
+use Rattle.search.specs.Found.{NoneWhole}
+use Rattle.search.proofs.Matched.{most-ends, most-step, most-nil, none-in-nil, start-matched, start-last}
+use Rattle.search.proofs.LastBytes.{lastBytes}
+use Rattle.decoder.specs.Push.{firstWay, secondWay, Mem, State, search, body, escape, done, PushEvent, silent, discarded, paysOut, memory, Out, begun, says, put, tick, opened, starts, matchedBehind, moreNoise, computed, noticed, fresh, stopped, step}
 use Rattle.decoder.specs.Record.{count, refusal, numbered}
 use Rattle.decoder.specs.Run.{Op, push, finalize, reset}
 use Rattle.decoder.proofs.States.{runState, stateBehind, actState, answerState}
@@ -18,14 +23,15 @@ use Rattle.decoder.specs.Saw as W
 use Rattle.decoder.specs.Saw.{Passed, Saw}
 use Rattle.decoder.specs.declared.Setup.{Setup}
 use Rattle.decoder.proofs.Saw.{saw}
-use Rattle.decoder.proofs.Search.{noise-grows}
+use Rattle.decoder.proofs.Search.{second-matched, matched-most, matched-more, matched-none, matched-eight, noise-grows}
 use Rattle.decoder.proofs.Split.{cases}
-use Rattle.since.specs.Since.{grownSince, grownSinceOp, sinceFrom, frameHead, Misses, nonePassed, InSearch, InBody, Opens, tidy, earlyEnd, InEscape, ReadSince, EventSays, goesOn, startFound, startInside, noRoom, noEscape, noMessage, frameEnds}
-use Rattle.since.proofs.Lists.{last-four, computed-is, trimmed, three, empty, starts-is, matched-eight, misses-snoc, matched-long, bytes-back, head-none, head-other, run-back, head-escSeq, head-shift}
+use Rattle.since.specs.Bytes.{grownSince, grownSinceOp, sinceFrom}
+use Rattle.since.specs.Since.{frameHead, Misses, nonePassed, InSearch, InBody, Opens, tidy, earlyEnd, InEscape, ReadSince, EventSays, goesOn, startFound, startInside, noRoom, noEscape, noMessage, frameEnds}
+use Rattle.since.proofs.Lists.{last-four, computed-is, trimmed, three, empty, starts-is, misses-snoc, matched-long, bytes-back, head-none, head-other, run-back, head-escSeq, head-shift}
 
 pub record KeptSince (C : Setup) (h : List ℕ) (b : ℕ) (o : Out) : Type 0 where
   pub reads : ReadSince C (grownSince (numbered (o .event)) h b) (o .state)
-  pub told : EventSays (h ++ b ∷ []) (o .event)
+  pub told : EventSays C (h ++ b ∷ []) (o .event)
 
 longer-since : (h : List ℕ) (b : ℕ) → length (h ++ b ∷ []) ≡ suc (length h)
 longer-since h b = simp length-append (omega arith)
@@ -33,55 +39,80 @@ longer-since h b = simp length-append (omega arith)
 -- ---- a search
 
 pub reads-fresh : (C : Setup) → ReadSince C [] fresh
-reads-fresh C = record { passed = []; here = refl; most = omega arith; misses = nonePassed; dropped = refl; long = refl }
+reads-fresh C = record { passed = []; here = refl; most = omega arith; misses = λ w. nonePassed; matched = λ w. most-nil; none-whole = λ w. none-in-nil; dropped = refl; long = refl }
 
 reads-begun : (C : Setup) → ReadSince C startSeq begun
 unfolding runBehind
 reads-begun C = record { here = rw head-none; few = omega arith; clean = refl; fits = omega arith; long = refl; index = omega arith; sum = rw (register-none, head-none) }
 
 -- a refusal that leaves a fresh search
-lost : {C : Setup} {h : List ℕ} {b : ℕ} {e : PushEvent} → grownSince (numbered e) h b ≡ [] → EventSays (h ++ b ∷ []) e → KeptSince C h b (says fresh e)
+lost : {C : Setup} {h : List ℕ} {b : ℕ} {e : PushEvent} → grownSince (numbered e) h b ≡ [] → EventSays C (h ++ b ∷ []) e → KeptSince C h b (says fresh e)
 lost {C} g t = record { reads = rw g (reads-fresh C); told = t }
 
-module _ (C : Setup) (h : List ℕ) (b n noise raw : ℕ) (k : InSearch h n noise raw) where
+module _ (C : Setup) (h : List ℕ) (b n noise raw : ℕ) (k : InSearch C h n noise raw) where
   -- j are matched behind the byte, and x is what was passed over then
-  kept-look : (j : ℕ) (x : List ℕ) → h ++ b ∷ [] ≡ x ++ take j startSeq → j ≤ 7 → j ≤ suc n → Misses x → length x ≡ length (k .passed) + (suc n - j)
+  kept-look : (j : ℕ) (x : List ℕ) → h ++ b ∷ [] ≡ x ++ take j startSeq → j ≤ 7 → j ≤ suc n
+      → (C .way ≡ firstWay → Misses x) → (C .way ≡ secondWay → j ≡ mostMatched (h ++ b ∷ [])) → (C .way ≡ secondWay → NoneWhole (h ++ b ∷ []))
       → KeptSince C h b (says (search j (moreNoise noise n j) (stopped (suc raw))) silent)
-  kept-look j x here most le misses long = record {
-    reads = record {
-      passed = x;
-      here = here;
-      most = most;
-      misses = misses;
-      dropped = noise-grows noise (length (k .passed)) n j (k .dropped) le ∙ ap stopped (sym long);
-      long = let i = k .long in rw (longer-since h b) (omega arith);
-    };
-    told = goesOn;
-  }
+  kept-look j x here most le misses matched none-whole =
+      let was : length h ≡ length (k .passed) + n = ap length (k .here) ∙ simp (length-append, matched-long n (k .most)) in
+      let is : length (h ++ b ∷ []) ≡ length x + j = ap length here ∙ simp (length-append, matched-long j most) in
+      let long : length x ≡ length (k .passed) + (suc n - j) = omega (arith, is, was, longer-since h b) in
+      record {
+        reads = record {
+          passed = x;
+          here = here;
+          most = most;
+          misses = misses;
+          matched = matched;
+          none-whole = none-whole;
+          dropped = noise-grows noise (length (k .passed)) n j (k .dropped) le ∙ ap stopped (sym long);
+          long = let i = k .long in rw (longer-since h b) (omega arith);
+        };
+        told = goesOn;
+      }
 
-  kept-sought : (j : ℕ) → j ≡ matchedBehind n b → (j ≡ 8 → ⊥) → KeptSince C h b (says (search j (moreNoise noise n j) (stopped (suc raw))) silent)
-  kept-sought j e ne =
+  -- in the second way as many are matched as the bytes with b end with
+  pub second-most-matched : C .way ≡ secondWay → matchedBehind (C .way) n b ≡ mostMatched (h ++ b ∷ [])
+  second-most-matched s = second-matched (C .way) n b s ∙ ap (λ (i : ℕ). lastBytes i b) (k .matched s) ∙ most-step h b
+
+  kept-second : C .way ≡ secondWay → (j : ℕ) → j ≡ matchedBehind (C .way) n b → (j ≡ 8 → ⊥) → KeptSince C h b (says (search j (moreNoise noise n j) (stopped (suc raw))) silent)
+  kept-second s j e ne =
+      let g : List ℕ = h ++ b ∷ [] in
+      let all : j ≡ mostMatched g = e ∙ second-most-matched s in
+      let x = most-ends g in
+      let le : j ≤ suc n = omega (arith, e, matched-most (C .way) n b) in
+      kept-look j (x .before) (x .is ∙ rw all) (omega (arith, le, k .most)) le (λ f. absurd (let z = sym f ∙ s in omega arith)) (λ t. all)
+      (λ t has. ne (all ∙ start-matched g (start-last h b (k .none-whole s) has)))
+
+  kept-first : (C .way ≡ secondWay → ⊥) → (j : ℕ) → j ≡ matchedBehind (C .way) n b → (j ≡ 8 → ⊥) → KeptSince C h b (says (search j (moreNoise noise n j) (stopped (suc raw))) silent)
+  kept-first other j e ne =
       let most = k .most in
       cases (starts n b)
       (λ t.
-      let m : j ≡ suc n = e ∙ rw t in
-      subst (λ (i : ℕ). KeptSince C h b (says (search i (moreNoise noise n i) (stopped (suc raw))) silent)) (sym m)
-      (kept-look (suc n) (k .passed) (rw (k .here, append-assoc, starts-is n b most t)) (omega arith) (omega arith) (k .misses) (omega arith)))
+      let m : j ≡ suc n = e ∙ sym (matched-more (C .way) n b other t) ∙ add-one n in
+      kept-look j (k .passed) (rw (m, k .here, append-assoc, starts-is n b most t)) (omega arith) (omega arith) (k .misses) (λ s. absurd (other s)) (λ s. absurd (other s)))
       (λ f.
-      let m : j ≡ 0 = e ∙ rw f in
-      subst (λ (i : ℕ). KeptSince C h b (says (search i (moreNoise noise n i) (stopped (suc raw))) silent)) (sym m)
-      (kept-look 0 (k .passed ++ (take n startSeq ++ b ∷ [])) (rw (k .here, append-nil) (append-assoc (k .passed) (take n startSeq) (b ∷ []))) (omega arith) (omega arith)
-      (misses-snoc n b most f (k .misses)) (simp (length-append, matched-long n most) (omega arith))))
+      let m : j ≡ 0 = e ∙ sym (matched-none (C .way) n b other f) in
+      kept-look j (k .passed ++ (take n startSeq ++ b ∷ [])) (rw (m, k .here, append-nil) (append-assoc (k .passed) (take n startSeq) (b ∷ []))) (omega arith) (omega arith)
+      (λ w. misses-snoc n b most f (k .misses w)) (λ s. absurd (other s)) (λ s. absurd (other s)))
 
-  kept-began : matchedBehind n b ≡ 8 → KeptSince C h b (says begun (noticed noise))
+  kept-sought : (j : ℕ) → j ≡ matchedBehind (C .way) n b → (j ≡ 8 → ⊥) → KeptSince C h b (says (search j (moreNoise noise n j) (stopped (suc raw))) silent)
+  kept-sought j e ne = either (C .way) secondWay (λ s. kept-second s j e ne) (λ other. kept-first other j e ne)
+
+  kept-began : matchedBehind (C .way) n b ≡ 8 → KeptSince C h b (says begun (noticed noise))
   kept-began eight =
-      let (t, e) = matched-eight n b eight in
+      let (t, e) = matched-eight (C .way) n b (k .most) eight in
       let on : h ++ b ∷ [] ≡ k .passed ++ startSeq = rw (k .here, append-assoc, starts-is n b (k .most) t, e) in
+      let before : h ≡ k .passed ++ take 7 startSeq = k .here ∙ rw e in
       by-eq (λ (v : PushEvent). KeptSince C h b (says begun v)) noise 0 _ _
       (λ z.
       let none′ : k .passed ≡ [] = empty (k .passed) (let i = k .dropped in omega arith) in
       record { reads = rw (on, none′) (reads-begun C); told = goesOn })
-      (λ ne. record { reads = reads-begun C; told = startFound noise (k .passed) on (k .misses) (let i = k .dropped in omega arith) (k .dropped) })
+      (λ ne. record {
+        reads = reads-begun C;
+        told = startFound noise (k .passed) on (k .misses) (λ s. subst NoneWhole before (k .none-whole s)) (let i = k .dropped in omega arith) (k .dropped);
+      })
 
 -- ---- the body
 

@@ -10,8 +10,7 @@ use borrow.Author.Tests.{eqb-true}
 use Rattle.crc_x25.specs.Crc.{register, finalXor}
 use Rattle.frame.specs.Frame.{escSeq, startSeq, escaped, runBehind}
 use Rattle.frame.proofs.Escapes.{swap-escSeq, escaped-append, run-append, escaped-few, escaped-other, run-other, escaped-nil, run-nil}
-use Rattle.frame.proofs.Cases.{by-test}
-use Rattle.decoder.specs.Push.{Mem, starts, matchedBehind, computed}
+use Rattle.decoder.specs.Push.{Mem, starts, computed}
 use Rattle.since.specs.Since.{frameHead, Misses, nonePassed, miss, AllBytes}
 
 pub last-four : (s S : List ℕ) (w x y z : ℕ) → s ≡ S ++ w ∷ x ∷ y ∷ z ∷ [] → drop (length s - 4) s ≡ w ∷ x ∷ y ∷ z ∷ []
@@ -57,10 +56,6 @@ starts-is (suc (suc (suc (suc (suc zero))))) b h e = rw (eqb-true b 1 e)
 starts-is (suc (suc (suc (suc (suc (suc zero)))))) b h e = rw (eqb-true b 1 e)
 starts-is (suc (suc (suc (suc (suc (suc (suc zero))))))) b h e = rw (eqb-true b 1 e)
 starts-is (suc (suc (suc (suc (suc (suc (suc (suc n)))))))) b h e = absurd (omega arith)
-
--- the eighth start byte
-pub matched-eight : (n b : ℕ) → matchedBehind n b ≡ 8 → (starts n b ≡ true) × (n ≡ 7)
-matched-eight n b = by-test (λ (k : ℕ). k ≡ 8 → (starts n b ≡ true) × (n ≡ 7)) (starts n b) (suc n) 0 (λ t e. (t, omega arith)) (λ t e. absurd (omega arith))
 
 pub misses-snoc : {x : List ℕ} (n b : ℕ) → n ≤ 7 → starts n b ≡ false → Misses x → Misses (x ++ (take n startSeq ++ b ∷ []))
 misses-snoc n b le f nonePassed = miss n b le f nonePassed

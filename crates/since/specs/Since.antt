@@ -1,37 +1,15 @@
--- claim: which bytes a reached decoder has read since its search or frame began, what they are in each state, and what an event says of them.
+-- claim: what the bytes since a reached decoder's search or frame began are in each state, and what an event says of them.
 use mathlib.Core.Path.{_≡_}
-use mathlib.Core.Bool.{Bool, false, cond}
+use mathlib.Core.Bool.{Bool, false}
 use mathlib.Core.List.{List, [], _∷_, _++_}
 use Prim.Native.Nat.{ℕ, _-_, _≤_, _<_}
 use lib.ListN.{length, take, drop, replicate}
-use lib.Dec.{eqb}
-use Rattle.refusals.specs.Numbers.{discardedBytesNo}
 use Rattle.crc_x25.specs.Crc.{start, register}
 use Rattle.frame.specs.Frame.{startSeq, escSeq, escaped, Sound, runBehind}
-use Rattle.decoder.specs.Push.{Mem, State, search, body, escape, done, PushEvent, silent, discarded, paysOut, memory, badEscape, badMessage, stopped, starts}
-use Rattle.decoder.specs.Record.{DecoderAnswer, nothing, payload, count, refusal}
-use Rattle.decoder.specs.Run.{Op, push, finalize, reset}
+use Rattle.search.specs.Search.{mostMatched}
+use Rattle.search.specs.Found.{NoneWhole}
+use Rattle.decoder.specs.Push.{firstWay, secondWay, Mem, State, search, body, escape, done, PushEvent, silent, discarded, paysOut, memory, badEscape, badMessage, stopped, starts}
 use Rattle.decoder.specs.declared.Setup.{Setup}
-
--- ---- the bytes since the search or frame began, told by the operations and their answers alone
-
--- with the byte b more and its answer: a DiscardedBytes leaves the eight of the new start, any other refusal and a payload leave none
-abbrev pub grownSince : DecoderAnswer → List ℕ → ℕ → List ℕ
-grownSince nothing h b = h ++ b ∷ []
-grownSince (payload bytes) h b = []
-grownSince (count k) h b = []
-grownSince (refusal k values) h b = cond (eqb k discardedBytesNo) startSeq []
-
-abbrev pub grownSinceOp : Op → DecoderAnswer → List ℕ → List ℕ
-grownSinceOp (push b) a h = grownSince a h b
-grownSinceOp finalize a h = []
-grownSinceOp reset a h = []
-
--- the second case never occurs: each operation has its answer
-unfoldable pub sinceFrom : List ℕ → List Op → List DecoderAnswer → List ℕ
-sinceFrom h [] more = h
-sinceFrom h (o ∷ os) [] = h
-sinceFrom h (o ∷ os) (a ∷ more) = sinceFrom (grownSinceOp o a h) os more
 
 -- ---- what they are in each state
 
@@ -39,17 +17,19 @@ sinceFrom h (o ∷ os) (a ∷ more) = sinceFrom (grownSinceOp o a h) os more
 unfoldable pub frameHead : List ℕ → List ℕ
 frameHead D = startSeq ++ escaped 0 D
 
--- what a search has passed over: again and again some first bytes of the start sequence, and a byte that doesn't go on with it
+-- what a search in the first way has passed over: again and again some first bytes of the start sequence, and a byte that doesn't go on with it
 pub data Misses : List ℕ → Type 0 where
   nonePassed : Misses []
   miss : (n b : ℕ) {l : List ℕ} → n ≤ 7 → starts n b ≡ false → Misses l → Misses (take n startSeq ++ (b ∷ l))
 
--- a search: bytes that were passed over, and the first n bytes of the start sequence
-pub record InSearch (h : List ℕ) (n noise raw : ℕ) : Type 0 where
+-- a search: bytes that were passed over, and the first n bytes of the start sequence. In the second way no whole start sequence lies in all of them, and they end with no more of one
+pub record InSearch (C : Setup) (h : List ℕ) (n noise raw : ℕ) : Type 0 where
   pub passed : List ℕ
   pub here : h ≡ passed ++ take n startSeq
   pub most : n ≤ 7
-  pub misses : Misses passed
+  pub misses : C .way ≡ firstWay → Misses passed
+  pub matched : C .way ≡ secondWay → n ≡ mostMatched h
+  pub none-whole : C .way ≡ secondWay → NoneWhole h
   pub dropped : noise ≡ stopped (length passed)
   pub long : raw ≡ stopped (length h)
 
@@ -83,7 +63,7 @@ pub record InEscape (C : Setup) (h : List ℕ) (k : ℕ) (m : Mem) : Type 0 wher
   pub sum : register (m .reg) (drop (m .idx) D) ≡ register start (frameHead D ++ escSeq)
 
 abbrev pub ReadSince : Setup → List ℕ → State → Type 0
-ReadSince C h (search n noise raw) = InSearch h n noise raw
+ReadSince C h (search n noise raw) = InSearch C h n noise raw
 ReadSince C h (body r m) = InBody C h r m
 ReadSince C h (escape k m) = InEscape C h k m
 ReadSince C h (done P) = (h ≡ []) × (length P ≤ C .capacity)
@@ -95,14 +75,15 @@ abbrev pub AllBytes : List ℕ → Type 0
 AllBytes [] = Unit {0}
 AllBytes (x ∷ l) = (x < 256) × AllBytes l
 
-pub data EventSays (w : List ℕ) : PushEvent → Type 0 where
-  goesOn : EventSays w silent
-  -- a start behind bytes that were passed over
-  startFound : (k : ℕ) (x : List ℕ) → w ≡ x ++ startSeq → Misses x → 1 ≤ length x → k ≡ stopped (length x) → EventSays w (discarded k)
+pub data EventSays (C : Setup) (w : List ℕ) : PushEvent → Type 0 where
+  goesOn : EventSays C w silent
+  -- a start behind bytes that were passed over; in the second way none lies whole in them and in its own first seven bytes
+  startFound : (k : ℕ) (x : List ℕ) → w ≡ x ++ startSeq → (C .way ≡ firstWay → Misses x) → (C .way ≡ secondWay → NoneWhole (x ++ take 7 startSeq))
+      → 1 ≤ length x → k ≡ stopped (length x) → EventSays C w (discarded k)
   -- a start inside a frame
-  startInside : (k : ℕ) (D : List ℕ) → w ≡ frameHead D ++ startSeq → k ≡ stopped (length w) - 8 → EventSays w (discarded k)
-  noRoom : EventSays w memory
-  noEscape : {a b c d : ℕ} → EventSays w (badEscape a b c d)
-  noMessage : {read computed : ℕ} {mis : Bool} {p : ℕ} → EventSays w (badMessage read computed mis p)
+  startInside : (k : ℕ) (D : List ℕ) → w ≡ frameHead D ++ startSeq → k ≡ stopped (length w) - 8 → EventSays C w (discarded k)
+  noRoom : EventSays C w memory
+  noEscape : {a b c d : ℕ} → EventSays C w (badEscape a b c d)
+  noMessage : {read computed : ℕ} {mis : Bool} {p : ℕ} → EventSays C w (badMessage read computed mis p)
   -- the last byte of a sound frame, where all that was pushed are bytes
-  frameEnds : (P : List ℕ) → (AllBytes w → Sound w P) → EventSays w (paysOut P)
+  frameEnds : (P : List ℕ) → (AllBytes w → Sound w P) → EventSays C w (paysOut P)

@@ -1,4 +1,4 @@
-// Document 01's program: reads standard input to its end and prints a line for each event of the decoder.
+// Document 01's program: reads standard input to its end and prints a line for each event of the decoder. Started with the argument -2 it searches in the second way (document 02, Q-7); all else is the same.
 ghost use mathlib.Core.Path.{_≡_};
 ghost use Prim.Native.Nat.{_≤_};
 ghost use lib.ListN.{length, take};
@@ -87,9 +87,26 @@ fn run(d: Decoder, buf: &mut [u8; 4096]) -> Decoder {
     at
 }
 
+// The way of searching that the first argument asks for: the second where it is `-2`, else document 01's. One that is longer than `word` has the answer 0.
+// What the program was started with is not proved: `os::arg` promises no more than that its answer lies within `word`.
+fn way_asked() -> u8 {
+    let mut word = [0u8; 2];
+    if os::arg(1, &mut word) != 2 {
+        return Decoder::FIRST_WAY;
+    }
+    if word[0] != b'-' {
+        return Decoder::FIRST_WAY;
+    }
+    if word[1] == b'2' {
+        Decoder::SECOND_WAY
+    } else {
+        Decoder::FIRST_WAY
+    }
+}
+
 fn main() {
     let mut buf = [0u8; 4096];
-    let last = run(Decoder::new(4096), &mut buf);
+    let last = run(Decoder::with_way(4096, way_asked()), &mut buf);
     let f = last.finalize();
     let e = f.event;
     let d = f.decoder;

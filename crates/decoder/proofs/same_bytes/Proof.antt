@@ -2,7 +2,7 @@ use Prim.Native.Nat.{_-_, _≤_}
 use mathlib.Core.Path.{_≡_, sym, _∙_}
 use lib.ListN.{length, drop}
 use borrow.Author.Needs.{needs}
-use Rattle.decoder.specs.Push.{same}
+use Rattle.frame.specs.Frame.{same}
 use Rattle.decoder.proofs.Same.{same-stop, same-go, same-done, same-off}
 use Rattle.decoder.proofs.same_bytes.Statement.{statement}
 use Rattle.decoder.proofs.same_bytes.Tie as tie

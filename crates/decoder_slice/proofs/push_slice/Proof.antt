@@ -24,7 +24,8 @@ returns-2 c =
     taken.slice-wrong (a .d) (now (a .buf)) (now (a .chunk)) bad wrong
 
 until-event-requires : tie.Need-until-event-requires
-until-event-requires c κs = search needs
+until-event-requires c κs =
+    (sym (c .before .before .before .before .bad-decoder .ensures) ∙ c .before .before .before .if1 .left, sym (c .before .before .wrong-buffer .ensures) ∙ c .before .if2 .left)
 
 same-length : tie.Need-same-length
 same-length c = search needs

@@ -73,7 +73,7 @@ loop-again c =
       search needs,
       search needs,
       simp length-set (l .inv .5),
-      runs.judged-next (a .d) (a .n) (l .buf) (now (a .chunk)) (a .from) (l .k) (search needs) (search needs) (search needs) (search needs) (search needs) (search needs) (search needs) ∙ l .inv .6,
+      runs.judged-next (a .d) (a .n) (l .buf) (now (a .chunk)) (a .from) (l .k) (search needs) (search needs) (search needs) (search needs) (search needs) (search needs) (search needs) (search needs) ∙ l .inv .6,
     )
 
 cast-t14 : tie.Need-cast-t14 Inv-loop μ-loop

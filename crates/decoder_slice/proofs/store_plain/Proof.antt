@@ -70,7 +70,7 @@ loop-again c =
       search needs,
       search needs,
       simp length-set (l .inv .4),
-      runs.plain-next (a .d) (l .buf) (now (a .chunk)) (a .from) (l .k) (search needs) (search needs) (search needs) (search needs) (search needs) (search needs) (l .inv .6 (a .from + l .k) (search needs) (search needs)) ∙ l .inv .5,
+      runs.plain-next (a .d) (l .buf) (now (a .chunk)) (a .from) (l .k) (search needs) (search needs) (search needs) (search needs) (search needs) (search needs) (search needs) (l .inv .6 (a .from + l .k) (search needs) (search needs)) ∙ l .inv .5,
       l .inv .6,
     )
 

@@ -54,7 +54,7 @@ loop-again c =
       search needs,
       search needs,
       search needs,
-      λ m h. runs.wait-next (a .d) (l .q) m (now (a .chunk)) (a .from) (l .k) (search needs) (search needs) (search needs) h (search needs) (search needs) (search needs) (search needs) (c .if2 .left) (c .before .before .if1 .left) ∙ l .inv .5 m h,
+      λ m h. runs.wait-next (a .d) (l .q) m (now (a .chunk)) (a .from) (l .k) (search needs) (search needs) (search needs) (search needs) h (search needs) (search needs) (search needs) (search needs) (c .if2 .left) (c .before .before .if1 .left) ∙ l .inv .5 m h,
     )
 
 moved-by-requires : tie.Need-moved-by-requires Inv-loop μ-loop

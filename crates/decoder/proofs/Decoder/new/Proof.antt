@@ -2,11 +2,11 @@ use borrow.Author.Needs.{needs}
 use Rattle.decoder.proofs.Decoder.new.Statement.{statement}
 use Rattle.decoder.proofs.Decoder.new.Tie as tie
 
-new-record-requires : tie.Need-new-record-requires
-new-record-requires c κs = search needs
+with-way-requires : tie.Need-with-way-requires
+with-way-requires c κs = search needs
 
 returns : tie.Need-returns
-returns c = c .new-record .ensures
+returns c = c .with-way .ensures
 
 pub new-spec : {M : Type 1} → statement M
-new-spec = tie.close (tie.spec new-record-requires returns)
+new-spec = tie.close (tie.spec with-way-requires returns)

@@ -2,7 +2,9 @@ use mathlib.Core.Path.{sym, ap, _∙_}
 use denote.Ref.{now}
 use lib.ListN.{length}
 use Rattle.decoder.specs.Record.{pushRecord, afterPush}
+use Rattle.decoder.specs.Cut.{storedOn}
 use Rattle.decoder.specs.declared.Decoder.{Decoder}
+use Rattle.decoder.specs.declared.DecodeState.{DecodeState}
 use Rattle.decoder.proofs.Plain.{plain-says, plain-fits, push-plain}
 use borrow.Author.Needs.{needs}
 use Rattle.decoder.proofs.Decoder.push_byte.Statement.{statement}
@@ -31,7 +33,8 @@ returns : tie.Need-returns
 returns c =
     let a = c .before .before .before .before .before .args in
     let e = sym (c .before .before .before .is-plain .ensures) ∙ c .before .before .if1 .taken in
-    rw (c .quiet .ensures, c .before .stored-on .ensures) (push-plain (a .self) (now (a .buf)) (a .b) e)
+    let p = plain-says (a .self) (length (now (a .buf))) (a .b) e in
+    rw (c .quiet .ensures, c .before .stored-on .ensures ∙ ap (λ (t : DecodeState). storedOn (a .self) 1 t) (p .state)) (push-plain (a .self) (now (a .buf)) (a .b) e)
 
 in-state-requires : tie.Need-in-state-requires
 in-state-requires c κs = search needs

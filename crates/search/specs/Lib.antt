@@ -1,0 +1,3 @@
+pub mod Search
+pub mod Found
+pub mod Decided
