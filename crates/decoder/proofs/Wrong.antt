@@ -276,7 +276,7 @@ short-way-takes-any-way : (d : Decoder) (m : List ℕ) → afterPush (record { d
 unfolding pushRecord badDecoder numberOf
 short-way-takes-any-way d m h = let n : _≡_ {A = ℕ} 0 4 = ap (λ (a : After). numberOf (a .answer)) h in omega (arith, n)
 
--- behind reset, finalize, a payload and a refusal the second way is the second
+-- behind reset, finalize and a refusal the second way is the second
 way-not-kept : (n : ℕ) → afterReset (record { decoder = newRecord (sized 8); count = n }) ≡ resetRecord (newRecord (inWay 2 8)) → ⊥
 unfolding resetRecord
 way-not-kept n h = let w : _≡_ {A = ℕ} 1 2 = ap (λ (l : Left). l .decoder .way) h in omega (arith, w)

@@ -89,7 +89,7 @@ impl Decoder {
     // The bytes behind an escape, which are stored and judged together.
     pub const ESC_PAYLOAD_LEN: usize = 4;
 
-    // The ways of searching: the Rust's, in which a byte that doesn't match begins the search anew behind it, and one that a stray 1b doesn't fool (document 02, Q-7).
+    // The ways of searching: the Rust's, in which nothing is matched behind a byte that doesn't match, and one that a stray 1b doesn't fool (document 02, Q-7).
     pub const FIRST_WAY: u8 = 1;
 
     pub const SECOND_WAY: u8 = 2;
@@ -278,6 +278,7 @@ fn looking_for_message_start(d: Decoder, noise: u32, n: u8, b: u8) -> Pushed
     requires { ⌜ n < 8 ⌝ }
     ensures { λ r. ⌜ r ≡ code (setup d) (searching (d .way) n noise (d .«raw_msg_len») b) ⌝ }
 {
+    // The next start byte is one more in either way.
     if matching(n, b) {
         if n == 7 {
             let begun = begun_frame(setup_of(d));
@@ -529,7 +530,7 @@ fn unknown_way(way: u8) -> bool
     way != Decoder::SECOND_WAY
 }
 
-// What no push leaves of the counts, by the state.
+// Counts that no push leaves in this state.
 fn bad_in(fill: usize, crc_idx: usize, raw_msg_len: u32, s: DecodeState) -> bool
     requires { ⌜ «crc_idx» ≤ fill ⌝ }
     ensures { λ r. ⌜ r ≡ badIn fill «crc_idx» «raw_msg_len» s ⌝ }

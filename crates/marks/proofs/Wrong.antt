@@ -1,4 +1,4 @@
--- What the claims rule out: each fake of docs/WRONG-READINGS.md falls, by one of the parts of Fall.
+-- What the claims rule out: each fake of docs/WRONG-READINGS.md falls, by one of the parts of Fall; and claims that are false of ours, by the parts of NotOurs.
 use Rattle.encoder.specs.Encode.{encodeTo}
 use Rattle.decoder.specs.Push.{firstWay, secondWay}
 use Rattle.marks.specs.Decoders.{ours}

@@ -328,7 +328,7 @@ pub record NotOurs : Type 0 where
   pub hides-second : Hides secondWay ours OurSearch → ⊥
   pub hears-anywhere : HearsBehindNoise (λ l. Unit {0}) ours encodeTo ourSeeks → ⊥
 
--- each of them falls: a row of the bench sheet or a mark that is false of it. The one that is right for its first frame has row B3, and hands that payload back
+-- each of the fakes falls: a row of the bench sheet or a mark that is false of it. The one that is right for its first frame has row B3, and hands that payload back
 pub record Fall : Type 0 where
   pub refuses-b3 : Holds refusesAll encodeTo b3 → ⊥
   pub refuses-mark3 : Mark3 refusesAll encodeTo → ⊥

@@ -83,6 +83,6 @@ pub record Marks : Type 0 where
   -- B1 to B14, and B5 in the second way
   pub bench : Bench ours ourEncode
   pub bench-second : Holds ours ourEncode b5Second
-  -- and what they are false of
+  -- what is false of ours, and what the marks are false of
   pub not-ours : NotOurs
   pub fall : Fall

@@ -21,7 +21,7 @@ pub record KeepsWay {S : Type 0} (M : Slicer S) (wayOf : S → ℕ) : Type 0 whe
   pub kept-by-slices : (d : S) (m bytes : List ℕ) → wayOf (M .pushSlice d m bytes .decoder) ≡ wayOf d
   -- reset behind any operations leaves a new decoder: each way has its own fresh state
   pub fresh-again : (C : Setup) (m : List ℕ) (os : List Op) → leftBehind (M .machine) (M .machine .new C) m (os ++ reset ∷ []) .decoder ≡ M .machine .new C
-  -- and it refuses none
+  -- and reset never refuses
   pub reset-never : (d : S) (m : List ℕ) (k : ℕ) (values : List ℕ) → M .machine .act d m reset .answer ≡ refusal k values → ⊥
 
 -- a way that is neither the first nor the second: a push, a slice and finalize answer 4 and leave decoder and memory as they are, and no payload is handed back

@@ -35,7 +35,7 @@ sinceFrom h (o ∷ os) (a ∷ more) = sinceFrom (grownSinceOp o a h) os more
 
 -- ---- the counts
 
--- the counts of a state, h being the bytes since its search or frame began: in a search those matched, which in the second way are as many as h ends with, the noise and the raw length
+-- the counts of a state, h being the bytes since its search or frame began: in a search those matched, which in the second way are as many start bytes as h ends with, the noise and the raw length
 abbrev pub Counted : Setup → State → List ℕ → Type 0
 Counted C (search n noise raw) h = (n ≤ length h) × (n ≤ 7) × (noise ≡ stopped (length h - n)) × (raw ≡ stopped (length h)) × (C .way ≡ secondWay → n ≡ mostMatched h)
 Counted C (body r m) h = (8 ≤ length h) × (m .raw ≡ stopped (length h))

@@ -22,7 +22,7 @@ pub data Misses : List ℕ → Type 0 where
   nonePassed : Misses []
   miss : (n b : ℕ) {l : List ℕ} → n ≤ 7 → starts n b ≡ false → Misses l → Misses (take n startSeq ++ (b ∷ l))
 
--- a search: bytes that were passed over, and the first n bytes of the start sequence. In the second way no whole start sequence lies in all of them, and they end with no more of one
+-- a search: bytes that were passed over, and the first n bytes of the start sequence. In the second way no whole start sequence lies in them together, and they end with no more of one
 pub record InSearch (C : Setup) (h : List ℕ) (n noise raw : ℕ) : Type 0 where
   pub passed : List ℕ
   pub here : h ≡ passed ++ take n startSeq
@@ -77,7 +77,7 @@ AllBytes (x ∷ l) = (x < 256) × AllBytes l
 
 pub data EventSays (C : Setup) (w : List ℕ) : PushEvent → Type 0 where
   goesOn : EventSays C w silent
-  -- a start behind bytes that were passed over; in the second way none lies whole in them and in its own first seven bytes
+  -- a start behind bytes that were passed over; in the second way none lies whole in them and its own first seven bytes together
   startFound : (k : ℕ) (x : List ℕ) → w ≡ x ++ startSeq → (C .way ≡ firstWay → Misses x) → (C .way ≡ secondWay → NoneWhole (x ++ take 7 startSeq))
       → 1 ≤ length x → k ≡ stopped (length x) → EventSays C w (discarded k)
   -- a start inside a frame
