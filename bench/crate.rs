@@ -50,7 +50,7 @@ fn main() {
     std::io::stdin().read_to_end(&mut once).unwrap();
     let input = once.repeat(number(3));
     let call = || match args[1].as_str() {
-        "bench_push" | "bench_push_slice" | "bench_push_slice_second" => push(&input),
+        "bench_push" | "bench_push_slice" | "bench_push_slice_second" | "bench_packed" => push(&input),
         "bench_encode" => encode(&input),
         "bench_stream" => stream(&input),
         "bench_events" => events(&input),

@@ -14,6 +14,8 @@ int clock_gettime(int, struct timespec *);
 extern u64 bench_push(const u8 *, size_t, u8 *, size_t);
 extern u64 bench_push_slice(const u8 *, size_t, u8 *, size_t);
 extern u64 bench_push_slice_second(const u8 *, size_t, u8 *, size_t);
+extern void bench_pack(u8 *, size_t, size_t);
+extern size_t bench_packed(u8 *, size_t, u8 *, size_t, const u8 *, size_t);
 extern u64 bench_encode(const u8 *, size_t, u8 *, size_t);
 extern u64 bench_stream(const u8 *, size_t);
 extern u64 bench_events(const u8 *, size_t);
@@ -22,7 +24,16 @@ extern u64 bench_crc_byte(const u8 *, size_t);
 
 static u8 in[1 << 20], out[1 << 22];
 
-static const char *names[] = {"bench_push", "bench_push_slice", "bench_push_slice_second", "bench_encode", "bench_stream", "bench_events", "bench_crc", "bench_crc_byte"};
+static const char *names[] = {"bench_push", "bench_push_slice", "bench_push_slice_second", "bench_encode", "bench_stream", "bench_events", "bench_crc", "bench_crc_byte", "bench_packed"};
+
+/* pushes of slices over the 28 bytes of a decoder, a call for each event */
+static u64 packed(size_t n, size_t cap) {
+    u8 bytes[28];
+    size_t i = 0, taken = 1;
+    bench_pack(bytes, sizeof bytes, cap);
+    for (; i < n && taken; i += taken) taken = bench_packed(bytes, sizeof bytes, out, cap, in + i, n - i);
+    return i;
+}
 
 static u64 call(int which, size_t n, size_t cap) {
     switch (which) {
@@ -34,6 +45,7 @@ static u64 call(int which, size_t n, size_t cap) {
     case 5: return bench_events(in, n);
     case 6: return bench_crc(in, n);
     case 7: return bench_crc_byte(in, n);
+    case 8: return packed(n, cap);
     }
     return ~0ul;
 }

@@ -1,5 +1,5 @@
 """vectors.py: writes the fixed list of commands to the files stdin of crates/replay_wire and crates/replay_messages, each to the program that knows it and what is no command to both, and the crate's answers
-(target/oracle/oracle, made by oracle/build) to stdout beside them; those over messages (message_vectors.py) come last, and what the crate doesn't have: `push2`, whose answers are told here.
+(target/oracle/oracle, made by oracle/build) to stdout beside them; those over messages (message_vectors.py) come last, and what the crate doesn't have: `push2`, `packed`, `unpack` and `pack`, whose answers are told here.
 
 `rt check replay_wire replay_messages` replays them without the crate at hand. Run it again when a command is added; what it writes depends on nothing but this folder and the crate.
 """
@@ -31,6 +31,71 @@ SEARCHES = """
 7 b1b,bF,b1bS,f                         9:discarded 1;21:memory;30:discarded 1;31:discarded 8     31:discarded 30
 8 bS12,z13:00,bFF                       17:memory;30:discarded 5;42:payload 12345678;62:payload 12345678
 8 b1b1b,f,f,b1b,r,r                     3:discarded 2;6:reset 1;7:reset 0
+"""
+# document 02, Q-11: commands (Z is 28 bytes 00) and their answers
+PACKINGS = """
+packed 1 8 -                                         - / 00000100ffff00000000000000000000000000000000000008000000
+packed 2 8 b001b1b                                   - / 00020200ffff00000000000000000000030000000100000008000000
+packed 1 8 bS121b1b1b1b                              - / 0300010057a8000001000000010000000d0000000000000008000000
+packed 2 8 bF                                        20:payload 12345678 / 04000200ffff00000400000000000000000000000000000008000000
+packed 1 8 b00,bF,b1b,f                              9:discarded 1;21:payload 12345678;23:discarded 1 / 00000100ffff00000000000000000000000000000000000008000000
+packed 1 1048576 b00                                 - / 00000100ffff00000000000000000000010000000100000000001000
+packed 1 0 f                                         - / 00000100ffff00000000000000000000000000000000000000000000
+packed 0 8 -                                         refused 4
+packed 3 8 b00,f,r                                   refused 4
+packed 255 1048577 -                                 refused 4
+packed 1 1048577 -                                   refused 5
+packed 2 1048577 b00,f,r                             refused 5
+unpack 00000100ffff00000000000000000000000000000000000008000000      kind=0 n=0 way=1 crc=ffff fill=0 idx=0 raw=0 noise=0 cap=8
+unpack 00020200ffff00000000000000000000030000000100000008000000a5    kind=0 n=2 way=2 crc=ffff fill=0 idx=0 raw=3 noise=1 cap=8
+unpack 0300010057a8000001000000010000000d0000000000000008000000      kind=3 n=0 way=1 crc=a857 fill=1 idx=1 raw=13 noise=0 cap=8
+unpack 04000200ffff00000400000000000000000000000000000008000000      kind=4 n=0 way=2 crc=ffff fill=4 idx=0 raw=0 noise=0 cap=8
+unpack Z                                             refused 4
+unpack 00000100ffff000000000000000000000000000000000000080000        refused 4
+unpack 05000100ffff00000000000000000000000000000000000008000000      refused 4
+unpack 01010100ffff00000000000000000000080000000000000008000000      refused 4
+unpack -                                             refused 4
+pack 4 0 1 1234 4 2 7 0 8 Z                          04000100341200000400000000000000000000000000000008000000
+pack 0 2 2 ffff 0 0 3 1 8 Za5a5                      00020200ffff00000000000000000000030000000100000008000000a5a5
+pack 0 0 1 ffff 0 0 4294967295 4294967295 8 Z        00000100ffff00000000000000000000ffffffffffffffff08000000
+pack 0 8 1 ffff 0 0 8 0 8 -                          refused 4 -
+pack 0 0 3 ffff 0 0 0 0 8 Z                          refused 4 Z
+pack 1 0 1 ffff 4294967296 0 8 0 8 aa                refused 4 aa
+pack 0 0 1 ffff 0 0 0 0 1048577 a5                   refused 5 a5
+pack 0 0 1 ffff 0 0 0 0 4294967304 Z                 refused 5 Z
+pack 1 0 1 ffff 9007199254740992 9007199254740992 8 0 9007199254740992 -    refused 5 -
+pack 0 0 1 ffff 0 0 0 0 8 a5                         refused 18 a5
+pack 0 0 1 ffff 0 0 0 0 8 -                          refused 18 -
+"""
+NO_PACKINGS = """
+packed
+packed 1
+packed 1 8
+packed 256 8 f
+packed -1 8 f
+packed 1 8 -,f
+packed 3 8 x
+packed 1 1048578 f
+packed 1 8 f f
+unpack
+unpack 0
+unpack 00 00
+pack
+pack 0 0 1 ffff 0 0 0 0 8
+pack 0 0 1 ffff 0 0 0 0 8 - -
+pack 0 0 1 fffff 0 0 0 0 8 -
+pack 0 0 1 AAAA 0 0 0 0 8 -
+pack 5 0 1 ffff 0 0 0 0 8 -
+pack 1 0 1 ffff 0 0 8 1 8 -
+pack 1 1 1 ffff 0 0 8 0 8 -
+pack 4 1 1 ffff 0 0 8 0 8 -
+pack 3 1 1 ffff 0 0 8 1 8 -
+pack 0 256 1 ffff 0 0 8 1 8 -
+pack 0 0 256 ffff 0 0 8 1 8 -
+pack 0 0 1 ffff 0 0 4294967296 0 8 -
+pack 0 0 1 ffff 0 0 0 4294967296 8 -
+pack 0 0 1 ffff 9007199254740993 0 0 0 8 -
+pack 0 0 1 ffff 0 0 0 0 99999999999999999999 -
 """
 
 
@@ -177,6 +242,14 @@ def searches():
         yield "push " + ops, told[-1]
 
 
+def packings():
+    """Q-11's rows, and what is no command of theirs."""
+    for row in PACKINGS.strip().split("\n"):
+        yield tuple(word.replace("S", START.hex()).replace("F", B1.hex()).replace("Z", "00" * 28) for word in re.split("  +", row))
+    for row in NO_PACKINGS.strip().split("\n"):
+        yield row, "bad command"
+
+
 def store(name, pairs):
     """The commands that are no other program's, and their answers. The last line has no line end."""
     others = [w for other in COMMANDS if other != name for w in COMMANDS[other]]
@@ -197,7 +270,7 @@ def main():
     for word in ("no such capacity", "panic"):
         assert word not in said, word
     last = ("encode 12345678", frame(b("12345678")).hex())
-    pairs = list(zip(lines, said.split("\n"))) + list(message_vectors.vectors()) + second
+    pairs = list(zip(lines, said.split("\n"))) + list(message_vectors.vectors()) + second + list(packings())
     assert said.count("\n") == len(lines)
     assert not set(first) - set(pairs)
     for name in COMMANDS:

@@ -3,7 +3,7 @@ import fcntl, os, platform, shutil, subprocess, sys, time
 
 ROOT = os.path.dirname(os.path.dirname(os.path.abspath(__file__)))
 # which program behind bin/replay answers a command, by its first word
-COMMANDS = {"replay_wire": ["encode", "encode_cap", "stream", "crc", "push", "push2"], "replay_messages": ["leaf", "tlf", "places", "events"]}
+COMMANDS = {"replay_wire": ["encode", "encode_cap", "stream", "crc", "push", "push2", "packed", "unpack", "pack"], "replay_messages": ["leaf", "tlf", "places", "events"]}
 
 
 def turn():

@@ -7,7 +7,7 @@ os.chdir(os.path.join(os.path.dirname(os.path.abspath(__file__)), ".."))
 
 def plain(text):
     """An equation with lent things at the call by their names, at the return as MEMORY and LENT; without module names."""
-    for old, new in [(r"now \((?:buf|out) \.exit\)", "MEMORY"), (r"now \((?:d|e|self) \.exit\)", "LENT"), (r"(?:now|handed) \((\w+) \.entry\)", r"\1"), (r"\b(\w+) \.(?:entry|bytes)", r"\1"), (r"\b(?:now|handed) r\b", "r"), (r"\br \.memory", "MEMORY"),
+    for old, new in [(r"now \((?:buf|out) \.exit\)", "MEMORY"), (r"now \((?:d|e|self|bytes) \.exit\)", "LENT"), (r"(?:now|handed) \((\w+) \.entry\)", r"\1"), (r"\b(\w+) \.(?:entry|bytes)", r"\1"), (r"\b(?:now|handed) r\b", "r"), (r"\br \.memory", "MEMORY"),
                      (r"\br(?: \.answer)? \.lent", "LENT"), (r"\br \.answer(?: \.answer)?", "r"), (r"\b[A-Z]\w*\.(?=\w)", ""), (r"\((\w+)\)", r"\1"), (r"\((\w+)\)", r"\1")]:
         text = re.sub(old, new, text)
     return " ".join(text.split())
@@ -44,7 +44,9 @@ def held(crate, paths):
             over, answer, said = left.pop(key)
             if over != set(re.findall(r"(\w+)(?=:)", takes)) | set(re.findall(r"\bself\b", takes)):
                 bad.append(f"{crate}: {key} is not over the parameters of {name}")
-            if ("&mut [u8]" in takes) != ("With" in answer) or bool(re.search(r"&mut (?:Decoder|Encoder|self)", takes)) != ("Beside" in answer):
+            # the bytes of a decoder are lent as a record is, beside the memory
+            memory, kept = "&mut [u8]" in takes.replace("bytes: &mut [u8]", ""), re.search(r"&mut (?:Decoder|Encoder|self)|bytes: &mut", takes)
+            if memory != ("With" in answer) or bool(kept) != ("Beside" in answer):
                 bad.append(f"{crate}: what {name} changes is not beside its answer")
             if re.search(r"fn %s\b[^{]*? -> &" % name, text) and not (ensures.startswith("handed r ≡ partAt (handed (") and answer == "LentPart"):
                 bad.append(f"{crate}: {name} hands back a part, and its place is not decided")

@@ -50,7 +50,7 @@ for (command, answer), line in zip(examples, said + [""] * len(examples)):
 told = dict(re.findall(r"^\| `(replay_\w+)` \| (.*) \|$", page, re.M))
 same("the programs of the page", {p: re.findall(r"`(\w+)`", c) for p, c in told.items()}, COMMANDS)
 for p, commands in COMMANDS.items():
-    table = re.search(r'match find\(b"([\w,]+)"', open(f"crates/{p}/src/main.rt").read()).group(1)
+    table = re.search(r'match find\(\s*b"([\w,]+)"', open(f"crates/{p}/src/main.rt").read()).group(1)
     same(f"the table of {p}", sorted(table.split(",")), sorted(commands))
     for c in commands:
         same(f"an example of {c}", any(e.startswith(c + " ") for e, _ in examples), True)

@@ -9,6 +9,7 @@ use Rattle.decoder.specs.Record as D
 use Rattle.decoder.specs.Push.{inWay}
 use Rattle.decoder.specs.Record.{nothing, payload, count, After, pushRecord, newRecord}
 use Rattle.decoder.specs.declared.Decoder.{Decoder}
+use Rattle.packed.specs.Packed.{slicePacked}
 use Rattle.encoder.specs.Encode as E
 use Rattle.refusals.specs.Numbers.{limit}
 use Rattle.encoder.specs.Encode.{length-is, encodeTo}
@@ -41,6 +42,20 @@ payloadsFrom n d m (b ∷ bs) =
 -- from a new decoder of a way of searching and of the lent buffer's length
 abbrev pub payloads : ℕ → List ℕ → List ℕ → CountedIn
 payloads way bytes m = payloadsFrom 0 (newRecord (inWay way (length m))) m bytes
+
+-- ---- a push of a slice over the bytes of a decoder
+
+-- how many bytes it took, with the decoder's bytes and the lent memory as they are then
+pub record TookIn : Type 0 where
+  pub taken : ℕ
+  pub bytes : List ℕ
+  pub memory : List ℕ
+
+abbrev pub tookIn : ℕ → List ℕ → List ℕ → TookIn
+tookIn n l m = record { taken = n; bytes = l; memory = m }
+
+abbrev pub tookOver : List ℕ → List ℕ → List ℕ → TookIn
+tookOver l m chunk = tookIn (slicePacked l m chunk .taken) (slicePacked l m chunk .bytes) (slicePacked l m chunk .memory)
 
 -- ---- encode and Encoder
 

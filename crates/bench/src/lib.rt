@@ -5,13 +5,15 @@ ghost use Prim.Native.Nat.{_<_, _≤_};
 ghost use lib.ListN.{length};
 ghost use Rattle.crc_x25.specs.Crc.{crcOf};
 ghost use Rattle.frame.specs.Frame.{frameOf};
-ghost use Rattle.decoder.specs.Push.{firstWay, secondWay};
+ghost use Rattle.decoder.specs.Push.{firstWay, secondWay, sized};
+ghost use Rattle.decoder.specs.Record.{newRecord};
+ghost use Rattle.packed.specs.Packed.{packInto};
 ghost use Rattle.decoder.specs.Record as D;
 ghost use Rattle.encoder.specs.Encode as E;
 ghost use Rattle.refusals.specs.Numbers.{limit};
 ghost use Rattle.encoder.specs.Encoder.{nextAnswer};
 ghost use Rattle.streaming.specs.Answers.{said};
-ghost use Rattle.bench.specs.Bench.{counted, one, payloadsFrom, payloads, lengthIn, encoded, sum, streamed, isEvent, events};
+ghost use Rattle.bench.specs.Bench.{counted, one, payloadsFrom, payloads, tookIn, tookOver, lengthIn, encoded, sum, streamed, isEvent, events};
 ghost use Rattle.bench.specs.Given.{isByte, given};
 use decoder::Decoder;
 use decoder::Event;
@@ -96,6 +98,23 @@ pub extern "C" fn bench_push_slice_second(src: &[u8], buf: &mut [u8]) -> u64
 {
     let d = Decoder::with_way(buf.len(), Decoder::SECOND_WAY);
     push_slices(d, src, buf)
+}
+
+// A new decoder of this capacity, packed into `bytes`, for bench_packed.
+#[no_mangle]
+pub extern "C" fn bench_pack(bytes: &mut [u8], capacity: usize)
+    ensures { λ r. ⌜ now (bytes .exit) ≡ packInto (newRecord (sized capacity)) (now (bytes .entry)) .output ⌝ }
+{
+    packed::pack(Decoder::new(capacity), bytes);
+}
+
+// One push of a slice over the bytes of a decoder: how many bytes it took.
+#[no_mangle]
+pub extern "C" fn bench_packed(bytes: &mut [u8], buf: &mut [u8], chunk: &[u8]) -> usize
+    ensures { λ r. ⌜ tookIn r (now (bytes .exit)) (now (buf .exit)) ≡ tookOver (now (bytes .entry)) (now (buf .entry)) (now (chunk .entry)) ⌝ }
+{
+    let t = packed::push_slice_packed(bytes, buf, chunk);
+    t.taken
 }
 
 // The length of the frame that encode wrote, or 0.

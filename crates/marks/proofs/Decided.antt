@@ -9,6 +9,7 @@ use Rattle.search.proofs.Decided as Search
 use Rattle.decoder.proofs.Decided as Decoder
 use Rattle.in_place.proofs.Decided as InPlace
 use Rattle.decoder_slice.proofs.Decided as Slice
+use Rattle.packed.proofs.Decided as Packed
 use Rattle.lines.proofs.Decided as Lines
 use Rattle.value.proofs.Decided as Value
 use Rattle.common.proofs.Decided as Common
@@ -29,6 +30,7 @@ views =
       decoder = Decoder.views;
       in-place = InPlace.views;
       decoder-slice = Slice.views;
+      packed = Packed.views;
       lines = Lines.views;
       value = Value.views;
       common = Common.views;
@@ -50,6 +52,7 @@ decided =
       decoder = Decoder.decided;
       in-place = InPlace.decided;
       decoder-slice = Slice.decided;
+      packed = Packed.decided;
       lines = Lines.decided;
       value = Value.decided;
       common = Common.decided;

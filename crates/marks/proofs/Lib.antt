@@ -10,10 +10,13 @@ pub mod Chunks
 pub mod Completeness
 pub mod Second
 pub mod Ways
+pub mod Narrow
+pub mod Packed
 pub mod Bench
 pub mod Encoders
 pub mod Events
 pub mod Decided
 pub mod Fakes
+pub mod FakeHosts
 pub mod Marks
 pub mod Wrong

@@ -10,7 +10,9 @@ use Rattle.marks.proofs.Hides.{hides}
 use Rattle.marks.proofs.Chunks.{chunks}
 use Rattle.marks.proofs.Second.{begins-exactly, searches-again, second-searches, reached-counts, hears-behind-noise}
 use Rattle.marks.proofs.Ways.{keeps-way, refuses-unknown, unknown-asked}
+use Rattle.marks.proofs.Packed.{round-trips, exactly, packs-what-pushes, packs-in-order, acts-alike, slices-alike, hands-out-alike, serves, leaves-refused, leaves-tidy, answers-alike}
 use Rattle.marks.proofs.Encoders.{same-bytes}
+use Rattle.marks.proofs.FakeHosts.{fall-hosts}
 use Rattle.marks.proofs.Recovery.{mark3}
 use Rattle.marks.proofs.Events.{reader-gives, parser-gives, reader-goes-on, parser-goes-on, reader-lists, parser-lists, reader-says-where, parser-says-where, reader-call-says-where, parser-call-says-where, reader-ten-again, parser-ten-again}
 use Rattle.marks.proofs.Bench.{bench, bench-second}
@@ -35,6 +37,17 @@ marks =
       unknown-asked = unknown-asked;
       counts = reached-counts;
       chunks = chunks;
+      round-trips = round-trips;
+      exactly = exactly;
+      packs-what-pushes = packs-what-pushes;
+      packs-in-order = packs-in-order;
+      acts-alike = acts-alike;
+      slices-alike = slices-alike;
+      hands-alike = hands-out-alike;
+      serves = serves;
+      leaves-refused = leaves-refused;
+      leaves-tidy = leaves-tidy;
+      answers-alike = answers-alike;
       same-bytes = same-bytes;
       mark3 = mark3;
       reader-gives = reader-gives;
@@ -56,4 +69,5 @@ marks =
       bench-second = bench-second;
       not-ours = not-ours;
       fall = fall;
+      fall-hosts = fall-hosts;
     }

@@ -1,4 +1,4 @@
--- What the claims rule out: each fake of docs/WRONG-READINGS.md falls, by one of the parts of Fall; and claims that are false of ours, by the parts of NotOurs.
+-- What the claims rule out: each fake of docs/WRONG-READINGS.md falls, by one of the parts of Fall or FallHosts; and claims that are false of ours, by the parts of NotOurs.
 use Rattle.encoder.specs.Encode.{encodeTo}
 use Rattle.decoder.specs.Push.{firstWay, secondWay}
 use Rattle.marks.specs.Decoders.{ours}
@@ -8,10 +8,13 @@ use Rattle.marks.specs.Hides.{Hides}
 use Rattle.marks.specs.Chunks.{Chunks}
 use Rattle.marks.specs.Second.{Begins, SearchesAgain, HearsBehindNoise, ourSeeks, ourBegun}
 use Rattle.marks.specs.Ways.{ourWay, KeepsWay, RefusesUnknown}
+use Rattle.marks.specs.Packed.{RoundTrip, Exactly, PacksWhatPushes, PacksInOrder, ActsAlike, HandsAlike, Serves, LeavesRefused}
 use Rattle.marks.specs.Encoders.{ourEncoder, SameBytes}
 use Rattle.marks.specs.Events.{ReaderGives, GoesOn, readerWith, ListsEntries, SaysWhere}
 use Rattle.marks.specs.Fakes.{refusesAll, constant, idle, invents, once, stale, hasty, forgiving, firstOnly, countsEight, deaf, forgetsWay, servesAnyWay, swallows, takesNone, withholds, shrugs, forgetful, blamesTheMessage, saysItAgain, writesNothing, finishedAtOnce, withoutEvents, noEntries}
+use Rattle.marks.specs.FakeHosts.{unpacksNothing, packsConstants, packsAny, unpacksAny, onlyAnswers, saysNothingEver, handsNothing, clearsRefused, growsOutput, clearsRest}
 use Rattle.marks.proofs.Fakes.{not-ours, fall}
+use Rattle.marks.proofs.FakeHosts.{fall-hosts}
 
 fake-refuses-everything : Mark3 refusesAll encodeTo → ⊥
 fake-refuses-everything = fall .refuses-mark3
@@ -93,3 +96,33 @@ fake-way-forgotten = fall .forgets-keeps
 
 fake-any-way-is-served : RefusesUnknown servesAnyWay ourWay → ⊥
 fake-any-way-is-served = fall .serves-any-refuses
+
+fake-unpack-refuses-everything : RoundTrip unpacksNothing → ⊥
+fake-unpack-refuses-everything = fall-hosts .unpacks-nothing
+
+fake-pack-writes-constants : RoundTrip packsConstants → ⊥
+fake-pack-writes-constants = fall-hosts .packs-constants
+
+fake-packs-bad-records : PacksWhatPushes packsAny → ⊥
+fake-packs-bad-records = fall-hosts .packs-any
+
+fake-unpacks-any-bytes : Exactly unpacksAny → ⊥
+fake-unpacks-any-bytes = fall-hosts .unpacks-any
+
+fake-packed-push-only-answers : ActsAlike onlyAnswers → ⊥
+fake-packed-push-only-answers = fall-hosts .only-answers
+
+fake-packed-push-never-refuses : Serves saysNothingEver → ⊥
+fake-packed-push-never-refuses = fall-hosts .says-nothing
+
+fake-packed-payload-withheld : HandsAlike handsNothing → ⊥
+fake-packed-payload-withheld = fall-hosts .hands-nothing
+
+fake-rest-of-the-array-cleared : RoundTrip clearsRest → ⊥
+fake-rest-of-the-array-cleared = fall-hosts .clears-rest
+
+fake-output-grows : PacksInOrder growsOutput → ⊥
+fake-output-grows = fall-hosts .grows-output
+
+fake-refused-output-cleared : LeavesRefused clearsRefused → ⊥
+fake-refused-output-cleared = fall-hosts .clears-refused

@@ -9,6 +9,7 @@ use Rattle.search.specs.Decided as Search
 use Rattle.decoder.specs.Decided as Decoder
 use Rattle.in_place.specs.Decided as InPlace
 use Rattle.decoder_slice.specs.Decided as Slice
+use Rattle.packed.specs.Decided as Packed
 use Rattle.lines.specs.Decided as Lines
 use Rattle.value.specs.Decided as Value
 use Rattle.common.specs.Decided as Common
@@ -27,6 +28,7 @@ pub record Views : Type 0 where
   pub decoder : Decoder.Views
   pub in-place : InPlace.Views
   pub decoder-slice : Slice.Views
+  pub packed : Packed.Views
   pub lines : Lines.Views
   pub value : Value.Views
   pub common : Common.Views
@@ -46,6 +48,7 @@ pub record Decided : Type 0 where
   pub decoder : Decoder.Decided
   pub in-place : InPlace.Decided
   pub decoder-slice : Slice.Decided
+  pub packed : Packed.Decided
   pub lines : Lines.Decided
   pub value : Value.Decided
   pub common : Common.Decided

@@ -5,9 +5,11 @@ pub mod Hides
 pub mod Chunks
 pub mod Second
 pub mod Ways
+pub mod Packed
 pub mod Encoders
 pub mod Events
 pub mod Bench
 pub mod Decided
 pub mod Fakes
+pub mod FakeHosts
 pub mod Marks

@@ -23,10 +23,12 @@ use Rattle.marks.specs.Hides.{Hides}
 use Rattle.marks.specs.Chunks.{ourSlicer, Chunks}
 use Rattle.marks.specs.Second.{Begins, SearchesAgain, HearsBehindNoise, ourSeeks, ourBegun}
 use Rattle.marks.specs.Ways.{ourWay, KeepsWay, RefusesUnknown}
+use Rattle.marks.specs.Packed.{ourHost, RoundTrip, Exactly, PacksWhatPushes, PacksInOrder, ActsAlike, SlicesAlike, HandsAlike, Serves, LeavesRefused, LeavesTidy, AnswersAlike}
 use Rattle.marks.specs.Encoders.{ourEncoder, SameBytes}
 use Rattle.marks.specs.Events.{ourReader, ourParser, ReaderGives, GoesOn, readerWith, parserWith, ListsEntries, SaysWhere, CallSaysWhere, TenAgain}
 use Rattle.marks.specs.Bench.{b5Second, Holds, Bench}
 use Rattle.marks.specs.Fakes.{NotOurs, Fall}
+use Rattle.marks.specs.FakeHosts.{FallHosts}
 
 pub record Marks : Type 0 where
   -- mark 1: one outcome for each input
@@ -58,6 +60,18 @@ pub record Marks : Type 0 where
       Counted C (stateOf (k .decoder) (k .memory)) (sinceFrom [] os (answers ours (ours .new C) m os))
   -- slices, cut anyhow, say what single pushes say
   pub chunks : Chunks ourSlicer
+  -- a decoder kept in 28 plain bytes: what is packed comes back, and exactly what packing gives is unpacked; packing answers 4 exactly where a push does, then 5 and 18 in order; each call over the bytes is the call over the record, pushes, finalize and reset also one after another; what is refused changes nothing, and calls leave no unused counts
+  pub round-trips : RoundTrip ourHost
+  pub exactly : Exactly ourHost
+  pub packs-what-pushes : PacksWhatPushes ourHost
+  pub packs-in-order : PacksInOrder ourHost
+  pub acts-alike : ActsAlike ourHost
+  pub slices-alike : SlicesAlike ourHost
+  pub hands-alike : HandsAlike ourHost
+  pub serves : Serves ourHost
+  pub leaves-refused : LeavesRefused ourHost
+  pub leaves-tidy : LeavesTidy
+  pub answers-alike : AnswersAlike ourHost
   -- encode and the Encoder give the same bytes
   pub same-bytes : SameBytes ourEncoder ourEncode
   -- mark 3: behind zero bytes every frame is heard
@@ -86,3 +100,4 @@ pub record Marks : Type 0 where
   -- what is false of ours, and what the marks are false of
   pub not-ours : NotOurs
   pub fall : Fall
+  pub fall-hosts : FallHosts

@@ -1,8 +1,10 @@
-// The commands of the wire, one a line, and an answer of one line each (docs/REPLAY.md): encode, encode_cap, stream, crc, push and push2. A line that is none of them is answered `bad command`.
+// The commands of the wire, one a line, and an answer of one line each (docs/REPLAY.md): encode, encode_cap, stream, crc, push, push2, packed, unpack and pack. A line that is none of them is answered `bad command`.
 mod alike;
 mod frames;
 mod line;
+mod packs;
 mod pushes;
+mod records;
 
 use decoder::Decoder;
 use line::bad;
@@ -18,14 +20,14 @@ pub(crate) const LARGEST: usize = 1048577;
 pub(crate) const SMALL: usize = 4096;
 
 // A number that is none, above every number that a command takes.
-const NONE: usize = 1000000000000;
+const NONE: usize = 1000000000000000000;
 
 // ---- numbers, of a line and of an answer
 
 fn with_digit(x: usize, c: u8) -> usize {
     let d = value(c);
     if d < 10 {
-        if x < 100000000 {
+        if x < 1000000000000000 {
             return x * 10 + d as usize;
         }
     }
@@ -62,10 +64,15 @@ pub(crate) fn hex_u16(x: u16) {
 
 pub(crate) fn command(s: &[u8]) {
     let rest = behind(s, b' ');
-    match find(b"encode,encode_cap,stream,crc,push,push2", first(s, b' ')) {
+    match find(
+        b"encode,encode_cap,stream,crc,push,push2,packed,unpack,pack",
+        first(s, b' '),
+    ) {
         1 => with_bytes(1, number(first(rest, b' ')), behind(rest, b' ')),
         4 => pushes::push(Decoder::FIRST_WAY, rest),
         5 => pushes::push(Decoder::SECOND_WAY, rest),
+        6 => pushes::packed(rest),
+        8 => records::pack(rest),
         which => with_bytes(which, 0, rest),
     }
 }
@@ -77,6 +84,7 @@ pub(crate) fn of_bytes(which: u8, room: usize, payload: &[u8]) {
         1 => frames::encode_cap(room, payload),
         2 => frames::stream(payload),
         3 => hex_u16(crc_x25::checksum(payload)),
+        7 => records::unpack(payload),
         _ => bad(),
     }
 }

@@ -1,4 +1,4 @@
-// The commands `push` and `push2`: a list of operations on a fresh decoder, which searches in the first way or the second. The three forms of a push are run side by side: by value, with the record lent to be changed in place, by the push of slices.
+// The commands `push`, `push2` and `packed`: a list of operations on a fresh decoder, which searches in the first way or the second. The four forms of a push are run side by side: by value, with the record lent to be changed in place, by the push of slices, and packed (packs.rt).
 // As long as the forms agree they leave the same record, so that one is kept; each form has its own memory. All is run without a word first; where the forms disagree, that is the answer.
 use super::LARGEST;
 use super::SMALL;
@@ -21,8 +21,11 @@ use super::line::same;
 use super::line::text;
 use super::line::unhex;
 use super::number;
+use super::packs;
+use super::packs::Form;
 use decoder::Decoder;
 use decoder::Event;
+use decoder::Pushed;
 
 // The most bytes that one zN:HH pushes.
 const MOST: usize = 1048576;
@@ -103,9 +106,10 @@ fn said_reset(said: bool, index: u64, count: u32) {
 
 // ---- operations
 
-// The decoder that all forms left, as long as they agreed; how many operations were done, and whether all were operations; whether events are written, and whether one was.
+// The decoder that all forms left, as long as they agreed, and the packed form; how many operations were done, and whether all were operations; whether events are written, and whether one was.
 struct Running {
     decoder: Decoder,
+    form: Form,
     index: u64,
     known: bool,
     agree: bool,
@@ -121,8 +125,8 @@ fn one_more(x: u64) -> u64 {
     if x < u64::MAX { x + 1 } else { x }
 }
 
-// One operation more, which left the decoder `d` and brought the event `e`, and whether the forms agreed on both.
-fn done(r: Running, d: Decoder, e: Event, agree: bool, buf: &[u8]) -> Running {
+// One operation more, which left the decoder `d` and the packed form `f` and brought the event `e`, and whether the forms agreed on both.
+fn done(r: Running, d: Decoder, f: Form, e: Event, agree: bool, buf: &[u8]) -> Running {
     let index = one_more(r.index);
     let told = told_event(e);
     let says = both(r.loud, told.kind != 0);
@@ -131,6 +135,7 @@ fn done(r: Running, d: Decoder, e: Event, agree: bool, buf: &[u8]) -> Running {
     }
     Running {
         decoder: d,
+        form: f,
         index,
         known: r.known,
         agree: both(r.agree, agree),
@@ -139,17 +144,26 @@ fn done(r: Running, d: Decoder, e: Event, agree: bool, buf: &[u8]) -> Running {
     }
 }
 
-// One byte pushed by value and in place; both must say `want`, and leave the same record.
-fn step(r: Running, b: u8, want: Event, v: &mut [u8], p: &mut [u8]) -> Running {
-    let d = r.decoder;
-    let x = d.push_byte(v, b);
-    let y = in_place::push_lent(d, p, b);
+// Whether a byte pushed by value and in place says `want`, and leaves the same record.
+fn alike(x: Pushed, y: Pushed, want: Event) -> bool {
     let xd = x.decoder;
     let yd = y.decoder;
     let xe = x.event;
     let ye = y.event;
     let events = both(same_event(xe, want), same_event(ye, want));
-    done(r, xd, xe, both(events, same_record(xd, yd)), &v[..])
+    both(events, same_record(xd, yd))
+}
+
+// One byte pushed by value, in place and packed.
+fn step(r: Running, b: u8, want: Event, v: &mut [u8], p: &mut [u8], q: &mut [u8]) -> Running {
+    let d = r.decoder;
+    let f = r.form;
+    let x = d.push_byte(v, b);
+    let y = in_place::push_lent(d, p, b);
+    let next = x.decoder;
+    let e = x.event;
+    let form = packs::push(f, b, want, next, q);
+    done(r, next, form, e, alike(x, y, want), &v[..])
 }
 
 // The event of the last byte, and none before.
@@ -157,8 +171,8 @@ fn wanted(left: usize, e: Event) -> Event {
     if left == 1 { e } else { Event::Nothing }
 }
 
-// The bytes that a push of a slice took, by value and in place.
-fn follow(r: Running, bytes: &[u8], e: Event, v: &mut [u8], p: &mut [u8]) -> Running {
+// The bytes that a push of a slice took, by value, in place and packed.
+fn follow(r: Running, bytes: &[u8], e: Event, v: &mut [u8], p: &mut [u8], q: &mut [u8]) -> Running {
     let n = bytes.len();
     let mut now = r;
     let mut i = 0;
@@ -166,7 +180,7 @@ fn follow(r: Running, bytes: &[u8], e: Event, v: &mut [u8], p: &mut [u8]) -> Run
         let b = bytes[i];
         let want = wanted(n - i, e);
         i += 1;
-        now = step(now, b, want, v, p);
+        now = step(now, b, want, v, p, q);
     }
     now
 }
@@ -179,8 +193,10 @@ fn same_payload(d: Decoder, v: &[u8], p: &[u8], s: &[u8]) -> bool {
 
 fn agreeing(r: Running, agree: bool) -> Running {
     let d = r.decoder;
+    let f = r.form;
     Running {
         decoder: d,
+        form: f,
         index: r.index,
         known: r.known,
         agree: both(r.agree, agree),
@@ -190,9 +206,28 @@ fn agreeing(r: Running, agree: bool) -> Running {
 }
 
 // All forms behind the bytes that a push of a slice took, which left the decoder `d`.
-fn caught_up(r: Running, d: Decoder, v: &[u8], p: &[u8], s: &[u8]) -> Running {
+fn caught_up(r: Running, d: Decoder, v: &[u8], p: &[u8], s: &[u8], q: &[u8]) -> Running {
     let now = r.decoder;
-    agreeing(r, both(same_record(now, d), same_payload(now, v, p, s)))
+    let f = r.form;
+    let payloads = both(
+        same_payload(now, v, p, s),
+        packs::same_payload(f, now, v, q),
+    );
+    agreeing(r, both(same_record(now, d), payloads))
+}
+
+// The same with another packed form.
+fn with_form(r: Running, f: Form) -> Running {
+    let d = r.decoder;
+    Running {
+        decoder: d,
+        form: f,
+        index: r.index,
+        known: r.known,
+        agree: r.agree,
+        loud: r.loud,
+        said: r.said,
+    }
 }
 
 // The decoder, and the place that was reached.
@@ -220,26 +255,37 @@ fn push_part(
     v: &mut [u8],
     p: &mut [u8],
     s: &mut [u8],
+    q: &mut [u8],
 ) -> Reached {
     let d = r.decoder;
-    let pushed = decoder_slice::push_slice(d, s, part(bytes, from, bytes.len()));
+    let f = r.form;
+    let rest = part(bytes, from, bytes.len());
+    let pushed = decoder_slice::push_slice(d, s, rest);
     let e = pushed.event;
     let next = pushed.decoder;
     let end = ahead(from, pushed.taken, bytes.len());
-    let followed = follow(r, part(bytes, from, end), e, v, p);
+    let sliced = packs::push_slice(f, r.index, rest, e, pushed.taken, next, q);
+    let followed = follow(with_form(r, sliced), part(bytes, from, end), e, v, p, q);
     Reached {
-        running: caught_up(followed, next, &v[..], &p[..], &s[..]),
+        running: caught_up(followed, next, &v[..], &p[..], &s[..], &q[..]),
         at: end,
     }
 }
 
 // A slice, event by event. A push that takes more bytes than there are agrees with nothing.
-fn push_chunk(r: Running, bytes: &[u8], v: &mut [u8], p: &mut [u8], s: &mut [u8]) -> Running {
+fn push_chunk(
+    r: Running,
+    bytes: &[u8],
+    v: &mut [u8],
+    p: &mut [u8],
+    s: &mut [u8],
+    q: &mut [u8],
+) -> Running {
     let n = bytes.len();
     let mut now = r;
     let mut i = 0;
     while i < n {
-        let reached = push_part(now, bytes, i, v, p, s);
+        let reached = push_part(now, bytes, i, v, p, s, q);
         let end = reached.at;
         now = reached.running;
         if end <= i {
@@ -251,43 +297,69 @@ fn push_chunk(r: Running, bytes: &[u8], v: &mut [u8], p: &mut [u8], s: &mut [u8]
 }
 
 // A byte up to SMALL times.
-fn push_some(r: Running, b: u8, times: usize, v: &mut [u8], p: &mut [u8], s: &mut [u8]) -> Running {
+fn push_some(
+    r: Running,
+    b: u8,
+    times: usize,
+    v: &mut [u8],
+    p: &mut [u8],
+    s: &mut [u8],
+    q: &mut [u8],
+) -> Running {
     let bytes = [b; SMALL];
-    push_chunk(r, part(&bytes, 0, times), v, p, s)
+    push_chunk(r, part(&bytes, 0, times), v, p, s, q)
 }
 
 // A byte many times, in slices of SMALL bytes, and what is left.
-fn push_run(r: Running, b: u8, times: usize, v: &mut [u8], p: &mut [u8], s: &mut [u8]) -> Running {
+fn push_run(
+    r: Running,
+    b: u8,
+    times: usize,
+    v: &mut [u8],
+    p: &mut [u8],
+    s: &mut [u8],
+    q: &mut [u8],
+) -> Running {
     let n = times / SMALL;
     let mut now = r;
     let mut i = 0;
     while i < n {
         i += 1;
-        now = push_some(now, b, SMALL, v, p, s);
+        now = push_some(now, b, SMALL, v, p, s, q);
     }
-    push_some(now, b, times % SMALL, v, p, s)
+    push_some(now, b, times % SMALL, v, p, s, q)
 }
 
-fn push_hex(r: Running, hex: &[u8], v: &mut [u8], p: &mut [u8], s: &mut [u8]) -> Running {
+fn push_hex(
+    r: Running,
+    hex: &[u8],
+    v: &mut [u8],
+    p: &mut [u8],
+    s: &mut [u8],
+    q: &mut [u8],
+) -> Running {
     let mut bytes = [0u8; BYTES];
     let len = unhex(hex, &mut bytes);
-    push_chunk(r, part(&bytes, 0, len), v, p, s)
+    push_chunk(r, part(&bytes, 0, len), v, p, s, q)
 }
 
-// finalize and reset have two forms: by value and in place.
+// finalize and reset have three forms: by value, in place and packed.
 fn finalize(r: Running, v: &[u8]) -> Running {
     let d = r.decoder;
+    let f = r.form;
     let x = d.finalize();
     let y = in_place::finalize_lent(d);
     let xd = x.decoder;
     let yd = y.decoder;
     let xe = x.event;
     let ye = y.event;
-    done(r, xd, xe, both(same_event(xe, ye), same_record(xd, yd)), v)
+    let alike = both(same_event(xe, ye), same_record(xd, yd));
+    done(r, xd, packs::finalize(f, xe, xd), xe, alike, v)
 }
 
 fn reset(r: Running) -> Running {
     let d = r.decoder;
+    let f = r.form;
     let x = d.reset();
     let y = in_place::reset_lent(d);
     let xd = x.decoder;
@@ -299,6 +371,7 @@ fn reset(r: Running) -> Running {
     }
     Running {
         decoder: xd,
+        form: packs::reset(f, x.count, xd),
         index,
         known: r.known,
         agree: both(r.agree, alike),
@@ -309,8 +382,10 @@ fn reset(r: Running) -> Running {
 
 fn unknown(r: Running) -> Running {
     let d = r.decoder;
+    let f = r.form;
     Running {
         decoder: d,
+        form: f,
         index: r.index,
         known: false,
         agree: r.agree,
@@ -349,10 +424,10 @@ fn op_kind(op: &[u8]) -> u8 {
     0
 }
 
-fn op(r: Running, text: &[u8], v: &mut [u8], p: &mut [u8], s: &mut [u8]) -> Running {
+fn op(r: Running, text: &[u8], v: &mut [u8], p: &mut [u8], s: &mut [u8], q: &mut [u8]) -> Running {
     let rest = part(text, 1, text.len());
     match op_kind(text) {
-        1 => push_hex(r, rest, v, p, s),
+        1 => push_hex(r, rest, v, p, s, q),
         2 => push_run(
             r,
             byte(behind(rest, b':'), 0),
@@ -360,6 +435,7 @@ fn op(r: Running, text: &[u8], v: &mut [u8], p: &mut [u8], s: &mut [u8]) -> Runn
             v,
             p,
             s,
+            q,
         ),
         3 => finalize(r, &v[..]),
         4 => reset(r),
@@ -384,14 +460,21 @@ fn behind_it(at: usize) -> usize {
     if at < usize::MAX { at + 1 } else { at }
 }
 
-fn run_ops(r: Running, ops: &[u8], v: &mut [u8], p: &mut [u8], s: &mut [u8]) -> Running {
+fn run_ops(
+    r: Running,
+    ops: &[u8],
+    v: &mut [u8],
+    p: &mut [u8],
+    s: &mut [u8],
+    q: &mut [u8],
+) -> Running {
     let mut now = r;
     let mut at = 0;
     let mut turns = u64::MAX;
     while turns > 0 {
         turns -= 1;
         let end = op_end(ops, at);
-        now = op(now, part(ops, at, end), v, p, s);
+        now = op(now, part(ops, at, end), v, p, s, q);
         if ops.len() <= end {
             return now;
         }
@@ -403,8 +486,10 @@ fn run_ops(r: Running, ops: &[u8], v: &mut [u8], p: &mut [u8], s: &mut [u8]) -> 
 // ---- push and push2
 
 fn begun(capacity: usize, way: u8, loud: bool, known: bool) -> Running {
+    let d = Decoder::with_way(capacity, way);
     Running {
-        decoder: Decoder::with_way(capacity, way),
+        decoder: d,
+        form: packs::begun(d),
         index: 0,
         known,
         agree: true,
@@ -413,15 +498,31 @@ fn begun(capacity: usize, way: u8, loud: bool, known: bool) -> Running {
     }
 }
 
-// A list of operations on a fresh decoder of this way whose capacity is the memory's. Compared are each event, the record behind it, each payload, and the memory behind all.
-fn run_new(ops: &[u8], way: u8, loud: bool, v: &mut [u8], p: &mut [u8], s: &mut [u8]) -> Running {
-    let first = begun(v.len(), way, loud, true);
-    let last = run_ops(first, ops, v, p, s);
-    let memory = both(same(&v[..], &p[..]), same(&v[..], &s[..]));
-    agreeing(last, memory)
+fn same_memory(v: &[u8], p: &[u8], s: &[u8], q: &[u8]) -> bool {
+    both(same(v, p), both(same(v, s), same(v, q)))
 }
 
-// The same in the first bytes of three buffers, where they have as many.
+// All forms behind the last operation.
+fn ended(r: Running, memory: bool) -> Running {
+    let f = r.form;
+    agreeing(r, both(f.agree, memory))
+}
+
+// A list of operations on a fresh decoder of this way whose capacity is the memory's. Compared are each event, the record behind it, each payload, and the memory behind all.
+fn run_new(
+    ops: &[u8],
+    way: u8,
+    loud: bool,
+    v: &mut [u8],
+    p: &mut [u8],
+    s: &mut [u8],
+    q: &mut [u8],
+) -> Running {
+    let last = run_ops(begun(v.len(), way, loud, true), ops, v, p, s, q);
+    ended(last, same_memory(&v[..], &p[..], &s[..], &q[..]))
+}
+
+// The same in the first bytes of four buffers, where they have as many.
 fn run_in(
     ops: &[u8],
     capacity: usize,
@@ -430,6 +531,7 @@ fn run_in(
     v: &mut [u8],
     p: &mut [u8],
     s: &mut [u8],
+    q: &mut [u8],
 ) -> Running {
     if v.len() < capacity {
         return begun(0, way, loud, false);
@@ -440,6 +542,9 @@ fn run_in(
     if s.len() < capacity {
         return begun(0, way, loud, false);
     }
+    if q.len() < capacity {
+        return begun(0, way, loud, false);
+    }
     run_new(
         ops,
         way,
@@ -447,6 +552,7 @@ fn run_in(
         &mut v[..capacity],
         &mut p[..capacity],
         &mut s[..capacity],
+        &mut q[..capacity],
     )
 }
 
@@ -454,7 +560,8 @@ fn run_small(ops: &[u8], capacity: usize, way: u8, loud: bool) -> Running {
     let mut v = [0u8; SMALL];
     let mut p = [0u8; SMALL];
     let mut s = [0u8; SMALL];
-    run_in(ops, capacity, way, loud, &mut v, &mut p, &mut s)
+    let mut q = [0u8; SMALL];
+    run_in(ops, capacity, way, loud, &mut v, &mut p, &mut s, &mut q)
 }
 
 // Arrays are lent by their own type, so that their length is known.
@@ -466,15 +573,17 @@ fn run_lent(
     v: &mut [u8; LARGEST],
     p: &mut [u8; LARGEST],
     s: &mut [u8; LARGEST],
+    q: &mut [u8; LARGEST],
 ) -> Running {
-    run_in(ops, capacity, way, loud, v, p, s)
+    run_in(ops, capacity, way, loud, v, p, s, q)
 }
 
 fn run_large(ops: &[u8], capacity: usize, way: u8, loud: bool) -> Running {
     let mut v = [0u8; LARGEST];
     let mut p = [0u8; LARGEST];
     let mut s = [0u8; LARGEST];
-    run_lent(ops, capacity, way, loud, &mut v, &mut p, &mut s)
+    let mut q = [0u8; LARGEST];
+    run_lent(ops, capacity, way, loud, &mut v, &mut p, &mut s, &mut q)
 }
 
 fn run_sized(ops: &[u8], capacity: usize, way: u8, loud: bool) -> Running {
@@ -485,20 +594,69 @@ fn run_sized(ops: &[u8], capacity: usize, way: u8, loud: bool) -> Running {
     }
 }
 
-pub(crate) fn push(way: u8, rest: &[u8]) {
-    let capacity = number(first(rest, b' '));
-    let ops = behind(rest, b' ');
-    let tried = run_sized(ops, capacity, way, false);
+// Whether the operations were known and the forms agreed; otherwise that is the answer.
+fn is_sound(tried: Running) -> bool {
     if !tried.known {
         bad();
-        return;
+        return false;
     }
     if !tried.agree {
         text(b"differ");
-        return;
+        return false;
     }
+    true
+}
+
+// The events, and what is left behind them.
+fn events(ops: &[u8], capacity: usize, way: u8) -> Form {
     let last = run_sized(ops, capacity, way, true);
     if !last.said {
         text(b"-");
     }
+    let f = last.form;
+    f
+}
+
+pub(crate) fn push(way: u8, rest: &[u8]) {
+    let capacity = number(first(rest, b' '));
+    let ops = behind(rest, b' ');
+    if is_sound(run_sized(ops, capacity, way, false)) {
+        events(ops, capacity, way);
+    }
+}
+
+// ---- packed
+
+fn packed_behind(ops: &[u8], capacity: usize, way: u8) {
+    let tried = run_sized(ops, capacity, way, false);
+    if !is_sound(tried) {
+        return;
+    }
+    let f = tried.form;
+    if f.refusal != 0 {
+        text(b"refused ");
+        decimal(f.refusal as u64);
+        return;
+    }
+    let last = events(ops, capacity, way);
+    let bytes = last.bytes;
+    text(b" / ");
+    hex(&bytes);
+}
+
+// WAY, CAP and OPS, or `-` for no operation, which is the push of no byte.
+pub(crate) fn packed(rest: &[u8]) {
+    let way = number(first(rest, b' '));
+    let sized = behind(rest, b' ');
+    let capacity = number(first(sized, b' '));
+    let ops = behind(sized, b' ');
+    if 255 < way {
+        bad();
+        return;
+    }
+    if same(ops, b"-") {
+        packed_behind(b"b-", capacity, way as u8);
+        return;
+    }
+    packed_behind(ops, capacity, way as u8);
 }

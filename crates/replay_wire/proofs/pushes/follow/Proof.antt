@@ -6,10 +6,10 @@ use Rattle.replay_wire.proofs.pushes.follow.Statement.{statement}
 use Rattle.replay_wire.proofs.pushes.follow.Tie as tie
 
 abbrev Inv-loop : tie.InvT-loop
-Inv-loop bytes e v₀ p₀ n now₀ i₀ v p now i = (n ≡ length bytes) × (length v ≡ length v₀) × (length p ≡ length p₀)
+Inv-loop bytes e v₀ p₀ q₀ n now₀ i₀ v p q now i = (n ≡ length bytes) × (length v ≡ length v₀) × (length p ≡ length p₀) × (length q ≡ length q₀)
 
 abbrev μ-loop : tie.MeasureT-loop
-μ-loop bytes e v₀ p₀ n now₀ i₀ v p now i = n - i
+μ-loop bytes e v₀ p₀ q₀ n now₀ i₀ v p q now i = n - i
 
 loop-holds : tie.Need-loop-holds Inv-loop μ-loop
 loop-holds c = search needs
@@ -41,6 +41,9 @@ same-length c = search needs
 same-length-2 : tie.Need-same-length-2 Inv-loop μ-loop
 same-length-2 c = search needs
 
+same-length-3 : tie.Need-same-length-3 Inv-loop μ-loop
+same-length-3 c = search needs
+
 returns : tie.Need-returns Inv-loop μ-loop
 returns c = search needs
 
@@ -60,4 +63,5 @@ follow-spec =
     loop-again
     same-length
     same-length-2
+    same-length-3
     returns)

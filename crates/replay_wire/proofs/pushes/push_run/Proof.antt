@@ -6,10 +6,10 @@ use Rattle.replay_wire.proofs.pushes.push_run.Statement.{statement}
 use Rattle.replay_wire.proofs.pushes.push_run.Tie as tie
 
 abbrev Inv-loop : tie.InvT-loop
-Inv-loop b times v₀ p₀ s₀ n now₀ i₀ v p s now i = (length v ≡ length v₀) × (length p ≡ length p₀) × (length s ≡ length s₀)
+Inv-loop b times v₀ p₀ s₀ q₀ n now₀ i₀ v p s q now i = (length v ≡ length v₀) × (length p ≡ length p₀) × (length s ≡ length s₀) × (length q ≡ length q₀)
 
 abbrev μ-loop : tie.MeasureT-loop
-μ-loop b times v₀ p₀ s₀ n now₀ i₀ v p s now i = n - i
+μ-loop b times v₀ p₀ s₀ q₀ n now₀ i₀ v p s q now i = n - i
 
 loop-holds : tie.Need-loop-holds Inv-loop μ-loop
 loop-holds c = search needs
@@ -38,6 +38,9 @@ same-length-2 c = search needs
 same-length-3 : tie.Need-same-length-3 Inv-loop μ-loop
 same-length-3 c = search needs
 
+same-length-4 : tie.Need-same-length-4 Inv-loop μ-loop
+same-length-4 c = search needs
+
 returns : tie.Need-returns Inv-loop μ-loop
 returns c = search needs
 
@@ -56,4 +59,5 @@ push-run-spec =
     same-length
     same-length-2
     same-length-3
+    same-length-4
     returns)
