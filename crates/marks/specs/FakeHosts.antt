@@ -111,7 +111,7 @@ clearsRest =
 abbrev pub refusesLonger : Host
 refusesLonger = record { pack = packInto; unpack = λ l. cond (ltb 28 (length l)) (noRecord badStateNo) (unpackOf l); act = actOver; pushSlice = ourHost .pushSlice; payloadOf = ourHost .payloadOf; ask = ourHost .ask }
 
--- resets any bytes, as any record can be reset
+-- answers every operation over any bytes with a count of 0, as if any bytes could be reset
 abbrev pub resetsAny : Host
 resetsAny = record { pack = packInto; unpack = ourHost .unpack; act = λ l m o. asItWas (count 0) l m; pushSlice = ourHost .pushSlice; payloadOf = ourHost .payloadOf; ask = ourHost .ask }
 

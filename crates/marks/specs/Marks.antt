@@ -60,7 +60,7 @@ pub record Marks : Type 0 where
       Counted C (stateOf (k .decoder) (k .memory)) (sinceFrom [] os (answers ours (ours .new C) m os))
   -- slices, cut anyhow, say what single pushes say
   pub chunks : Chunks ourSlicer
-  -- a decoder kept in 28 plain bytes: what is packed comes back, and exactly what packing gives is unpacked; packing answers 4 exactly where a push does, then 5 and 18 in order; each call over the bytes is the call over the record, pushes, finalize and reset also one after another; what is refused changes nothing, and calls leave no unused counts
+  -- a decoder kept in 28 plain bytes: what is packed comes back, and exactly what packing gives is unpacked; packing answers 4 exactly where a push does, then 5 and 18 in order; each call over the bytes is the call over the record, pushes, finalize and reset also one after another; what is refused changes nothing, and calls leave no unused counts where there were none
   pub round-trips : RoundTrip ourHost
   pub exactly : Exactly ourHost
   pub packs-what-pushes : PacksWhatPushes ourHost

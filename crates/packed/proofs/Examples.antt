@@ -1,4 +1,4 @@
--- Some of the request's rows, computed; all of them are lines of crates/replay_wire/stdin.
+-- Some rows of document 02's Q-11, computed; tests/test_packed.py runs all of them.
 use mathlib.Core.Path.{_≡_, refl}
 use mathlib.Core.List.{List, [], _∷_, _++_}
 use Prim.Native.Nat.{ℕ}

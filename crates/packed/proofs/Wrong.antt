@@ -122,7 +122,7 @@ packed-push-keeps-the-bytes : (e : Event) (m : List ℕ) → keptPush e newRow m
 unfolding packInto badDecoder packedIn packedBytes lowFirst unpackOf recordIn numberAt stateIn same pushPacked pushRecord pushed wrongBuffer wrote step searching
 packed-push-keeps-the-bytes e m h = let raw : _≡_ {A = ℕ} 0 1 = ap (λ (k : KeptBytes). getD (k .bytes) 16 0) h in omega (arith, raw)
 
-packed-push-judges-the-buffer-first : (l m : List ℕ) → keptPush WrongBuffer l m ≡ pushPacked [] [] 0x1b → ⊥
+packed-push-judges-the-buffer-first : (l m : List ℕ) → keptPush WrongBuffer l m ≡ pushPacked (replicate 28 0) memory8 0x1b → ⊥
 unfolding packInto badDecoder packedIn packedBytes lowFirst unpackOf recordIn numberAt stateIn same pushPacked pushRecord pushed wrongBuffer wrote step searching noOf
 packed-push-judges-the-buffer-first l m h = let n : _≡_ {A = ℕ} 5 4 = ap (λ (k : KeptBytes). noOf (k .answer)) h in omega (arith, n)
 

@@ -1,4 +1,4 @@
-// The commands `push`, `push2` and `packed`: a list of operations on a fresh decoder, which searches in the first way or the second. The four forms of a push are run side by side: by value, with the record lent to be changed in place, by the push of slices, and packed (packs.rt).
+// The commands `push`, `push2` and `packed`: a list of operations on a fresh decoder, which searches in the first way or the second (`packed`: in any, which may be unknown). The four forms of a push are run side by side: by value, with the record lent to be changed in place, by the push of slices, and packed (packs.rt).
 // As long as the forms agree they leave the same record, so that one is kept; each form has its own memory. All is run without a word first; where the forms disagree, that is the answer.
 use super::LARGEST;
 use super::SMALL;
