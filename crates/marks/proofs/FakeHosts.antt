@@ -1,19 +1,17 @@
 -- Each fake of a host falls: one small call, computed, is not what the claim says.
 use mathlib.Core.Path.{_≡_, refl, ap}
-use mathlib.Core.Bool.{true, false}
 use mathlib.Core.List.{List, [], _∷_, _++_}
 use Prim.Native.Nat.{ℕ, zero, suc, _<_}
 use native.Mathlib.Omega.{arith}
 use lib.ListN.{length, getD, replicate}
 use Rattle.frame.specs.Frame.{same}
-use Rattle.crc_x25.specs.Crc.{reflect, polynomial, bitStep, bitSteps, byteStep, register}
 use Rattle.decoder.specs.Push.{sized, inWay, done, searching, step, resetCount}
-use Rattle.decoder.specs.Record.{DecoderAnswer, nothing, payload, count, refusal, wrote, badDecoder, wrongBuffer, hasPayload, newRecord, recordOf, pushed, pushRecord, resetRecord, payloadRecord, askRecord}
+use Rattle.decoder.specs.Record.{DecoderAnswer, nothing, payload, count, refusal, wrote, badDecoder, wrongBuffer, hasPayload, newRecord, recordOf, pushed, pushRecord, resetRecord, payloadRecord}
 use Rattle.decoder.specs.Run.{isFirst, push, reset, act}
 use Rattle.decoder.specs.declared.Decoder.{Decoder}
 use Rattle.decoder_slice.specs.Slice.{pushesFrom, sliceRecord}
 use Rattle.packed.specs.Layout.{Narrow, lowFirst, numberAt, stateIn, packedBytes, packedIn, recordIn}
-use Rattle.packed.specs.Packed.{Filled, Unpacked, holds, noRecord, packInto, unpackOf, pushPacked, slicePacked, resetPacked, payloadPacked, askPacked}
+use Rattle.packed.specs.Packed.{Filled, Unpacked, holds, noRecord, packInto, unpackOf, pushPacked, resetPacked}
 use Rattle.marks.specs.Decoders.{Gave, answers}
 use Rattle.marks.specs.Packed.{RoundTrip, Exactly, PacksWhatPushes, PacksInOrder, ActsAlike, SlicesAlike, HandsAlike, Serves, LeavesRefused, AnswersAlike}
 use Rattle.marks.specs.FakeHosts.{unpacksNothing, packsConstants, newBytes, packsAny, unpacksAny, onlyAnswers, saysNothingEver, handsNothing, clearsRefused, growsOutput, roomFirst, clearsRest, refusesLonger, resetsAny, FallHosts}

@@ -1,8 +1,7 @@
 -- Counts keep to the width of the record's types where bytes are pushed over a buffer of bytes.
-use mathlib.Core.Path.{_≡_, refl, ap, sym, _∙_}
-use mathlib.Core.Bool.{Bool, true, false, cond}
+use mathlib.Core.Path.{_≡_, refl}
 use mathlib.Core.List.{List, [], _∷_, _++_}
-use Prim.Native.Nat.{ℕ, zero, suc, _+_, _-_, _≤_, _<_}
+use Prim.Native.Nat.{ℕ, zero, suc, _+_, _≤_, _<_}
 use native.Mathlib.Omega.{arith}
 use lib.ListN.{length, take, drop, getD, replicate}
 use lib.Dec.{eqb, leb}
@@ -11,7 +10,7 @@ use Rattle.crc_x25.specs.Crc.{start, register}
 use Rattle.crc_x25.proofs.Laws.{register-fits}
 use Rattle.frame.specs.Frame.{escSeq, restartSeq, startSeq}
 use Rattle.decoder.specs.Push.{Mem, State, search, body, escape, done, Out, put, moreNoise, begun, fresh, step}
-use Rattle.decoder.specs.Record.{After, setup, stateAs, stateOf, recordOf, waiting, badDecoder, wrongBuffer, wrote, written, pushed, pushRecord, finalizeRecord, resetRecord}
+use Rattle.decoder.specs.Record.{After, setup, stateAs, stateOf, recordOf, badDecoder, wrongBuffer, wrote, pushed, pushRecord, finalizeRecord, resetRecord}
 use Rattle.decoder.specs.Run.{Op, push, finalize, reset, act}
 use Rattle.decoder.specs.Saw.{Judged, is-data, restarts, good, bad, shifts, unknown, Saw, sought, began, again, waits, opens, stores, full, collects, judges, full′}
 use Rattle.decoder.specs.declared.DecodeState.{DecodeState}
@@ -21,7 +20,7 @@ use Rattle.decoder.specs.declared.Setup.{Setup}
 use Rattle.decoder.proofs.Saw.{saw}
 use Rattle.decoder.proofs.Split.{cases}
 use Rattle.since.specs.Since.{AllBytes}
-use Rattle.packed.specs.Layout.{noiseCount, Narrow}
+use Rattle.packed.specs.Layout.{Narrow}
 use Rattle.marks.specs.Mark2.{PushesBytes}
 use Rattle.marks.specs.Packed.{AreBytes}
 

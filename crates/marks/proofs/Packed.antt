@@ -1,18 +1,18 @@
 -- A state in 28 bytes: what is claimed of it holds of ours.
 use mathlib.Core.Path.{_≡_, refl, ap, sym, subst, _∙_}
-use mathlib.Core.Bool.{Bool, true, false, cond}
-use mathlib.Core.List.{List, [], _∷_, _++_}
-use Prim.Native.Nat.{ℕ, zero, suc, _+_, min, _≤_, _<_}
+use mathlib.Core.Bool.{Bool, true, false}
+use mathlib.Core.List.{List, [], _∷_}
+use Prim.Native.Nat.{ℕ, zero, suc, _≤_}
 use native.Mathlib.Omega.{arith}
-use lib.ListN.{length, take, drop, getD, replicate, length-take}
+use lib.ListN.{length, take, replicate}
 use lib.Dec.{eqb, ltb}
 use borrow.Author.Tests.{ne-eqb, eq-eqb, le-ltb, ltb-false}
-use Rattle.refusals.specs.Numbers.{badStateNo, wrongBufferNo, outputTooShortNo, badSpanNo, limit}
+use Rattle.refusals.specs.Numbers.{badStateNo, wrongBufferNo, badSpanNo, limit}
 use Rattle.frame.specs.Frame.{same}
 use Rattle.decoder.specs.Push as P
 use Rattle.decoder.specs.Push.{step}
-use Rattle.decoder.specs.Record.{DecoderAnswer, nothing, payload, count, refusal, After, after, numbered, setup, stateOf, badDecoder, wrongBuffer, hasPayload, recordOf, pushed, newRecord, pushRecord, finalizeRecord, resetRecord, payloadRecord, askRecord}
-use Rattle.decoder.specs.Run.{KnownWay, Op, push, finalize, reset}
+use Rattle.decoder.specs.Record.{DecoderAnswer, nothing, payload, count, refusal, after, numbered, setup, stateOf, badDecoder, wrongBuffer, recordOf, pushed, newRecord, pushRecord, finalizeRecord, resetRecord, payloadRecord, askRecord}
+use Rattle.decoder.specs.Run.{Op, push, finalize, reset}
 use Rattle.decoder.specs.Run as R
 use Rattle.decoder.specs.declared.Decoder.{Decoder}
 use Rattle.decoder.specs.declared.Setup.{Setup}
@@ -20,16 +20,16 @@ use Rattle.decoder.proofs.Split.{cases}
 use Rattle.decoder.proofs.Search.{known-is}
 use Rattle.decoder.proofs.Reached.{push-good-stays, push-setup, finalize-good-stays, finalize-setup, reset-good, reset-setup, byNew, reached-good}
 use Rattle.decoder.proofs.Valid.{sane-way}
-use Rattle.decoder_slice.specs.Slice.{Took, saysNothing, pushesFrom, sliceRecord}
+use Rattle.decoder_slice.specs.Slice.{saysNothing, pushesFrom, sliceRecord}
 use Rattle.since.specs.Since.{AllBytes}
 use Rattle.packed.specs.Layout.{tidied, Narrow, packedIn, recordIn}
-use Rattle.packed.specs.Packed.{Filled, answering, Unpacked, holds, noRecord, packInto, unpackOf, pushPacked, slicePacked, finalizePacked, resetPacked, payloadPacked, askPacked}
+use Rattle.packed.specs.Packed.{Filled, answering, holds, noRecord, packInto, unpackOf, pushPacked, slicePacked, finalizePacked, resetPacked, payloadPacked, askPacked}
 use Rattle.packed.proofs.Held.{Packs, packs, pack-bad, pack-over, pack-short, pack-good, holds-record, never-held, slice-stays}
 use Rattle.packed.proofs.RoundTrip as T
-use Rattle.packed.proofs.RoundTrip.{tidy-is, tidy-good, packed-over, packed-room, packed-long, packed-rest, packed-first, comes-back, tidy-push, tidy-finalize, tidy-reset, tidy-payload, tidy-slice}
-use Rattle.marks.specs.Decoders.{Gave, Machine, ours, answers, LeftBehind, leftBehind}
+use Rattle.packed.proofs.RoundTrip.{tidy-is, packed-over, packed-room, packed-long, packed-rest, packed-first, comes-back, tidy-push, tidy-finalize, tidy-reset, tidy-payload, tidy-slice}
+use Rattle.marks.specs.Decoders.{ours, answers, LeftBehind, leftBehind}
 use Rattle.marks.specs.Mark2.{PushesBytes}
-use Rattle.marks.specs.Packed.{Host, asItWas, actOver, ourHost, RoundTrip, Exactly, PacksWhatPushes, PacksInOrder, ActsAlike, SlicesAlike, HandsAlike, Serves, LeavesRefused, LeavesTidy, keptBy, AnswersAlike}
+use Rattle.marks.specs.Packed.{asItWas, actOver, ourHost, RoundTrip, Exactly, PacksWhatPushes, PacksInOrder, ActsAlike, SlicesAlike, HandsAlike, Serves, LeavesRefused, LeavesTidy, keptBy, AnswersAlike}
 use Rattle.marks.proofs.Narrow.{bytes-all, new-narrow, Tame, act-tame}
 
 -- ---- packing and unpacking

@@ -6,8 +6,6 @@ use lib.ListN.{length, take, drop, replicate}
 use lib.Dec.{ltb}
 use Rattle.refusals.specs.Numbers.{badStateNo, wrongBufferNo, badSpanNo, outputTooShortNo, limit}
 use Rattle.decoder.specs.Record.{nothing, count, refusal, badDecoder}
-use Rattle.decoder.specs.Run.{Op}
-use Rattle.decoder.specs.declared.Decoder.{Decoder}
 use Rattle.packed.specs.Layout.{packedIn, recordIn}
 use Rattle.packed.specs.Packed.{answering, holds, noRecord, packInto, unpackOf}
 use Rattle.marks.specs.Packed.{Host, asItWas, actOver, ourHost, RoundTrip, Exactly, PacksWhatPushes, PacksInOrder, ActsAlike, SlicesAlike, HandsAlike, Serves, LeavesRefused, AnswersAlike}

@@ -1,6 +1,6 @@
 -- claim: a decoder's state in 28 plain bytes (document 02, Q-11), whichever packing it is: what is packed comes back, no other bytes are unpacked, and a call over the bytes is the call over the record.
 use mathlib.Core.Path.{_≡_}
-use mathlib.Core.List.{List, [], _∷_}
+use mathlib.Core.List.{List, []}
 use Prim.Native.Nat.{ℕ, _<_, _≤_}
 use lib.ListN.{length, take, drop, getD, replicate}
 use mathlib.Core.Bool.{false}

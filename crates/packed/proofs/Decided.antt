@@ -1,20 +1,19 @@
 -- Each view can be undone, so a contract allows one outcome for each input.
 use mathlib.Core.Path.{_≡_, refl, ap, sym, _∙_}
 use mathlib.Core.Bool.{cond}
-use mathlib.Core.List.{List, []}
+use mathlib.Core.List.{List}
 use Prim.Native.Nat.{ℕ}
 use lib.Dec.{eqb}
 use Rattle.decided.specs.One.{With, Beside, Injective}
 use Rattle.decided.proofs.Laws.{injective}
-use Rattle.decoder.specs.Record.{DecoderAnswer, nothing, payload, count, refusal, After, after, Left, left, answerAsked}
+use Rattle.decoder.specs.Record.{DecoderAnswer, nothing, payload, count, refusal, after, left, answerAsked}
 use Rattle.decoder.specs.declared.Event.{Event}
 use Rattle.decoder.specs.declared.Pushed.{Pushed}
-use Rattle.decoder.specs.declared.Finalized.{Finalized}
 use Rattle.decoder.proofs.Answers.{one-push, finalize-one}
 use Rattle.decoder.proofs.Decided.{views as decoderViews}
 use Rattle.in_place.specs.declared.Taken.{Taken}
 use Rattle.packed.specs.Layout.{recordIn}
-use Rattle.packed.specs.Packed.{Filled, filled, Unpacked, holds, noRecord, unpackedAs, KeptBytes, keptPush, KeptSlice, keptSlice, KeptLeft, keptEvent, keptReset}
+use Rattle.packed.specs.Packed.{Filled, filled, Unpacked, holds, noRecord, unpackedAs, keptPush, keptSlice, KeptLeft, keptEvent, keptReset}
 use Rattle.packed.specs.declared.Packing.{Packing}
 use Rattle.packed.specs.declared.Packing.the-variants as P
 use Rattle.packed.specs.declared.Unpacking.{Unpacking}

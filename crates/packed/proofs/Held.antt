@@ -1,19 +1,18 @@
 -- What is known of bytes that are unpacked, and each call over them.
 use mathlib.Core.Path.{_≡_, refl, sym, ap, _∙_}
-use mathlib.Core.Bool.{Bool, true, false, cond}
-use mathlib.Core.List.{List, [], _∷_, _++_}
-use Prim.Native.Nat.{ℕ, zero, suc, _+_, _*_, _%_, _/_, _<_, _≤_}
+use mathlib.Core.Bool.{true, false}
+use mathlib.Core.List.{List, [], _∷_}
+use Prim.Native.Nat.{ℕ, suc, _<_, _≤_}
 use native.Mathlib.Omega.{arith}
-use lib.ListN.{length, take, drop, getD}
-use lib.Dec.{eqb, ltb}
+use lib.ListN.{length}
+use lib.Dec.{ltb}
 use borrow.Author.Tests.{lt-ltb, le-ltb, ltb-true, ltb-false}
 use Rattle.refusals.specs.Numbers.{badStateNo, wrongBufferNo, badSpanNo, outputTooShortNo, limit}
 use Rattle.frame.specs.Frame.{same}
 use Rattle.frame.proofs.Same.{same-true}
 use Rattle.decoder.specs.declared.Setup.{Setup}
-use Rattle.decoder.specs.Record.{DecoderAnswer, nothing, payload, count, refusal, After, Left, setup, answerOf, afterPush, afterFinalize, afterReset, answerAsked, badDecoder, wrongBuffer, pushRecord, finalizeRecord, resetRecord, payloadRecord, askRecord}
+use Rattle.decoder.specs.Record.{DecoderAnswer, nothing, count, refusal, After, setup, afterPush, afterFinalize, afterReset, badDecoder, wrongBuffer, pushRecord, finalizeRecord, resetRecord, payloadRecord, askRecord}
 use Rattle.decoder.specs.declared.Decoder.{Decoder}
-use Rattle.decoder.specs.declared.Event.{Event}
 use Rattle.decoder.specs.declared.Event.the-variants as E
 use Rattle.decoder.specs.declared.Pushed.{Pushed}
 use Rattle.decoder.specs.declared.Finalized.{Finalized}
@@ -21,16 +20,14 @@ use Rattle.decoder.specs.declared.AfterReset.{AfterReset}
 use Rattle.decoder.proofs.Split.{cases}
 use Rattle.decoder.proofs.Valid.{sane}
 use Rattle.decoder.proofs.Reached.{push-good-stays, push-setup}
-use Rattle.decoder_slice.specs.Slice.{Took, took, saysNothing, afterSlice, pushesFrom, sliceRecord}
+use Rattle.decoder_slice.specs.Slice.{Took, saysNothing, afterSlice, pushesFrom, sliceRecord}
 use Rattle.decoder_slice.specs.declared.Sliced.{Sliced}
 use Rattle.decoder_slice.proofs.Runs.{never}
-use Rattle.in_place.specs.declared.Taken.{Taken}
-use Rattle.packed.specs.Layout.{lowFirst, numberAt, usedIn, tidied, packedBytes, packedIn, recordIn}
-use Rattle.packed.specs.Packed.{Filled, answering, packInto, Unpacked, holds, noRecord, unpackedAs, unpackOf, KeptBytes, keptPush, pushPacked, keptSlice, slicePacked, keptEvent, finalizePacked, keptReset, resetPacked, payloadPacked, askPacked}
+use Rattle.packed.specs.Layout.{lowFirst, numberAt, packedBytes, packedIn, recordIn}
+use Rattle.packed.specs.Packed.{answering, packInto, holds, noRecord, unpackedAs, unpackOf, keptPush, pushPacked, keptSlice, slicePacked, keptEvent, finalizePacked, keptReset, resetPacked, payloadPacked, askPacked}
 use Rattle.packed.specs.declared.Unpacking.{Unpacking}
 use Rattle.packed.specs.declared.Unpacking.the-variants as U
 use Rattle.packed.specs.declared.WasReset.the-variants as W
-use Rattle.packed.proofs.Again.{top}
 
 pub never-held : {G : Type 0} {n : ℕ} {d : Decoder} → noRecord n ≡ holds d → G
 never-held h =

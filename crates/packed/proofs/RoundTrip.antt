@@ -1,16 +1,14 @@
 -- What is packed comes back, its unused counts 0, and no call tells the two apart.
 use mathlib.Core.Path.{_≡_, refl, sym, ap, _∙_}
-use mathlib.Core.Bool.{Bool, true, false, cond}
+use mathlib.Core.Bool.{false}
 use mathlib.Core.List.{List, [], _∷_, _++_}
-use Prim.Native.Nat.{ℕ, zero, suc, _+_, _*_, _%_, _/_, _<_, _≤_}
+use Prim.Native.Nat.{ℕ, _<_, _≤_}
 use native.Mathlib.Omega.{arith}
-use lib.ListN.{length, take, drop, getD, length-append, length-drop, take-append-drop}
-use lib.Dec.{eqb, ltb}
+use lib.ListN.{length, take, drop, getD, length-drop, take-append-drop}
 use borrow.Author.Tests.{le-ltb}
 use Rattle.refusals.specs.Numbers.{limit, countStop}
 use Rattle.frame.proofs.Same.{same-self}
-use Rattle.decoder.specs.Push.{step, finalized, resetCount}
-use Rattle.decoder.specs.Record.{DecoderAnswer, nothing, After, Left, setup, stateOf, badIn, badDecoder, wrongBuffer, hasPayload, pushed, pushRecord, finalizeRecord, resetRecord, payloadRecord, askRecord}
+use Rattle.decoder.specs.Record.{After, badDecoder, wrongBuffer, hasPayload, pushed, pushRecord, finalizeRecord, resetRecord}
 use Rattle.decoder.specs.declared.DecodeState.{DecodeState}
 use Rattle.decoder.specs.declared.DecodeState.the-variants.{LookingForMessageStart, ParsingNormal, ParsingEscChars, ParsingEscPayload, Done}
 use Rattle.decoder.specs.declared.Decoder.{Decoder}

@@ -6,22 +6,19 @@ use native.Mathlib.Omega.{arith}
 use lib.ListN.{length, replicate, getD}
 use Rattle.decided.specs.Part.{LentPart, partAt}
 use Rattle.frame.specs.Frame.{same}
-use Rattle.crc_x25.specs.Crc.{reflect, polynomial, bitStep, bitSteps, byteStep, register}
-use Rattle.decoder.specs.Push.{sized, inWay, search, begun, done, searching, store, step, finalized, resetCount}
+use Rattle.decoder.specs.Push.{sized, inWay, search, searching, step, finalized, resetCount}
 use Rattle.decoder.specs.Record.{DecoderAnswer, nothing, payload, count, refusal, answerAsked, wrote, badDecoder, wrongBuffer, hasPayload, recordWith, newRecord, recordOf, pushed, pushRecord, finalizeRecord, resetRecord, payloadRecord, askRecord}
-use Rattle.decoder.specs.declared.DecodeState.the-variants.{LookingForMessageStart, ParsingNormal, Done}
+use Rattle.decoder.specs.declared.DecodeState.the-variants.{Done}
 use Rattle.decoder.specs.declared.Decoder.{Decoder}
 use Rattle.decoder.specs.declared.Event.{Event}
 use Rattle.decoder.specs.declared.Event.the-variants.{BadState, WrongBuffer}
-use Rattle.decoder.specs.declared.Asked.the-variants.{Good, BadSpan}
-use Rattle.decoder_slice.specs.Slice.{saysNothing, pushesFrom, sliceRecord}
+use Rattle.decoder.specs.declared.Asked.the-variants.{Good}
+use Rattle.decoder_slice.specs.Slice.{pushesFrom, sliceRecord}
 use Rattle.in_place.specs.declared.Taken.{Taken}
 use Rattle.packed.specs.Layout.{lowFirst, numberAt, stateIn, packedBytes, packedIn, recordIn}
 use Rattle.packed.specs.Packed.{Filled, filled, packInto, Unpacked, holds, noRecord, unpackedAs, unpackOf, KeptBytes, keptPush, pushPacked, KeptSlice, keptSlice, slicePacked, KeptLeft, keptEvent, finalizePacked, keptReset, resetPacked, payloadPacked, askPacked}
-use Rattle.packed.specs.declared.Packing.{Packing}
 use Rattle.packed.specs.declared.Packing.the-variants as P
 use Rattle.packed.specs.declared.Unpacking.the-variants as U
-use Rattle.packed.specs.declared.WasReset.{WasReset}
 use Rattle.packed.specs.declared.WasReset.the-variants as W
 
 -- a new decoder of capacity 8, in the first way and in the second; a search of the second way behind 00 1b 1b; one behind a payload whose unused counts aren't 0
@@ -107,6 +104,10 @@ unfolding packInto badDecoder packedIn packedBytes lowFirst
 rest-of-output-cleared m k h = let b : _≡_ {A = ℕ} (getD m 28 0) 0xee = ap (λ (f : Filled). getD (f .output) 28 0) h in omega (arith, k, b)
 
 -- ---- unpacking
+
+zeros-not-looked-at : (d : Decoder) → unpackedAs (U.Good d) ≡ unpackOf (0 ∷ 2 ∷ 2 ∷ 0 ∷ 0xff ∷ 0xff ∷ 0 ∷ 1 ∷ replicate 8 0 ++ 3 ∷ 0 ∷ 0 ∷ 0 ∷ 1 ∷ 0 ∷ 0 ∷ 0 ∷ 8 ∷ 0 ∷ 0 ∷ 0 ∷ []) → ⊥
+unfolding packInto badDecoder packedIn packedBytes lowFirst unpackOf recordIn numberAt stateIn same heldOf
+zeros-not-looked-at d h = let n : _≡_ {A = ℕ} 1 4 = ap heldOf h in omega (arith, n)
 
 longer-bytes-refused : unpackedAs U.BadState ≡ unpackOf (newRow ++ 0xee ∷ []) → ⊥
 unfolding packInto badDecoder packedIn packedBytes lowFirst unpackOf recordIn numberAt stateIn same heldOf

@@ -1,12 +1,12 @@
 -- rule: packing, unpacking and the decoder's calls over the 28 bytes, by the definitions that the calls over the record cite; what is refused, and what each call leaves.
 use mathlib.Core.Bool.{cond}
-use mathlib.Core.List.{List, [], _∷_}
+use mathlib.Core.List.{List, []}
 use Prim.Native.Nat.{ℕ}
 use lib.ListN.{length, take}
 use lib.Dec.{ltb}
 use Rattle.refusals.specs.Numbers.{badStateNo, wrongBufferNo, badSpanNo, outputTooShortNo, limit}
 use Rattle.frame.specs.Frame.{same}
-use Rattle.decoder.specs.Record.{DecoderAnswer, nothing, payload, count, refusal, answerOf, badDecoder, After, Left, pushRecord, finalizeRecord, resetRecord, payloadRecord, askRecord}
+use Rattle.decoder.specs.Record.{DecoderAnswer, nothing, count, refusal, answerOf, badDecoder, After, Left, pushRecord, finalizeRecord, resetRecord, payloadRecord, askRecord}
 use Rattle.decoder.specs.declared.Decoder.{Decoder}
 use Rattle.decoder.specs.declared.Event.{Event}
 use Rattle.decoder_slice.specs.Slice.{Took, saysNothing, sliceRecord}
