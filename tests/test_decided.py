@@ -13,6 +13,14 @@ def plain(text):
     return " ".join(text.split())
 
 
+def gathered(takes, ensures):
+    """An export's equation: its number with all that it may write, in the order of its parameters and a single number as a list of one, is one outcome `r`. None where something is left out."""
+    lent = re.findall(r"(\w+): &mut", takes)
+    at = {n: f"(now ({n} .exit) ∷ [])" if re.search(rf"\b{n}: &mut (?:usize|u8)\b", takes) else f"now ({n} .exit)" for n in lent}
+    whole = [f"reply r ({' ∷ '.join([at[n] for n in lent] + ['[]'])}) ≡ ", f"now ({lent[0]} .exit) ≡ " if len(lent) == 1 else ""]
+    return next(("r ≡ " + ensures[len(w) :] for w in whole if w and ensures.startswith(w)), None)
+
+
 bad, seen = [], 0
 FN = re.compile(r'^\s*pub (?:extern "C" )?fn (\w+)(?:<.*?>)?\((.*?)\)(?: -> \S.*?)?\n\s*ensures \{ λ r\. ⌜ (.*?) ⌝ \}', re.M | re.S)
 
@@ -45,6 +53,16 @@ def held(crate, paths):
             if over != set(re.findall(r"(\w+)(?=:)", takes)) | set(re.findall(r"\bself\b", takes)):
                 bad.append(f"{crate}: {key} is not over the parameters of {name}")
             # the bytes of a decoder are lent as a record is, beside the memory
+            if crate == "sartrogheo" and "&mut" in takes:
+                # all that an export may write stands in its equation
+                if gathered(takes, ensures) is None or answer != ("Reply" if "reply r" in ensures else "List ℕ"):
+                    bad.append(f"{crate}: what {name} changes is not beside its answer")
+                    continue
+                ensures = gathered(takes, ensures)
+                if said != plain(ensures):
+                    bad.append(f"{crate}: {key} says `{said}`, and the contract `{plain(ensures)}`")
+                yield name
+                continue
             memory, kept = "&mut [u8]" in takes.replace("bytes: &mut [u8]", ""), re.search(r"&mut (?:Decoder|Encoder|self)|bytes: &mut", takes)
             if memory != ("With" in answer) or bool(kept) != ("Beside" in answer):
                 bad.append(f"{crate}: what {name} changes is not beside its answer")
@@ -101,7 +119,8 @@ def contracts():
         names = imported(text)
         for m in FN.finditer(text):
             of = re.findall(r"^(?:impl(?:<.*?>)? (\w+)|\})", text[: m.start()], re.M)[-1:]
-            yield path.split(os.sep)[1], (of[0] if of else "") or None, m.group(1), meant(names, m.group(3)), m.group(3)
+            said = "&mut" in m.group(2) and gathered(m.group(2), m.group(3)) or m.group(3)
+            yield path.split(os.sep)[1], (of[0] if of else "") or None, m.group(1), meant(names, said), said
 
 
 CONTRACTS = list(contracts())

@@ -67,7 +67,7 @@ def whole(side):
 def promises(crate):
     """The equations of the crate's public functions: two sides, and the names for which anything may stand: parameters, answer, what is lent."""
     for path in glob.glob(f"crates/{crate}/src/*.rt"):
-        for takes, said in re.findall(r"^\s*pub fn \w+(?:<.*?>)?\((.*?)\)(?: -> \S.*?)?\n\s*ensures \{ λ r\. ⌜ (.*?) ⌝ \}", open(path, encoding="utf-8").read(), re.M | re.S):
+        for takes, said in re.findall(r'^\s*pub (?:extern "C" )?fn \w+(?:<.*?>)?\((.*?)\)(?: -> \S.*?)?\n\s*ensures \{ λ r\. ⌜ (.*?) ⌝ \}', open(path, encoding="utf-8").read(), re.M | re.S):
             for old, new in [(r"now \((\w+) \.exit\)", r"\1_left"), (r"now \((\w+) \.entry\)", r"\1"), (r"handed \((\w+) \.entry\)", r"\1_part"), (r"\bhanded r\b", "r"), (r"(\w+) \.entry", r"\1"), (r"\br \.(\w+)", r"r_\1")]:
                 said = re.sub(old, new, said)
             names = set(re.findall(r"(\w+)(?=:)", takes)) | set(re.findall(r"\bself\b", takes)) | set(re.findall(r"\b(?:\w+_left|\w+_part|r_\w+|r)\b", said))

@@ -70,7 +70,7 @@ plain-says d lent b e =
       state = normal-is (d .state) (p₂ .0);
     }
 
-plain-good : (d : Decoder) (lent b : ℕ) → IsPlain d lent b → badDecoder d ≡ false
+pub plain-good : (d : Decoder) (lent b : ℕ) → IsPlain d lent b → badDecoder d ≡ false
 unfolding badDecoder
 plain-good d lent b p =
     let c : lent ≡ d .capacity = eqb-true _ _ (p .lent-is) in

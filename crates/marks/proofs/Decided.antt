@@ -17,6 +17,8 @@ use Rattle.message.proofs.Decided as Message
 use Rattle.trailer.proofs.Decided as Trailer
 use Rattle.streaming.proofs.Decided as Streaming
 use Rattle.parser.proofs.Decided as Parser
+use Rattle.words.proofs.Decided as Words
+use Rattle.sartrogheo.proofs.Decided as Library
 use Rattle.marks.specs.Decided.{Views, Decided}
 
 pub views : Views
@@ -60,4 +62,6 @@ decided =
       trailer = Trailer.decided;
       streaming = Streaming.decided;
       parser = Parser.decided;
+      words = Words.decided;
+      library = Library.decided;
     }

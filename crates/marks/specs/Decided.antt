@@ -17,6 +17,8 @@ use Rattle.message.specs.Decided as Message
 use Rattle.trailer.specs.Decided as Trailer
 use Rattle.streaming.specs.Decided as Streaming
 use Rattle.parser.specs.Decided as Parser
+use Rattle.words.specs.Decided as Words
+use Rattle.sartrogheo.specs.Decided as Library
 
 -- no view of an answer loses a part of it
 pub record Views : Type 0 where
@@ -56,3 +58,5 @@ pub record Decided : Type 0 where
   pub trailer : Trailer.Decided
   pub streaming : Streaming.Decided
   pub parser : Parser.Decided
+  pub words : Words.Decided
+  pub library : Library.Decided

@@ -1,6 +1,6 @@
 -- Each view can be undone, so a contract allows one outcome for each input.
 use mathlib.Core.Path.{_≡_, refl, ap, sym, _∙_}
-use mathlib.Core.Bool.{cond}
+use mathlib.Core.Bool.{Bool, cond}
 use mathlib.Core.List.{List}
 use Prim.Native.Nat.{ℕ}
 use lib.Dec.{eqb}
@@ -13,7 +13,7 @@ use Rattle.decoder.proofs.Answers.{one-push, finalize-one}
 use Rattle.decoder.proofs.Decided.{views as decoderViews}
 use Rattle.in_place.specs.declared.Taken.{Taken}
 use Rattle.packed.specs.Layout.{recordIn}
-use Rattle.packed.specs.Packed.{Filled, filled, Unpacked, holds, noRecord, unpackedAs, keptPush, keptSlice, KeptLeft, keptEvent, keptReset}
+use Rattle.packed.specs.Packed.{Filled, filled, Unpacked, holds, noRecord, unpackedAs, keptPush, tried, keptSlice, KeptLeft, keptEvent, keptReset}
 use Rattle.packed.specs.declared.Packing.{Packing}
 use Rattle.packed.specs.declared.Packing.the-variants as P
 use Rattle.packed.specs.declared.Unpacking.{Unpacking}
@@ -73,6 +73,9 @@ over-push-one r r′ h =
     let e = over-event-one (r .answer .answer) (r′ .answer .answer) (r .answer .lent) (r′ .answer .lent) (r .memory) (r′ .memory) h in
     λ i. record { answer = record { answer = e i; lent = h i .bytes }; memory = h i .memory }
 
+tried-one : Injective (λ (r : With (Beside Bool (List ℕ))). tried (r .answer .answer) (r .answer .lent) (r .memory))
+tried-one r r′ h = λ i. record { answer = record { answer = h i .did; lent = h i .bytes }; memory = h i .memory }
+
 slice-one : Injective (λ (r : With (Beside Taken (List ℕ))). keptSlice (r .answer .answer) (r .answer .lent) (r .memory))
 slice-one r r′ h =
     let e = over-event-one (r .answer .answer .event) (r′ .answer .answer .event) (r .answer .lent) (r′ .answer .lent) (r .memory) (r′ .memory) (λ i. record { answer = h i .answer; bytes = h i .bytes; memory = h i .memory }) in
@@ -109,6 +112,7 @@ views =
       packing = packing-one;
       unpacking = unpacking-one;
       pushed-over = over-push-one;
+      tried-over = tried-one;
       sliced-over = slice-one;
       finalized-over = left-one;
       was-reset-over = reset-over;
@@ -119,6 +123,7 @@ decided =
     record {
       pack = λ d out. injective (λ (r : With Packing). filled (r .answer) (r .memory)) (views .packing) _;
       unpack = λ bytes. injective unpackedAs (views .unpacking) _;
+      push-plain = λ bytes buf b. injective (λ (r : With (Beside Bool (List ℕ))). tried (r .answer .answer) (r .answer .lent) (r .memory)) (views .tried-over) _;
       push-packed = λ bytes buf b. injective (λ (r : With (Beside Event (List ℕ))). keptPush (r .answer .answer) (r .answer .lent) (r .memory)) (views .pushed-over) _;
       push-slice-packed = λ bytes buf chunk. injective (λ (r : With (Beside Taken (List ℕ))). keptSlice (r .answer .answer) (r .answer .lent) (r .memory)) (views .sliced-over) _;
       finalize-packed = λ bytes. injective (λ (r : Beside Event (List ℕ)). keptEvent (r .answer) (r .lent)) (views .finalized-over) _;

@@ -1,6 +1,7 @@
 pub mod Bytes
 pub mod Again
 pub mod Held
+pub mod Plain
 pub mod RoundTrip
 pub mod Decided
 pub mod Examples

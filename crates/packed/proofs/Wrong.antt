@@ -1,5 +1,6 @@
 -- What the contracts rule out: each wrong reading of docs/WRONG-READINGS.md that is told here is an outcome that the definition does not allow, at a small input.
 use mathlib.Core.Path.{_≡_, ap, sym, _∙_}
+use mathlib.Core.Bool.{true}
 use mathlib.Core.List.{List, [], _∷_, _++_}
 use Prim.Native.Nat.{ℕ}
 use native.Mathlib.Omega.{arith}
@@ -7,7 +8,7 @@ use lib.ListN.{length, replicate, getD}
 use Rattle.decided.specs.Part.{LentPart, partAt}
 use Rattle.frame.specs.Frame.{same}
 use Rattle.decoder.specs.Push.{sized, inWay, search, searching, step, finalized, resetCount}
-use Rattle.decoder.specs.Record.{DecoderAnswer, nothing, payload, count, refusal, answerAsked, wrote, badDecoder, wrongBuffer, hasPayload, recordWith, newRecord, recordOf, pushed, pushRecord, finalizeRecord, resetRecord, payloadRecord, askRecord}
+use Rattle.decoder.specs.Record.{DecoderAnswer, nothing, payload, count, refusal, flag, answerAsked, wrote, badDecoder, wrongBuffer, hasPayload, recordWith, newRecord, recordOf, pushed, pushRecord, finalizeRecord, resetRecord, payloadRecord, askRecord}
 use Rattle.decoder.specs.declared.DecodeState.the-variants.{Done}
 use Rattle.decoder.specs.declared.Decoder.{Decoder}
 use Rattle.decoder.specs.declared.Event.{Event}
@@ -16,7 +17,7 @@ use Rattle.decoder.specs.declared.Asked.the-variants.{Good}
 use Rattle.decoder_slice.specs.Slice.{pushesFrom, sliceRecord}
 use Rattle.in_place.specs.declared.Taken.{Taken}
 use Rattle.packed.specs.Layout.{lowFirst, numberAt, stateIn, packedBytes, packedIn, recordIn}
-use Rattle.packed.specs.Packed.{Filled, filled, packInto, Unpacked, holds, noRecord, unpackedAs, unpackOf, KeptBytes, keptPush, pushPacked, KeptSlice, keptSlice, slicePacked, KeptLeft, keptEvent, finalizePacked, keptReset, resetPacked, payloadPacked, askPacked}
+use Rattle.packed.specs.Packed.{Filled, filled, packInto, Unpacked, holds, noRecord, unpackedAs, unpackOf, KeptBytes, keptPush, pushPacked, Tried, tried, plainPacked, KeptSlice, keptSlice, slicePacked, KeptLeft, keptEvent, finalizePacked, keptReset, resetPacked, payloadPacked, askPacked}
 use Rattle.packed.specs.declared.Packing.the-variants as P
 use Rattle.packed.specs.declared.Unpacking.the-variants as U
 use Rattle.packed.specs.declared.WasReset.the-variants as W
@@ -51,12 +52,15 @@ output30 = replicate 30 0xee
 abbrev memory8 : List ℕ
 memory8 = replicate 8 0
 
--- the bytes of the new decoder, of the search, and of one behind a payload of one byte
+-- the bytes of the new decoder, of the search, of one where a frame has begun, and of one behind a payload of one byte
 abbrev newRow : List ℕ
 newRow = 0 ∷ 0 ∷ 1 ∷ 0 ∷ 0xff ∷ 0xff ∷ replicate 18 0 ++ 8 ∷ 0 ∷ 0 ∷ 0 ∷ []
 
 abbrev seekingRow : List ℕ
 seekingRow = 0 ∷ 2 ∷ 2 ∷ 0 ∷ 0xff ∷ 0xff ∷ replicate 10 0 ++ 3 ∷ 0 ∷ 0 ∷ 0 ∷ 1 ∷ 0 ∷ 0 ∷ 0 ∷ 8 ∷ 0 ∷ 0 ∷ 0 ∷ []
+
+abbrev begunRow : List ℕ
+begunRow = 1 ∷ 0 ∷ 1 ∷ 0 ∷ 0xdc ∷ 0x91 ∷ replicate 10 0 ++ 8 ∷ replicate 7 0 ++ 8 ∷ 0 ∷ 0 ∷ 0 ∷ []
 
 abbrev paidRow : List ℕ
 paidRow = 4 ∷ 0 ∷ 1 ∷ 0 ∷ 0xff ∷ 0xff ∷ 0 ∷ 0 ∷ 1 ∷ replicate 15 0 ++ 8 ∷ 0 ∷ 0 ∷ 0 ∷ []
@@ -126,6 +130,16 @@ packed-push-keeps-the-bytes e m h = let raw : _≡_ {A = ℕ} 0 1 = ap (λ (k : 
 packed-push-judges-the-buffer-first : (l m : List ℕ) → keptPush WrongBuffer l m ≡ pushPacked (replicate 28 0) memory8 0x1b → ⊥
 unfolding packInto badDecoder packedIn packedBytes lowFirst unpackOf recordIn numberAt stateIn same pushPacked pushRecord pushed wrongBuffer wrote step searching noOf
 packed-push-judges-the-buffer-first l m h = let n : _≡_ {A = ℕ} 5 4 = ap (λ (k : KeptBytes). noOf (k .answer)) h in omega (arith, n)
+
+-- ---- the push that has a short way
+
+plain-push-stores-a-1b : (l m : List ℕ) → tried true l m ≡ plainPacked begunRow memory8 0x1b → ⊥
+unfolding packInto badDecoder packedIn packedBytes lowFirst unpackOf recordIn numberAt stateIn same plainPacked
+plain-push-stores-a-1b l m h = let n : _≡_ {A = ℕ} 1 0 = ap (λ (t : Tried). flag (t .did)) h in omega (arith, n)
+
+plain-push-takes-noise : (l m : List ℕ) → tried true l m ≡ plainPacked newRow memory8 0x55 → ⊥
+unfolding packInto badDecoder packedIn packedBytes lowFirst unpackOf recordIn numberAt stateIn same plainPacked
+plain-push-takes-noise l m h = let n : _≡_ {A = ℕ} 1 0 = ap (λ (t : Tried). flag (t .did)) h in omega (arith, n)
 
 -- ---- the push of a slice
 

@@ -1,3 +1,4 @@
 pub mod Layout
 pub mod Packed
+pub mod Cut
 pub mod Decided

@@ -1,12 +1,14 @@
 -- rule: packing, unpacking and the decoder's calls over the 28 bytes, by the definitions that the calls over the record cite; what is refused, and what each call leaves.
-use mathlib.Core.Bool.{cond}
+use mathlib.Core.Bool.{Bool, true, false, cond}
 use mathlib.Core.List.{List, []}
 use Prim.Native.Nat.{ℕ}
 use lib.ListN.{length, take}
-use lib.Dec.{ltb}
+use lib.Dec.{eqb, ltb}
 use Rattle.refusals.specs.Numbers.{badStateNo, wrongBufferNo, badSpanNo, outputTooShortNo, limit}
 use Rattle.frame.specs.Frame.{same}
-use Rattle.decoder.specs.Record.{DecoderAnswer, nothing, count, refusal, answerOf, badDecoder, After, Left, pushRecord, finalizeRecord, resetRecord, payloadRecord, askRecord}
+use Rattle.decoder.specs.Record.{DecoderAnswer, nothing, count, refusal, answerOf, badDecoder, wrongBuffer, After, Left, pushRecord, finalizeRecord, resetRecord, payloadRecord, askRecord}
+use Rattle.decoder.specs.declared.DecodeState.{DecodeState}
+use Rattle.decoder.specs.declared.DecodeState.the-variants.{LookingForMessageStart, ParsingNormal, ParsingEscChars, ParsingEscPayload, Done}
 use Rattle.decoder.specs.declared.Decoder.{Decoder}
 use Rattle.decoder.specs.declared.Event.{Event}
 use Rattle.decoder_slice.specs.Slice.{Took, saysNothing, sliceRecord}
@@ -82,6 +84,35 @@ pushHeld (holds d) l m b =
 
 unfoldable pub pushPacked : List ℕ → List ℕ → ℕ → KeptBytes
 pushPacked l m b = pushHeld (unpackOf l) l m b
+
+-- ---- a push that has a short way
+
+-- a byte that says nothing and is stored: of a frame, behind no 1b, itself none, with room in the buffer that the record is for
+abbrev pub plainFor : DecodeState → ℕ → ℕ → ℕ → ℕ → Bool
+plainFor (LookingForMessageStart n noise) fill capacity lent b = false
+plainFor ParsingNormal fill capacity lent b = cond (eqb b 0x1b) false (cond (wrongBuffer capacity lent) false (ltb fill lent))
+plainFor (ParsingEscChars n) fill capacity lent b = false
+plainFor (ParsingEscPayload n) fill capacity lent b = false
+plainFor Done fill capacity lent b = false
+
+abbrev pub plainHeld : Unpacked → ℕ → ℕ → Bool
+plainHeld (noRecord n) lent b = false
+plainHeld (holds d) lent b = plainFor (d .state) (d .fill) (d .capacity) lent b
+
+-- whether the byte was pushed, with the bytes and the lent memory as they are then
+pub record Tried : Type 0 where
+  pub did : Bool
+  pub bytes : List ℕ
+  pub memory : List ℕ
+
+abbrev pub tried : Bool → List ℕ → List ℕ → Tried
+tried did l m = record { did = did; bytes = l; memory = m }
+
+-- the push of such a byte, which says nothing; any other is left undone
+unfoldable pub plainPacked : List ℕ → List ℕ → ℕ → Tried
+plainPacked l m b =
+    let k : KeptBytes = pushPacked l m b in
+    cond (plainHeld (unpackOf l) (length m) b) (tried true (k .bytes) (k .memory)) (tried false l m)
 
 -- ---- a push of a slice
 

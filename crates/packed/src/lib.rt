@@ -1,14 +1,16 @@
 // A decoder's record in 28 plain bytes (document 02, Q-11), for a host that keeps hundreds of them in one array, and the decoder's calls over the bytes.
 // Each call is thin: the bytes are unpacked, the function by value does the work, and the record that it leaves is packed again. Bytes that no packing gives are refused, and nothing is changed.
 ghost use mathlib.Core.Path.{_≡_};
-ghost use Prim.Native.Nat.{_+_, _*_, _%_, _≤_};
+ghost use Prim.Native.Nat.{suc, _+_, _*_, _%_, _≤_};
 ghost use lib.ListN.{length};
 ghost use lib.Seq.{sets};
 ghost use Rattle.decided.specs.Part.{handed, partAt};
 ghost use Rattle.frame.specs.Frame.{same};
+ghost use Rattle.decoder.specs.Push.{stopped};
 ghost use Rattle.decoder.specs.Record.{answerAsked};
 ghost use Rattle.packed.specs.Layout.{lowFirst, numberAt, headOf, countsOf, kindNo, smallCount, noiseCount, usedIn, stateIn, recordIn, packedIn};
-ghost use Rattle.packed.specs.Packed.{filled, packInto, unpackedAs, unpackOf, keptPush, pushPacked, keptSlice, slicePacked, keptEvent, finalizePacked, keptReset, resetPacked, payloadPacked, askPacked};
+ghost use Rattle.packed.specs.Packed.{filled, packInto, unpackedAs, unpackOf, keptPush, pushPacked, plainHeld, tried, plainPacked, keptSlice, slicePacked, keptEvent, finalizePacked, keptReset, resetPacked, payloadPacked, askPacked};
+ghost use Rattle.packed.specs.Cut.{normalHead, normalIn, PlainIn, plainBytes, plainMemory};
 use decoder::Asked;
 use decoder::DecodeState;
 use decoder::Decoder;
@@ -311,6 +313,96 @@ pub fn unpack(bytes: &[u8]) -> Unpacking
         return Unpacking::Good(d);
     }
     Unpacking::BadState
+}
+
+// ---- the short way of a push
+
+// ParsingNormal in the first four bytes: its kind, no small count, the first or the second way, 0.
+const NORMAL_FIRST: u32 = 0x0001_0001;
+
+const NORMAL_SECOND: u32 = 0x0002_0001;
+
+// Whether the first four bytes say that.
+fn is_normal_head(head: u32) -> bool
+    ensures { λ r. ⌜ r ≡ normalHead head ⌝ }
+{
+    if head == NORMAL_FIRST {
+        return true;
+    }
+    head == NORMAL_SECOND
+}
+
+// Whether the bytes say ParsingNormal, with 0 in all that it doesn't use.
+fn is_normal_in(bytes: &[u8]) -> bool
+    requires { ⌜ 28 ≤ length (now bytes) ⌝ }
+    ensures { λ r. ⌜ r ≡ normalIn (now (bytes .entry)) ⌝ }
+{
+    if !is_normal_head(number4(bytes, 0)) {
+        return false;
+    }
+    if number2(bytes, 6) != 0 {
+        return false;
+    }
+    number4(bytes, 20) == 0
+}
+
+// Whether the bytes are some packing's, and b a byte of its frame that is no 1b and has room: what most bytes are. The record itself isn't made.
+fn is_plain_in(bytes: &[u8], lent: usize, b: u8) -> bool
+    ensures { λ r. ⌜ r ≡ plainHeld (unpackOf (now (bytes .entry))) lent b ⌝ }
+{
+    if bytes.len() < LEN {
+        return false;
+    }
+    if !is_normal_in(bytes) {
+        return false;
+    }
+    if b == Decoder::ESC {
+        return false;
+    }
+    let fill = number4(bytes, 8);
+    if lent <= fill as usize {
+        return false;
+    }
+    if fill < number4(bytes, 12) {
+        return false;
+    }
+    if number4(bytes, 16) < Decoder::START_LEN {
+        return false;
+    }
+    if lent != number4(bytes, 24) as usize {
+        return false;
+    }
+    lent <= refusals::LIMIT
+}
+
+// One more, or as many as 32 bits hold.
+fn one_more(x: u32) -> u32
+    ensures { λ r. ⌜ r ≡ stopped (suc x) ⌝ }
+{
+    if x == decoder::COUNT_STOP { x } else { x + 1 }
+}
+
+// Stores such a byte, and counts it.
+fn store_plain(bytes: &mut [u8], buf: &mut [u8], b: u8)
+    requires { ⌜ PlainIn (now bytes) (length (now buf)) b ⌝ }
+    ensures { λ r. ⌜ (now (bytes .exit) ≡ plainBytes (now (bytes .entry))) × (now (buf .exit) ≡ plainMemory (now (bytes .entry)) (now (buf .entry)) b) ⌝ }
+{
+    let fill = number4(&bytes[..], 8);
+    let raw = number4(&bytes[..], 16);
+    buf[fill as usize] = b;
+    put4(bytes, 8, fill as u64 + 1);
+    put4(bytes, 16, one_more(raw) as u64);
+}
+
+// Pushes a byte that is plain, which says nothing, and gives true; any other is left for push_packed.
+pub fn push_plain(bytes: &mut [u8], buf: &mut [u8], b: u8) -> bool
+    ensures { λ r. ⌜ tried r (now (bytes .exit)) (now (buf .exit)) ≡ plainPacked (now (bytes .entry)) (now (buf .entry)) b ⌝ }
+{
+    if is_plain_in(&bytes[..], buf.len(), b) {
+        store_plain(bytes, buf, b);
+        return true;
+    }
+    false
 }
 
 // ---- the decoder's calls over the bytes

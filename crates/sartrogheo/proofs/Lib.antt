@@ -1,0 +1,4 @@
+pub mod Told
+pub mod Streams
+pub mod Decided
+pub mod Wrong

@@ -1,0 +1,4 @@
+pub mod Calls
+pub mod Streams
+pub mod Cut
+pub mod Decided

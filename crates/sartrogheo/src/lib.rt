@@ -1,0 +1,443 @@
+// The static library: what a collector in C or Rust calls (include/sartrogheo.h). Pointers and numbers come in, and a number goes out; what else a call has to say goes into what it is lent.
+// Each call is thin: the decoder's 28 bytes, an Encoder's four numbers or a reader's three are taken as they come, the function that is there does the work, and its answer is put into numbers.
+ghost use mathlib.Core.Path.{_≡_};
+ghost use mathlib.Core.List.{[], _∷_};
+ghost use Prim.Native.Nat.{_+_, _*_, _≤_};
+ghost use lib.Seq.{sets};
+ghost use Rattle.crc_x25.specs.Crc.{crcOf};
+ghost use Rattle.refusals.specs.Answers.{faultOf};
+ghost use Rattle.encoder.specs.Encode.{encodeAnswer};
+ghost use Rattle.decoder.specs.Record.{flag, answerAsked};
+ghost use Rattle.packed.specs.Packed.{filled};
+ghost use Rattle.streaming.specs.Answers.{said};
+ghost use Rattle.sartrogheo.specs.Calls.{reply, answerNo, sghDecoderNew, sghPushByte, sghPushSlice, sghPayload, sghFinalize, sghReset, encodeNo, encodeLen, sghEncode};
+ghost use Rattle.sartrogheo.specs.Streams.{encoderKind, endCount, encoderCount, encoderWords, stateOfKind, encoderOf, sghEncoderNew, sghEncoderNext, readerNo, sghNextEvent};
+ghost use Rattle.sartrogheo.specs.Cut.{eventNo, eventValues, fillIn};
+use decoder::Asked;
+use decoder::Decoder;
+use decoder::Event;
+use encoder::Encoded;
+use encoder::Encoder;
+use encoder::EncoderState;
+use encoder::Item;
+use packed::Packing;
+use packed::WasReset;
+use refusals::Fault;
+use refusals::ParseError;
+use streaming::Answer;
+
+// What is no refusal.
+pub const GOOD: u32 = 0;
+
+pub const PAYLOAD: u32 = 100;
+
+pub const FINISHED: u32 = 101;
+
+// ---- what a decoder says
+
+// The number of an event.
+fn event_no(e: Event) -> u32
+    ensures { λ r. ⌜ r ≡ eventNo e ⌝ }
+{
+    match e {
+        Event::Nothing => GOOD,
+        Event::Payload => PAYLOAD,
+        Event::DiscardedBytes(_) => 6,
+        Event::InvalidEsc(_, _, _, _) => 7,
+        Event::OutOfMemory => 3,
+        Event::InvalidMessage {
+            read_crc: _,
+            calculated_crc: _,
+            misaligned: _,
+            num_padding_bytes: _,
+        } => 8,
+        Event::BadState => 4,
+        Event::WrongBuffer => 5,
+    }
+}
+
+// A flag as a number.
+fn one_if(b: bool) -> u64
+    ensures { λ r. ⌜ r ≡ flag b ⌝ }
+{
+    if b { 1 } else { 0 }
+}
+
+// Four values.
+fn put_values(values: &mut [u64; 4], a: u64, b: u64, c: u64, d: u64)
+    ensures { λ r. ⌜ now (values .exit) ≡ sets (now (values .entry)) 0 (a ∷ b ∷ c ∷ d ∷ []) ⌝ }
+{
+    values[0] = a;
+    values[1] = b;
+    values[2] = c;
+    values[3] = d;
+}
+
+// The values of an event; those behind them stay. A payload is `len` bytes long.
+fn put_event(e: Event, len: usize, values: &mut [u64; 4])
+    ensures { λ r. ⌜ now (values .exit) ≡ sets (now (values .entry)) 0 (eventValues e len) ⌝ }
+{
+    match e {
+        Event::Nothing => {}
+        Event::Payload => {
+            values[0] = len as u64;
+        }
+        Event::DiscardedBytes(n) => {
+            values[0] = n as u64;
+        }
+        Event::InvalidEsc(a, b, c, d) => put_values(values, a as u64, b as u64, c as u64, d as u64),
+        Event::OutOfMemory => {}
+        Event::InvalidMessage {
+            read_crc,
+            calculated_crc,
+            misaligned,
+            num_padding_bytes,
+        } => {
+            let f = one_if(misaligned);
+            put_values(
+                values,
+                read_crc as u64,
+                calculated_crc as u64,
+                f,
+                num_padding_bytes as u64,
+            )
+        }
+        Event::BadState => {}
+        Event::WrongBuffer => {}
+    }
+}
+
+// The number in four bytes, low byte first.
+fn of_four_bytes(a: u8, b: u8, c: u8, d: u8) -> usize
+    ensures { λ r. ⌜ r ≡ a + 256 * (b + 256 * (c + 256 * d)) ⌝ }
+{
+    (a as usize) + 256 * ((b as usize) + 256 * ((c as usize) + 256 * (d as usize)))
+}
+
+// How many bytes a payload has: as many as the decoder's fill says, and no more than there are.
+fn fill_in(bytes: &[u8; 28], room: usize) -> usize
+    ensures { λ r. ⌜ r ≡ fillIn (now (bytes .entry)) room ⌝ }
+{
+    let fill = of_four_bytes(bytes[8], bytes[9], bytes[10], bytes[11]);
+    if fill < room { fill } else { room }
+}
+
+// The number of what packing answers; 28 bytes are never too short.
+fn packing_no(r: Packing) -> u32
+    ensures { λ k. ⌜ k ≡ answerNo (filled r [] .answer) ⌝ }
+{
+    match r {
+        Packing::Good => GOOD,
+        Packing::BadState => 4,
+        Packing::WrongBuffer => 5,
+        Packing::OutputTooShort => 18,
+    }
+}
+
+// Makes a decoder that has seen nothing, for a buffer of this capacity, in this way of searching.
+#[no_mangle]
+pub extern "C" fn sgh_decoder_new(bytes: &mut [u8; 28], capacity: usize, way: u8) -> u32
+    ensures { λ r. ⌜ reply r (now (bytes .exit) ∷ []) ≡ sghDecoderNew (now (bytes .entry)) capacity way ⌝ }
+{
+    let r = packed::pack(Decoder::with_way(capacity, way), &mut bytes[..]);
+    packing_no(r)
+}
+
+// Pushes any byte.
+fn push_any(bytes: &mut [u8; 28], buf: &mut [u8], byte: u8, values: &mut [u64; 4]) -> u32
+    ensures { λ r. ⌜ reply r (now (bytes .exit) ∷ now (buf .exit) ∷ now (values .exit) ∷ []) ≡ sghPushByte (now (bytes .entry)) (now (buf .entry)) byte (now (values .entry)) ⌝ }
+{
+    let e = packed::push_packed(&mut bytes[..], buf, byte);
+    put_event(e, fill_in(&*bytes, buf.len()), values);
+    event_no(e)
+}
+
+// Pushes a byte. 1b is no plain byte; that it is sent off first leaves push_any two callers, and the short way no stack to make room on.
+#[no_mangle]
+pub extern "C" fn sgh_push_byte(
+    bytes: &mut [u8; 28],
+    buf: &mut [u8],
+    byte: u8,
+    values: &mut [u64; 4],
+) -> u32
+    ensures { λ r. ⌜ reply r (now (bytes .exit) ∷ now (buf .exit) ∷ now (values .exit) ∷ []) ≡ sghPushByte (now (bytes .entry)) (now (buf .entry)) byte (now (values .entry)) ⌝ }
+{
+    if byte == Decoder::ESC {
+        return push_any(bytes, buf, byte, values);
+    }
+    if packed::push_plain(&mut bytes[..], buf, byte) {
+        return GOOD;
+    }
+    push_any(bytes, buf, byte, values)
+}
+
+// Pushes bytes until the first event.
+#[no_mangle]
+pub extern "C" fn sgh_push_slice(
+    bytes: &mut [u8; 28],
+    buf: &mut [u8],
+    chunk: &[u8],
+    taken: &mut usize,
+    values: &mut [u64; 4],
+) -> u32
+    ensures { λ r. ⌜ reply r (now (bytes .exit) ∷ now (buf .exit) ∷ (now (taken .exit) ∷ []) ∷ now (values .exit) ∷ []) ≡ sghPushSlice (now (bytes .entry)) (now (buf .entry)) (now (chunk .entry)) (now (values .entry)) ⌝ }
+{
+    let t = packed::push_slice_packed(&mut bytes[..], buf, chunk);
+    let e = t.event;
+    *taken = t.taken;
+    put_event(e, fill_in(&*bytes, buf.len()), values);
+    event_no(e)
+}
+
+// The number of an answer to the question whether a payload stands in the buffer.
+fn asked_no(a: Asked) -> u32
+    ensures { λ r. ⌜ r ≡ answerNo (answerAsked a) ⌝ }
+{
+    match a {
+        Asked::Good => GOOD,
+        Asked::BadSpan => 16,
+    }
+}
+
+// The length of the payload that stands in the buffer.
+#[no_mangle]
+pub extern "C" fn sgh_payload(bytes: &[u8; 28], buf: &[u8], len: &mut usize) -> u32
+    ensures { λ r. ⌜ reply r ((now (len .exit) ∷ []) ∷ []) ≡ sghPayload (now (bytes .entry)) (now (buf .entry)) ⌝ }
+{
+    let p = packed::payload_packed(&bytes[..], buf);
+    *len = p.len();
+    let a = packed::ask_payload_packed(&bytes[..], buf);
+    asked_no(a)
+}
+
+// Says how many bytes are lost, if any; the decoder begins again.
+#[no_mangle]
+pub extern "C" fn sgh_finalize(bytes: &mut [u8; 28], values: &mut [u64; 4]) -> u32
+    ensures { λ r. ⌜ reply r (now (bytes .exit) ∷ now (values .exit) ∷ []) ≡ sghFinalize (now (bytes .entry)) (now (values .entry)) ⌝ }
+{
+    let e = packed::finalize_packed(&mut bytes[..]);
+    put_event(e, 0, values);
+    event_no(e)
+}
+
+// Gives the number of bytes that are lost; the decoder begins again.
+#[no_mangle]
+pub extern "C" fn sgh_reset(bytes: &mut [u8; 28], values: &mut [u64; 4]) -> u32
+    ensures { λ r. ⌜ reply r (now (bytes .exit) ∷ now (values .exit) ∷ []) ≡ sghReset (now (bytes .entry)) (now (values .entry)) ⌝ }
+{
+    let r = packed::reset_packed(&mut bytes[..]);
+    match r {
+        WasReset::Count(n) => {
+            values[0] = n as u64;
+            GOOD
+        }
+        WasReset::BadState => 4,
+    }
+}
+
+// ---- frames
+
+// The number of what encode answers.
+fn encoded_no(r: Encoded) -> u32
+    ensures { λ k. ⌜ k ≡ encodeNo (encodeAnswer r) ⌝ }
+{
+    match r {
+        Encoded::Frame(_) => GOOD,
+        Encoded::PayloadTooLong => 1,
+        Encoded::OutOfMemory => 2,
+    }
+}
+
+// The frame's length, or 0 if there is none.
+fn encoded_len(r: Encoded) -> usize
+    ensures { λ k. ⌜ k ≡ encodeLen (encodeAnswer r) ⌝ }
+{
+    match r {
+        Encoded::Frame(n) => n,
+        Encoded::PayloadTooLong => 0,
+        Encoded::OutOfMemory => 0,
+    }
+}
+
+// The payload's frame goes to `out`.
+#[no_mangle]
+pub extern "C" fn sgh_encode(payload: &[u8], out: &mut [u8], len: &mut usize) -> u32
+    ensures { λ r. ⌜ reply r (now (out .exit) ∷ (now (len .exit) ∷ []) ∷ []) ≡ sghEncode (now (payload .entry)) (now (out .entry)) ⌝ }
+{
+    let r = encoder::encode(payload, out);
+    *len = encoded_len(r);
+    encoded_no(r)
+}
+
+// What an Encoder's kind is as a number.
+fn encoder_kind(state: EncoderState) -> u64
+    ensures { λ r. ⌜ r ≡ encoderKind state ⌝ }
+{
+    match state {
+        EncoderState::Init(_) => 0,
+        EncoderState::LookingForEscape(_) => 1,
+        EncoderState::HandlingEscape(_) => 2,
+        EncoderState::End(_) => 3,
+    }
+}
+
+// End's count as one that isn't below 0.
+fn end_count(n: i8) -> u64
+    ensures { λ r. ⌜ r ≡ endCount n ⌝ }
+{
+    if n < -2 {
+        return 0;
+    }
+    if n < -1 {
+        return 1;
+    }
+    if n < 0 {
+        return 2;
+    }
+    n as u64 + 3
+}
+
+// An Encoder's count as one that isn't below 0.
+fn encoder_count(state: EncoderState) -> u64
+    ensures { λ r. ⌜ r ≡ encoderCount state ⌝ }
+{
+    match state {
+        EncoderState::Init(n) => n as u64,
+        EncoderState::LookingForEscape(n) => n as u64,
+        EncoderState::HandlingEscape(n) => n as u64,
+        EncoderState::End(n) => end_count(n),
+    }
+}
+
+// An Encoder in four numbers, as a host keeps it.
+fn encoder_words(e: Encoder) -> [u64; 4]
+    ensures { λ r. ⌜ r ≡ encoderWords e ⌝ }
+{
+    let state = e.state;
+    let kind = encoder_kind(state);
+    let count = encoder_count(state);
+    [kind, count, e.place as u64, e.crc as u64]
+}
+
+// The state of a kind and a count up to 11; a kind that is none stands for a count that is refused.
+fn state_of_kind(kind: u64, count: u8) -> EncoderState
+    requires { ⌜ count ≤ 11 ⌝ }
+    ensures { λ r. ⌜ r ≡ stateOfKind kind count ⌝ }
+{
+    if kind == 0 {
+        return EncoderState::Init(count);
+    }
+    if kind == 1 {
+        return EncoderState::LookingForEscape(count);
+    }
+    if kind == 2 {
+        return EncoderState::HandlingEscape(count);
+    }
+    if kind == 3 {
+        return EncoderState::End(count as i8 - 3);
+    }
+    EncoderState::Init(9)
+}
+
+// The Encoder of four numbers; numbers that no Encoder has give one that every call refuses.
+fn encoder_of(kind: u64, count: u64, place: usize, crc: u64) -> Encoder
+    ensures { λ r. ⌜ r ≡ encoderOf kind count place crc ⌝ }
+{
+    if 65535 < crc {
+        return Encoder {
+            state: EncoderState::Init(9),
+            place,
+            crc: 0,
+        };
+    }
+    if 11 < count {
+        return Encoder {
+            state: EncoderState::Init(9),
+            place,
+            crc: crc as u16,
+        };
+    }
+    Encoder {
+        state: state_of_kind(kind, count as u8),
+        place,
+        crc: crc as u16,
+    }
+}
+
+// Makes an Encoder that gave nothing yet.
+#[no_mangle]
+pub extern "C" fn sgh_encoder_new(encoder: &mut [u64; 4])
+    ensures { λ r. ⌜ now (encoder .exit) ≡ sghEncoderNew ⌝ }
+{
+    *encoder = encoder_words(Encoder::new());
+}
+
+// The frame's next byte.
+#[no_mangle]
+pub extern "C" fn sgh_encoder_next(encoder: &mut [u64; 4], payload: &[u8], byte: &mut u8) -> u32
+    ensures { λ r. ⌜ reply r (now (encoder .exit) ∷ (now (byte .exit) ∷ []) ∷ []) ≡ sghEncoderNext (now (encoder .entry)) (now (payload .entry)) (now (byte .entry)) ⌝ }
+{
+    let e = encoder_of(encoder[0], encoder[1], encoder[2] as usize, encoder[3]);
+    let g = e.next(payload);
+    let answer = g.answer;
+    match answer {
+        Item::Byte(b) => {
+            *encoder = encoder_words(g.encoder);
+            *byte = b;
+            GOOD
+        }
+        Item::Finished => FINISHED,
+        Item::PayloadTooLong => 1,
+        Item::BadState => 4,
+    }
+}
+
+// The check value of the bytes.
+#[no_mangle]
+pub extern "C" fn sgh_crc(bytes: &[u8]) -> u16
+    ensures { λ r. ⌜ r ≡ crcOf (now (bytes .entry)) ⌝ }
+{
+    crc_x25::checksum(bytes)
+}
+
+// ---- messages
+
+// The number of a refusal at a place.
+fn fault_no(f: Fault) -> u32
+    ensures { λ r. ⌜ r ≡ faultOf f .number ⌝ }
+{
+    let error = f.error;
+    match error {
+        ParseError::UnexpectedEOF => 10,
+        ParseError::InvalidTlf(_) => 11,
+        ParseError::TlfMismatch => 12,
+        ParseError::CrcMismatch => 14,
+        ParseError::MsgEndMismatch => 15,
+        ParseError::UnexpectedVariant => 13,
+    }
+}
+
+// A call's number: an event and its absence are no refusals.
+fn said_no(answer: Answer) -> u32
+    ensures { λ r. ⌜ r ≡ readerNo (said answer) ⌝ }
+{
+    match answer {
+        Answer::Event(_) => GOOD,
+        Answer::NoEvent => FINISHED,
+        Answer::Refused(f) => fault_no(f),
+        Answer::InputTooLong => 9,
+        Answer::BadState => 4,
+    }
+}
+
+// The next event of a payload, and the reader behind it.
+#[no_mangle]
+pub extern "C" fn sgh_next_event(input: &[u8], reader: &mut [u64; 3], event: &mut [u64; 24]) -> u32
+    ensures { λ r. ⌜ reply r (now (reader .exit) ∷ now (event .exit) ∷ []) ≡ sghNextEvent (now (input .entry)) (now (reader .entry)) ⌝ }
+{
+    let n = streaming::parse_next(input, reader[0] as usize, reader[1] as usize, reader[2]);
+    let answer = n.answer;
+    *reader = [n.place as u64, n.start as u64, n.pending];
+    *event = words::event_words(answer);
+    said_no(answer)
+}

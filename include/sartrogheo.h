@@ -1,0 +1,227 @@
+/* Sartrogheo: SML meter frames (transport version 1) and messages, every function proved. Link libsartrogheo.a; docs/LIBRARY.md tells how.
+
+   Any bytes may come in: no call relies on what its caller checked, and none stops the program. What is refused has document 01's number, and leaves
+   what the comment says. No heap, no global: a call touches only what it is lent, so that calls over different memory may run at once.
+   A pointer that is null with length 0 is an empty slice; every other pointer must be good for its length, and what a call writes must not overlap with anything else that it is lent. */
+#ifndef SARTROGHEO_H
+#define SARTROGHEO_H
+
+#include <stddef.h>
+#include <stdint.h>
+
+#ifdef __cplusplus
+extern "C" {
+#endif
+
+/* ---- answers: 0, what is no refusal, or the number of a refusal */
+
+#define SGH_GOOD 0u       /* done; of a push or finalize: nothing to say */
+#define SGH_PAYLOAD 100u  /* a payload stands in the buffer, from its first byte on */
+#define SGH_FINISHED 101u /* no byte or event is left */
+
+#define SGH_PAYLOAD_TOO_LONG 1u      /* a payload of more than SGH_LIMIT bytes */
+#define SGH_ENCODE_OUT_OF_MEMORY 2u  /* the whole frame doesn't fit in the output */
+#define SGH_DECODER_OUT_OF_MEMORY 3u /* a byte to store doesn't fit in the decoder's buffer */
+#define SGH_BAD_STATE 4u             /* a decoder, Encoder or reader that no call leaves (28 zero bytes are no decoder), or an unknown way */
+#define SGH_WRONG_BUFFER 5u          /* the lent buffer isn't as long as the capacity, or a capacity over SGH_LIMIT */
+#define SGH_DISCARDED_BYTES 6u       /* bytes before a start, or before finalize, belong to no frame */
+#define SGH_INVALID_ESC 7u           /* an escape with four bytes that mean nothing */
+#define SGH_INVALID_MESSAGE 8u       /* a frame's end with the wrong CRC, alignment or padding */
+#define SGH_INPUT_TOO_LONG 9u        /* message input of more than SGH_LIMIT bytes */
+#define SGH_UNEXPECTED_EOF 10u       /* a byte is missing at the input's end */
+#define SGH_INVALID_TLF 11u          /* wrong length bytes; its kinds: */
+#define SGH_TLF_LENGTH_OVERFLOW 1u
+#define SGH_TLF_RESERVED 2u
+#define SGH_TLF_LENGTH_UNDERFLOW 3u
+#define SGH_TLF_NEXT_BYTE_TYPE_MISMATCH 4u
+#define SGH_TLF_INVALID_TY 5u
+#define SGH_TLF_MISMATCH 12u       /* an element of another type or length than is wanted there */
+#define SGH_UNEXPECTED_VARIANT 13u /* an unknown tag */
+#define SGH_CRC_MISMATCH 14u       /* a message's CRC is wrong */
+#define SGH_MSG_END_MISMATCH 15u   /* a message's end byte isn't 00 */
+#define SGH_BAD_SPAN 16u           /* no payload stands in the buffer */
+
+#define SGH_LIMIT 1048576u /* the longest payload, buffer and message input */
+
+/* ---- the decoder: 28 plain bytes, which may be copied, stored and kept in an array */
+
+#define SGH_DECODER_LEN 28u
+#define SGH_FIRST_WAY 1u  /* searches as the crate sml-rs does: a stray 1b before a start hides it */
+#define SGH_SECOND_WAY 2u /* finds every start: to be preferred unless all answers must be sml-rs's */
+
+typedef struct {
+    uint8_t bytes[SGH_DECODER_LEN];
+} sgh_decoder;
+
+/* Makes a decoder for a buffer of `capacity` bytes: a payload of n bytes needs n, rounded up to a multiple of 4, and 4 more.
+   Gives 0; 4 for an unknown way, else 5 for a capacity over SGH_LIMIT, which leave `d` as it is. */
+uint32_t sgh_decoder_new(sgh_decoder *d, size_t capacity, uint8_t way);
+
+/* What an answer says goes to the first of `values`, and the rest stay as they are:
+   SGH_PAYLOAD: its length. SGH_DISCARDED_BYTES: how many. SGH_INVALID_ESC: the four bytes, one in each.
+   SGH_INVALID_MESSAGE: CRC read, CRC computed, 1 if misaligned, number of padding bytes.
+   sgh_reset's 0: how many bytes are lost. All else: nothing. */
+#define SGH_VALUES 4u
+
+/* Pushes a byte. Gives 0, SGH_PAYLOAD, 3 to 8. The buffer is the decoder's own: lend the same one each time, and let nobody else write it.
+   4 and 5 leave decoder and buffer as they are. */
+uint32_t sgh_push_byte(sgh_decoder *d, uint8_t *buf, size_t len, uint8_t byte, uint64_t values[SGH_VALUES]);
+
+/* Pushes bytes up to and with the first that has something to say, and writes how many it took. Gives what that byte's push gives, or 0 if all were taken;
+   4 and 5 take none. Push the rest again, from chunk + taken on. */
+uint32_t sgh_push_slice(sgh_decoder *d, uint8_t *buf, size_t len, const uint8_t *chunk, size_t chunk_len, size_t *taken, uint64_t values[SGH_VALUES]);
+
+/* The length of the payload that stands in the buffer, from the push that said it to the next call that changes the decoder.
+   Gives 0; 16 and length 0 if none does, for bytes that are no decoder and for a buffer that isn't as long as the capacity too. */
+uint32_t sgh_payload(const sgh_decoder *d, const uint8_t *buf, size_t len, size_t *payload_len);
+
+/* Says how many bytes are lost, if any; the decoder begins again. Gives 0 or SGH_DISCARDED_BYTES; 4 leaves it as it is. */
+uint32_t sgh_finalize(sgh_decoder *d, uint64_t values[SGH_VALUES]);
+
+/* The decoder begins again. Gives 0, and in values[0] how many bytes are lost; 4 leaves it as it is. */
+uint32_t sgh_reset(sgh_decoder *d, uint64_t values[SGH_VALUES]);
+
+/* ---- frames */
+
+/* Writes the payload's frame to `out`: 2 * payload_len + 19 bytes are always enough. Gives 0 and its length; 1 or 2, length 0, and `out` as it was. */
+uint32_t sgh_encode(const uint8_t *payload, size_t payload_len, uint8_t *out, size_t len, size_t *frame_len);
+
+/* A frame a byte at a time, for a payload that is lent at every call and stays the same. */
+typedef struct {
+    uint64_t kind, count, place, crc;
+} sgh_encoder;
+
+/* Makes an Encoder that gave nothing yet. */
+void sgh_encoder_new(sgh_encoder *e);
+
+/* The frame's next byte. Gives 0 and the byte; SGH_FINISHED, 1 or 4, which leave both as they are. */
+uint32_t sgh_encoder_next(sgh_encoder *e, const uint8_t *payload, size_t payload_len, uint8_t *byte);
+
+/* The CRC of the frames and messages: X25, as in the last two bytes of a frame, of which the low one comes first. */
+uint16_t sgh_crc(const uint8_t *bytes, size_t len);
+
+/* ---- messages */
+
+/* Where a reader is: {0} is a new one. */
+typedef struct {
+    uint64_t place, start, pending;
+} sgh_reader;
+
+/* A part of the input. */
+typedef struct {
+    uint64_t start, len;
+} sgh_span;
+
+/* Fields that may be absent: `present` is 0 or 1, and what is absent is 0. */
+typedef struct {
+    uint64_t present, start, len;
+} sgh_opt_span;
+
+typedef struct {
+    uint64_t present, value;
+} sgh_opt_unsigned;
+
+typedef struct {
+    uint64_t present;
+    int64_t value;
+} sgh_opt_signed;
+
+typedef struct {
+    uint64_t present, width, value;
+} sgh_opt_status;
+
+#define SGH_VALUE_BOOL 1u     /* `number` is 0 or 1 */
+#define SGH_VALUE_BYTES 2u    /* `bytes` */
+#define SGH_VALUE_SIGNED 3u   /* `number` as an int64_t, from a number of `width` bytes: 1, 2, 4 or 8 */
+#define SGH_VALUE_UNSIGNED 4u /* `number`, from a number of `width` bytes */
+#define SGH_VALUE_TIME 5u     /* a list with a time: `number` seconds */
+
+/* What its kind doesn't use is 0. */
+typedef struct {
+    uint64_t kind, width, number;
+    sgh_span bytes;
+} sgh_value;
+
+typedef struct {
+    sgh_opt_span codepage, client_id;
+    sgh_span req_file_id, server_id;
+    sgh_opt_unsigned ref_time, sml_version;
+} sgh_open_response;
+
+typedef struct {
+    sgh_opt_span global_signature;
+} sgh_close_response;
+
+typedef struct {
+    sgh_opt_span client_id;
+    sgh_span server_id;
+    sgh_opt_span list_name;
+    sgh_opt_unsigned act_sensor_time;
+    uint64_t num_vals;
+} sgh_get_list_response;
+
+#define SGH_OPEN_RESPONSE 1u
+#define SGH_CLOSE_RESPONSE 2u
+#define SGH_GET_LIST_RESPONSE 3u
+
+typedef struct {
+    sgh_span transaction_id;
+    uint64_t group_no, abort_on_error;
+    uint64_t body; /* SGH_OPEN_RESPONSE, SGH_CLOSE_RESPONSE or SGH_GET_LIST_RESPONSE: which of these it is */
+    union {
+        sgh_open_response open;
+        sgh_close_response close;
+        sgh_get_list_response list;
+    };
+} sgh_message_start;
+
+typedef struct {
+    sgh_opt_span list_signature;
+    sgh_opt_unsigned act_gateway_time;
+} sgh_list_end;
+
+typedef struct {
+    sgh_span obj_name;
+    sgh_opt_status status;
+    sgh_opt_unsigned val_time, unit; /* in seconds; a byte, the code of a unit */
+    sgh_opt_signed scaler;           /* -128 to 127: a number means `number` times ten to that */
+    sgh_value value;
+    sgh_opt_span value_signature;
+} sgh_list_entry;
+
+/* `kind` is one of SGH_INVALID_TLF's, else 0; `place` is where in the input. */
+typedef struct {
+    uint64_t number, kind, place;
+} sgh_refusal;
+
+#define SGH_NO_EVENT 0u
+#define SGH_MESSAGE_START 1u
+#define SGH_GET_LIST_RESPONSE_END 2u
+#define SGH_LIST_ENTRY 3u
+#define SGH_REFUSED 4u       /* at a place of the input */
+#define SGH_REFUSED_ALONE 5u /* at none: 4 and 9 */
+
+#define SGH_EVENT_WORDS 24u
+
+/* An event; `kind` says which of these it is. Words that it doesn't use are 0. */
+typedef struct {
+    uint64_t kind;
+    union {
+        sgh_message_start message;
+        sgh_list_end end;
+        sgh_list_entry entry;
+        sgh_refusal refused;
+        uint64_t words[SGH_EVENT_WORDS - 1];
+    };
+} sgh_event;
+
+/* The next event of a payload, and the reader behind it. Gives 0 for an event; SGH_FINISHED with SGH_NO_EVENT; 9 or 4, which leave the reader as it is;
+   10 to 15, which drop the rest of the input. `event` is written whole each time. Lend the same input at every call, and stop at the first refusal: SGH_FINISHED
+   need not follow one (behind one of 10 to 15 inside a message every later call gives 10). A message's CRC is judged behind its last event. */
+uint32_t sgh_next_event(const uint8_t *input, size_t len, sgh_reader *reader, sgh_event *event);
+
+#ifdef __cplusplus
+}
+#endif
+
+#endif

@@ -1,0 +1,151 @@
+//! The calls of include/sartrogheo.h, each behind a function that any safe code may call: all that is unsafe stands here.
+//!
+//! The header asks two things of a caller: that every pointer is good for its length, and that what a call writes doesn't overlap with anything else that it is lent.
+//! A reference is good for its type, and a `&mut` overlaps with nothing, so that the types of these functions hold both. A slice of length 0 has a pointer that isn't
+//! null and is good for 0 bytes. No call keeps a pointer, unwinds or touches anything that it isn't lent.
+#![allow(unsafe_code)]
+
+/// A decoder's 28 bytes.
+pub type State = [u8; DECODER_LEN];
+/// What an answer says.
+pub type Values = [u64; VALUES];
+/// `sgh_encoder`: four numbers, one behind the other.
+pub type Encoder = [u64; 4];
+/// `sgh_reader`: place, start, pending. Zeros are a new one.
+pub type Reader = [u64; 3];
+/// `sgh_event`: its kind, and the words of that kind's struct.
+pub type Event = [u64; EVENT_WORDS];
+
+// The header's numbers, by its names without SGH_: of answers,
+pub const GOOD: u32 = 0;
+pub const PAYLOAD: u32 = 100;
+pub const PAYLOAD_TOO_LONG: u32 = 1;
+pub const DECODER_OUT_OF_MEMORY: u32 = 3;
+pub const DISCARDED_BYTES: u32 = 6;
+pub const INVALID_ESC: u32 = 7;
+pub const INVALID_MESSAGE: u32 = 8;
+// of refusals in an event,
+pub const INPUT_TOO_LONG: u64 = 9;
+pub const UNEXPECTED_EOF: u64 = 10;
+pub const INVALID_TLF: u64 = 11;
+pub const TLF_MISMATCH: u64 = 12;
+pub const UNEXPECTED_VARIANT: u64 = 13;
+pub const CRC_MISMATCH: u64 = 14;
+pub const MSG_END_MISMATCH: u64 = 15;
+pub const TLF_LENGTH_OVERFLOW: u64 = 1;
+pub const TLF_RESERVED: u64 = 2;
+pub const TLF_LENGTH_UNDERFLOW: u64 = 3;
+pub const TLF_NEXT_BYTE_TYPE_MISMATCH: u64 = 4;
+// of kinds,
+pub const MESSAGE_START: u64 = 1;
+pub const GET_LIST_RESPONSE_END: u64 = 2;
+pub const LIST_ENTRY: u64 = 3;
+pub const REFUSED: u64 = 4;
+pub const REFUSED_ALONE: u64 = 5;
+pub const OPEN_RESPONSE: u64 = 1;
+pub const CLOSE_RESPONSE: u64 = 2;
+pub const VALUE_BOOL: u64 = 1;
+pub const VALUE_SIGNED: u64 = 3;
+pub const VALUE_UNSIGNED: u64 = 4;
+pub const VALUE_TIME: u64 = 5;
+// of ways to search, and of lengths.
+pub const FIRST_WAY: u8 = 1;
+pub const SECOND_WAY: u8 = 2;
+pub const LIMIT: usize = 1_048_576;
+pub const DECODER_LEN: usize = 28;
+pub const VALUES: usize = 4;
+pub const EVENT_WORDS: usize = 24;
+
+mod c {
+    use super::{Encoder, Event, Reader, State, Values};
+
+    extern "C" {
+        pub fn sgh_decoder_new(d: *mut State, capacity: usize, way: u8) -> u32;
+        pub fn sgh_push_byte(d: *mut State, buf: *mut u8, len: usize, byte: u8, values: *mut Values) -> u32;
+        pub fn sgh_push_slice(
+            d: *mut State,
+            buf: *mut u8,
+            len: usize,
+            chunk: *const u8,
+            chunk_len: usize,
+            taken: *mut usize,
+            values: *mut Values,
+        ) -> u32;
+        pub fn sgh_payload(d: *const State, buf: *const u8, len: usize, payload_len: *mut usize) -> u32;
+        pub fn sgh_finalize(d: *mut State, values: *mut Values) -> u32;
+        pub fn sgh_reset(d: *mut State, values: *mut Values) -> u32;
+        pub fn sgh_encode(payload: *const u8, payload_len: usize, out: *mut u8, len: usize, frame_len: *mut usize) -> u32;
+        pub fn sgh_encoder_new(e: *mut Encoder);
+        pub fn sgh_encoder_next(e: *mut Encoder, payload: *const u8, payload_len: usize, byte: *mut u8) -> u32;
+        pub fn sgh_crc(bytes: *const u8, len: usize) -> u16;
+        pub fn sgh_next_event(input: *const u8, len: usize, reader: *mut Reader, event: *mut Event) -> u32;
+    }
+}
+
+#[inline]
+pub fn decoder_new(state: &mut State, capacity: usize, way: u8) -> u32 {
+    // SAFETY: a `&mut` to 28 bytes; the rest are numbers, of which any may come.
+    unsafe { c::sgh_decoder_new(state, capacity, way) }
+}
+
+#[inline]
+pub fn push_byte(state: &mut State, buf: &mut [u8], byte: u8, values: &mut Values) -> u32 {
+    // SAFETY: three `&mut`, which don't overlap; `buf` is good for its length.
+    unsafe { c::sgh_push_byte(state, buf.as_mut_ptr(), buf.len(), byte, values) }
+}
+
+#[inline]
+pub fn push_slice(state: &mut State, buf: &mut [u8], chunk: &[u8], taken: &mut usize, values: &mut Values) -> u32 {
+    // SAFETY: four `&mut`, which overlap neither with each other nor with `chunk`; both slices are good for their length.
+    unsafe { c::sgh_push_slice(state, buf.as_mut_ptr(), buf.len(), chunk.as_ptr(), chunk.len(), taken, values) }
+}
+
+#[inline]
+pub fn payload(state: &State, buf: &[u8], len: &mut usize) -> u32 {
+    // SAFETY: state and buffer are only read, which a `&` allows; `len` overlaps with neither.
+    unsafe { c::sgh_payload(state, buf.as_ptr(), buf.len(), len) }
+}
+
+#[inline]
+pub fn finalize(state: &mut State, values: &mut Values) -> u32 {
+    // SAFETY: two `&mut`, which don't overlap.
+    unsafe { c::sgh_finalize(state, values) }
+}
+
+#[inline]
+pub fn reset(state: &mut State, values: &mut Values) -> u32 {
+    // SAFETY: two `&mut`, which don't overlap.
+    unsafe { c::sgh_reset(state, values) }
+}
+
+#[inline]
+pub fn encode(payload: &[u8], out: &mut [u8], len: &mut usize) -> u32 {
+    // SAFETY: `out` and `len` are `&mut`, and overlap neither with each other nor with `payload`; both slices are good for their length.
+    unsafe { c::sgh_encode(payload.as_ptr(), payload.len(), out.as_mut_ptr(), out.len(), len) }
+}
+
+#[inline]
+pub fn encoder_new() -> Encoder {
+    let mut encoder = [0; 4];
+    // SAFETY: a `&mut` to four numbers, as `sgh_encoder` has.
+    unsafe { c::sgh_encoder_new(&mut encoder) };
+    encoder
+}
+
+#[inline]
+pub fn encoder_next(encoder: &mut Encoder, payload: &[u8], byte: &mut u8) -> u32 {
+    // SAFETY: two `&mut`, which overlap neither with each other nor with `payload`, which is good for its length.
+    unsafe { c::sgh_encoder_next(encoder, payload.as_ptr(), payload.len(), byte) }
+}
+
+#[inline]
+pub fn crc(bytes: &[u8]) -> u16 {
+    // SAFETY: the slice is good for its length, and only read.
+    unsafe { c::sgh_crc(bytes.as_ptr(), bytes.len()) }
+}
+
+#[inline]
+pub fn next_event(input: &[u8], reader: &mut Reader, event: &mut Event) -> u32 {
+    // SAFETY: two `&mut`, of as many numbers as `sgh_reader` and `sgh_event` have, which overlap neither with each other nor with `input`, which is good for its length.
+    unsafe { c::sgh_next_event(input.as_ptr(), input.len(), reader, event) }
+}

@@ -1,0 +1,277 @@
+//! What this crate has beyond sml-rs, at its limits too. The rest is held against sml-rs itself, by compare/.
+use sartrogheo::parser::common::{ListEntry, Status, Time, Value};
+use sartrogheo::parser::streaming::{MessageBody, ParseEvent, Parser};
+use sartrogheo::parser::{ParseErrorKind, TlfParseError};
+use sartrogheo::transport::{decode_streaming, encode_into, encode_streaming, DecodeErr, Decoder, EncodeErr, Encoder};
+use sartrogheo::util::{ArrayBuf, Buffer, OutOfMemory};
+use sartrogheo::{crc, LIMIT};
+
+const FRAME: [u8; 20] = [0x1b, 0x1b, 0x1b, 0x1b, 1, 1, 1, 1, 0x12, 0x34, 0x56, 0x78, 0x1b, 0x1b, 0x1b, 0x1b, 0x1a, 0, 0xb8, 0x7b];
+const PAYLOAD: [u8; 4] = [0x12, 0x34, 0x56, 0x78];
+/// A close message, which docs/PLACES.md takes apart.
+const CLOSE: [u8; 20] = [0x76, 5, 0xdd, 0x43, 0x44, 0, 0x62, 0, 0x62, 0, 0x72, 0x63, 2, 1, 0x71, 1, 0x63, 0xfd, 0x56, 0];
+/// A list of one entry, all of whose fields are there; cut in its CRC.
+const LIST: [u8; 47] = [
+    0x76, 1, 0x62, 0, 0x62, 0, 0x72, 0x63, 7, 1, 0x77, 1, 2, 0xaa, 1, 1, 0x71, 0x77, 7, 1, 0, 1, 8, 0, 0xff, 0x62, 0xa2, 0x72, 0x62, 1,
+    0x62, 9, 0x62, 30, 0x52, 0xff, 0x55, 0xff, 0xff, 0x83, 2, 3, 0x5e, 0xed, 1, 1, 0x63,
+];
+
+type Small = ArrayBuf<8>;
+/// What a decoder says of a stream, and at which byte.
+type Said = Vec<(usize, Result<Vec<u8>, DecodeErr>)>;
+
+fn singly(mut decoder: Decoder<Small>, bytes: &[u8]) -> Said {
+    let mut said = Vec::new();
+    for (at, b) in bytes.iter().enumerate() {
+        if let Some(one) = decoder.push_byte(*b).transpose() {
+            said.push((at, one.map(<[u8]>::to_vec)));
+        }
+    }
+    said.extend(decoder.finalize().map(|e| (bytes.len(), Err(e))));
+    said
+}
+
+/// The same by slices of so many bytes, the first one of another size.
+fn by_slices(mut decoder: Decoder<Small>, bytes: &[u8], first: usize, size: usize) -> Said {
+    let (mut said, mut at, mut end) = (Vec::new(), 0, first.min(bytes.len()));
+    loop {
+        while at < end {
+            let (taken, one) = decoder.push(&bytes[at..end]);
+            at += taken;
+            if let Some(one) = one.transpose() {
+                said.push((at - 1, one.map(<[u8]>::to_vec)));
+            }
+        }
+        if end == bytes.len() {
+            break;
+        }
+        end = (end + size).min(bytes.len());
+    }
+    said.extend(decoder.finalize().map(|e| (bytes.len(), Err(e))));
+    said
+}
+
+/// Each refusal of a push is in it, and payloads between them.
+fn stream() -> Vec<u8> {
+    let start = &FRAME[..8];
+    let wrong = [&FRAME[..19], &[0x7a]].concat();
+    let escape = [start, &[0x1b, 0x1b, 0x1b, 0x1b, 2, 0, 0, 0]].concat();
+    let long = [start, &[0; 9]].concat();
+    [&[0, 0x1b][..], &FRAME, &FRAME, &wrong, &FRAME, &escape, &long, &[0x1b; 5], &FRAME, start, &[0xaa], &FRAME, &[0x1b, 0x1b]].concat()
+}
+
+#[test]
+fn slices_of_any_size_say_what_single_bytes_say() {
+    let bytes = stream();
+    let (first, second) = (singly(Decoder::new(), &bytes), singly(Decoder::second_way(), &bytes));
+    assert_ne!(first, second);
+    assert!(second.iter().filter(|(_, one)| one.as_deref() == Ok(&PAYLOAD)).count() == 5, "{second:?}");
+    for size in 1..=bytes.len() {
+        for begin in 0..=bytes.len().min(40) {
+            assert_eq!(by_slices(Decoder::new(), &bytes, begin, size), first);
+            assert_eq!(by_slices(Decoder::second_way(), &bytes, begin, size), second);
+        }
+    }
+}
+
+#[test]
+fn the_second_way_finds_a_frame_behind_a_stray_1b() {
+    let bytes = [&[0x1b][..], &FRAME].concat();
+    assert_eq!(singly(Decoder::new(), &bytes), [(21, Err(DecodeErr::DiscardedBytes(21)))]);
+    let found = [(8, Err(DecodeErr::DiscardedBytes(1))), (20, Ok(PAYLOAD.to_vec()))];
+    assert_eq!(singly(Decoder::second_way(), &bytes), found);
+    assert_eq!(singly(Decoder::from_buf_second_way(Small::default()), &bytes), found);
+}
+
+#[test]
+fn a_payload_stands_until_the_next_call() {
+    let mut decoder = Decoder::<Small>::new();
+    assert_eq!(decoder.payload(), None);
+    assert_eq!(decoder.push(&FRAME), (20, Ok(Some(&PAYLOAD[..]))));
+    assert_eq!(decoder.payload(), Some(&PAYLOAD[..]));
+    assert_eq!(decoder.push(&[]), (0, Ok(None)));
+    assert_eq!(decoder.payload(), Some(&PAYLOAD[..]));
+    assert_eq!(decoder.push_byte(0), Ok(None));
+    assert_eq!(decoder.payload(), None);
+    assert_eq!(decoder.reset(), 1);
+    assert_eq!(decoder.finalize(), None);
+}
+
+#[test]
+fn the_capacity_counts_pads_and_end() {
+    let (mut eight, mut seven, mut none) =
+        (Decoder::<ArrayBuf<8>>::new(), Decoder::<ArrayBuf<7>>::new(), Decoder::<ArrayBuf<0>>::default());
+    assert_eq!(eight.push(&FRAME), (20, Ok(Some(&PAYLOAD[..]))));
+    assert_eq!(seven.push(&FRAME), (20, Err(DecodeErr::OutOfMemory)));
+    assert_eq!(none.push(&FRAME), (9, Err(DecodeErr::OutOfMemory)));
+    assert_eq!(DecodeErr::OutOfMemory.number(), 3);
+}
+
+#[test]
+fn noise_is_counted_past_16_bits() {
+    let mut decoder = Decoder::<Small>::new();
+    assert_eq!(decoder.push(&[0; 65_536]), (65_536, Ok(None)));
+    assert_eq!(decoder.push(&FRAME), (8, Err(DecodeErr::DiscardedBytes(65_536))));
+    assert_eq!(decoder.push(&FRAME[8..]), (12, Ok(Some(&PAYLOAD[..]))));
+}
+
+#[test]
+fn decoders_and_readers_can_be_sent_and_shared() {
+    fn both<T: Send + Sync>() {}
+    both::<Decoder<Small>>();
+    both::<Encoder<&[u8]>>();
+    both::<Parser>();
+}
+
+#[test]
+fn an_output_is_written_as_far_as_the_frame_goes() {
+    let mut out = [7; 24];
+    assert_eq!(encode_into(&PAYLOAD, &mut out), Ok(20));
+    assert_eq!((&out[..20], &out[20..]), (&FRAME[..], &[7; 4][..]));
+    let mut short = [7; 19];
+    assert_eq!((encode_into(&PAYLOAD, &mut short), short), (Err(EncodeErr::OutOfMemory), [7; 19]));
+    assert_eq!(encode_into(&[], &mut []), Err(EncodeErr::OutOfMemory));
+}
+
+#[test]
+fn payloads_of_the_limit_and_one_more() {
+    let payload = vec![0x1b; LIMIT + 1];
+    let mut out = vec![0; 2 * LIMIT + 19];
+    assert_eq!(encode_into(&payload, &mut out), Err(EncodeErr::PayloadTooLong));
+    assert_eq!(encode_streaming(&payload).next(), None);
+    let len = encode_into(&payload[1..], &mut out).unwrap();
+    assert_eq!(len, 2 * LIMIT + 16);
+    assert!(encode_streaming(&payload[1..]).eq(out[..len].iter().copied()));
+    assert_eq!(crc(&out[..len - 2]).to_le_bytes(), out[len - 2..len]);
+}
+
+#[test]
+fn an_encoder_takes_what_can_be_read_as_a_slice() {
+    let ways: [Vec<u8>; 5] = [
+        encode_streaming(PAYLOAD).collect(),
+        encode_streaming(&PAYLOAD).collect(),
+        encode_streaming(Vec::from(PAYLOAD)).collect(),
+        encode_streaming(PAYLOAD.iter()).collect(),
+        Encoder::new(&PAYLOAD[..]).collect(),
+    ];
+    assert!(ways.iter().all(|frame| *frame == FRAME));
+    let mut said = decode_streaming::<Small>(encode_streaming(PAYLOAD));
+    assert_eq!((said.next().map(|x| x.map(<[u8]>::to_vec)), said.next()), (Some(Ok(PAYLOAD.to_vec())), None));
+}
+
+#[test]
+fn the_first_end_of_an_iterator_is_the_end() {
+    let mut calls = 0;
+    let goes_on = std::iter::from_fn(|| {
+        calls += 1;
+        (calls % 10 != 0).then_some(0x42)
+    });
+    let mut said = decode_streaming::<Small>(goes_on);
+    assert_eq!(said.next(), Some(Err(DecodeErr::DiscardedBytes(9))));
+    assert_eq!(said.next(), None);
+}
+
+#[test]
+fn a_buffer_takes_what_fits() {
+    let mut buf = ArrayBuf::<3>::default();
+    assert_eq!((buf.push(1), buf.extend_from_slice(&[2, 3, 4]), &buf[..]), (Ok(()), Err(OutOfMemory), &[1][..]));
+    assert_eq!((buf.extend_from_slice(&[2, 3]), buf.push(4), &buf[..]), (Ok(()), Err(OutOfMemory), &[1, 2, 3][..]));
+    buf.truncate(5);
+    buf.truncate(2);
+    assert_eq!(format!("{buf:?} {}", buf == ArrayBuf::default()), "[1, 2] false");
+    buf.clear();
+    assert_eq!(buf, ArrayBuf::default());
+}
+
+// ---- messages
+
+/// The refusal's number and place, its words, and what the next call gives.
+fn refused(bytes: &[u8]) -> (u32, Option<usize>, String, Option<ParseErrorKind>) {
+    let mut parser = Parser::new(bytes);
+    let e = parser.by_ref().find_map(Result::err).unwrap();
+    (e.number(), e.place(), e.to_string(), parser.next().and_then(|next| next.err()).map(|e| e.kind()))
+}
+
+fn with(place: usize, byte: u8) -> Vec<u8> {
+    let mut bytes = CLOSE.to_vec();
+    bytes[place] = byte;
+    bytes
+}
+
+#[test]
+fn a_refusal_says_where() {
+    assert_eq!(Parser::new(&CLOSE).filter(Result::is_ok).count(), 1);
+    assert_eq!(Parser::new(&CLOSE).filter(Result::is_err).count(), 0);
+    let again = Some(ParseErrorKind::UnexpectedEOF);
+    assert_eq!(refused(&CLOSE[..19]), (10, Some(19), "UnexpectedEOF at 19".into(), again));
+    assert_eq!(refused(&with(15, 0x10)), (11, Some(15), "InvalidTlf(TlfInvalidTy) at 15".into(), None));
+    assert_eq!(refused(&with(14, 0x72)), (12, Some(14), "TlfMismatch at 14".into(), None));
+    assert_eq!(refused(&with(13, 2)), (13, Some(11), "UnexpectedVariant at 11".into(), None));
+    assert_eq!(refused(&with(18, 0x57)), (14, Some(16), "CrcMismatch at 16".into(), again));
+    assert_eq!(refused(&with(19, 1)), (15, Some(19), "MsgEndMismatch at 19".into(), again));
+}
+
+#[test]
+fn length_bytes_are_refused_by_kind() {
+    let kinds: [(&[u8], TlfParseError); 5] = [
+        (&[0x81, 0x80, 0x80, 0x80, 0x80, 0x80, 0x80, 0x80, 0x0a], TlfParseError::TlfLengthOverflow),
+        (&[0xc2], TlfParseError::TlfReserved),
+        (&[0], TlfParseError::TlfLengthUnderflow),
+        (&[0x81, 0x12], TlfParseError::TlfNextByteTypeMismatch),
+        (&[0x10], TlfParseError::TlfInvalidTy),
+    ];
+    for (bytes, kind) in kinds {
+        let e = Parser::new(bytes).next().unwrap().unwrap_err();
+        assert_eq!((e.kind(), e.place(), e.number()), (ParseErrorKind::InvalidTlf(kind), Some(0), 11));
+    }
+}
+
+#[test]
+fn an_input_over_the_limit_is_refused_once() {
+    let bytes = vec![0x76; LIMIT + 1];
+    let mut parser = Parser::new(&bytes);
+    let e = parser.next().unwrap().unwrap_err();
+    assert_eq!((e.kind(), e.place(), e.number(), e.to_string()), (ParseErrorKind::InputTooLong, None, 9, "InputTooLong".to_string()));
+    assert_eq!(parser.next(), None);
+    assert_eq!(Parser::new(&bytes[1..]).next().unwrap().unwrap_err().place(), Some(1));
+}
+
+#[test]
+fn an_entry_has_its_fields() {
+    let mut parser = Parser::new(&LIST);
+    let start = parser.next().unwrap().unwrap();
+    assert!(
+        matches!(start, ParseEvent::MessageStart(m) if matches!(&m.message_body, MessageBody::GetListResponse(l) if l.num_vals == 1 && l.server_id == [0xaa]))
+    );
+    let wanted = ListEntry {
+        obj_name: &[1, 0, 1, 8, 0, 0xff],
+        status: Some(Status::Status8(0xa2)),
+        val_time: Some(Time::SecIndex(9)),
+        unit: Some(30),
+        scaler: Some(-1),
+        value: Value::I32(-31_998),
+        value_signature: Some(&[0x5e, 0xed]),
+    };
+    let Some(Ok(ParseEvent::ListEntry(entry))) = parser.next() else { panic!("no entry") };
+    assert_eq!(entry, wanted);
+    assert_eq!(entry.obj_name.as_ptr(), LIST[19..].as_ptr());
+    assert!(matches!(parser.next(), Some(Ok(ParseEvent::GetListResponseEnd(_)))));
+    assert_eq!(parser.next().unwrap().unwrap_err().place(), Some(LIST.len()));
+}
+
+#[cfg(feature = "alloc")]
+#[test]
+fn a_vec_is_a_buffer_of_the_limit() {
+    use sartrogheo::transport::encode;
+    let frame = |n: usize| encode::<Vec<u8>>(&vec![0x42; n]);
+    // of a longer one the first bytes, up to the limit, are used
+    for buf in [Vec::new(), vec![7; 3], vec![7; LIMIT + 5]] {
+        let mut decoder = Decoder::from_buf(buf);
+        assert_eq!(decoder.push(&frame(LIMIT - 4).unwrap()).1.map(|p| p.map(<[u8]>::len)), Ok(Some(LIMIT - 4)));
+        assert_eq!(decoder.push(&frame(LIMIT - 3).unwrap()).1, Err(DecodeErr::OutOfMemory));
+    }
+    assert_eq!(frame(LIMIT).unwrap().len(), LIMIT + 16);
+    assert_eq!(frame(LIMIT + 1), Err(OutOfMemory));
+    assert_eq!(encode::<Vec<u8>>(std::iter::repeat(0u8)), Err(OutOfMemory));
+    assert_eq!(encode::<Small>(std::iter::repeat(0u8)), Err(OutOfMemory));
+}

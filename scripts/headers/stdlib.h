@@ -1,0 +1,3 @@
+#pragma once
+#include <stddef.h>
+unsigned long strtoul(const char *, char **, int);

@@ -1,0 +1,640 @@
+/* The library from C: `library calls` makes every call with good and bad input and looks at all that it was lent; `library answers` answers commands, a line each, which
+   tests/test_library.py holds to its own readings. */
+#include <inttypes.h>
+#include <stdbool.h>
+#include <stdio.h>
+#include <stdlib.h>
+#include <string.h>
+
+#include <sartrogheo.h>
+
+static unsigned held, failed;
+
+static void hold(bool fact, int line, const char *text)
+{
+    held++;
+    if (!fact) {
+        failed++;
+        printf("tests/library.c:%d: %s\n", line, text);
+    }
+}
+
+#define HELD(fact) hold((fact), __LINE__, #fact)
+
+/* ---- what is lent, and whether a call left it as it was */
+
+#define CAPACITY 8u
+#define TOP UINT64_MAX
+
+struct lent {
+    sgh_decoder d;
+    uint8_t buf[CAPACITY];
+    uint64_t values[SGH_VALUES];
+    size_t n;
+};
+
+static const struct lent UNTOUCHED = {{{0}}, {0xa5, 0xa5, 0xa5, 0xa5, 0xa5, 0xa5, 0xa5, 0xa5}, {TOP, TOP - 1, TOP - 2, TOP - 3}, 77};
+
+static bool same_decoder(const sgh_decoder *a, const sgh_decoder *b)
+{
+    return memcmp(a, b, sizeof *a) == 0;
+}
+
+static bool same(const struct lent *a, const struct lent *b)
+{
+    return same_decoder(&a->d, &b->d) && memcmp(a->buf, b->buf, CAPACITY) == 0 && memcmp(a->values, b->values, sizeof a->values) == 0 && a->n == b->n;
+}
+
+/* Whether the first k of the values are these, and the rest are as they were. */
+static bool says(const struct lent *l, unsigned k, uint64_t a, uint64_t b, uint64_t c, uint64_t d)
+{
+    const uint64_t first[] = {a, b, c, d};
+
+    for (unsigned i = 0; i < SGH_VALUES; i++)
+        if (l->values[i] != (i < k ? first[i] : UNTOUCHED.values[i]))
+            return false;
+    return true;
+}
+
+static struct lent fresh(uint8_t way)
+{
+    struct lent l = UNTOUCHED;
+
+    HELD(sgh_decoder_new(&l.d, CAPACITY, way) == SGH_GOOD);
+    return l;
+}
+
+static uint32_t push_byte(struct lent *l, uint8_t byte)
+{
+    return sgh_push_byte(&l->d, l->buf, CAPACITY, byte, l->values);
+}
+
+static uint32_t push_slice(struct lent *l, const uint8_t *chunk, size_t len)
+{
+    return sgh_push_slice(&l->d, l->buf, CAPACITY, chunk, len, &l->n, l->values);
+}
+
+/* Document 01's first frame, whose payload is 12345678, and its start. */
+static const uint8_t FRAME[] = {0x1b, 0x1b, 0x1b, 0x1b, 1, 1, 1, 1, 0x12, 0x34, 0x56, 0x78, 0x1b, 0x1b, 0x1b, 0x1b, 0x1a, 0x00, 0xb8, 0x7b};
+#define LAST (sizeof FRAME - 1)
+#define START_LEN 8u
+
+static uint8_t bytes[SGH_LIMIT + 1], out[2 * SGH_LIMIT + 19];
+
+/* ---- the decoder */
+
+static void making(void)
+{
+    static const uint8_t second[SGH_DECODER_LEN] = {0, 0, 2, 0, 0xff, 0xff, [24] = 0, 0, 0x10, 0};
+    static const uint8_t unknown[] = {0, 3, 255};
+    sgh_decoder d = {{7}}, before = d;
+
+    HELD(sizeof d == SGH_DECODER_LEN);
+    for (unsigned k = 0; k < sizeof unknown; k++) {
+        HELD(sgh_decoder_new(&d, 8, unknown[k]) == SGH_BAD_STATE && same_decoder(&d, &before));
+        HELD(sgh_decoder_new(&d, SGH_LIMIT + 1, unknown[k]) == SGH_BAD_STATE && same_decoder(&d, &before));
+    }
+    HELD(sgh_decoder_new(&d, SGH_LIMIT + 1, SGH_FIRST_WAY) == SGH_WRONG_BUFFER && same_decoder(&d, &before));
+    HELD(sgh_decoder_new(&d, SIZE_MAX, SGH_SECOND_WAY) == SGH_WRONG_BUFFER && same_decoder(&d, &before));
+    HELD(sgh_decoder_new(&d, SGH_LIMIT, SGH_SECOND_WAY) == SGH_GOOD && memcmp(&d, second, sizeof d) == 0);
+    HELD(sgh_push_byte(&d, bytes, SGH_LIMIT, 0, (uint64_t[SGH_VALUES]){0}) == SGH_GOOD);
+    HELD(sgh_decoder_new(&d, 0, SGH_FIRST_WAY) == SGH_GOOD);
+}
+
+static void pushing_bytes(void)
+{
+    struct lent l = fresh(SGH_FIRST_WAY);
+
+    for (size_t i = 0; i < LAST; i++)
+        HELD(push_byte(&l, FRAME[i]) == SGH_GOOD && says(&l, 0, 0, 0, 0, 0));
+    HELD(push_byte(&l, FRAME[LAST]) == SGH_PAYLOAD && says(&l, 1, 4, 0, 0, 0));
+    HELD(memcmp(l.buf, FRAME + START_LEN, 4) == 0 && memcmp(l.buf + 4, FRAME + 16, 4) == 0 && l.n == 77);
+
+    l = fresh(SGH_SECOND_WAY);
+    for (size_t i = 0; i < LAST; i++)
+        push_byte(&l, FRAME[i]);
+    HELD(push_byte(&l, 0x7a) == SGH_INVALID_MESSAGE && says(&l, 4, 0x7ab8, 0x7bb8, 0, 0));
+    for (size_t i = 0; i < START_LEN; i++)
+        HELD(push_byte(&l, FRAME[i]) == SGH_GOOD);
+    for (unsigned i = 0; i < CAPACITY; i++)
+        HELD(push_byte(&l, (uint8_t)i) == SGH_GOOD && l.buf[i] == i);
+    struct lent before = l, new = fresh(SGH_SECOND_WAY);
+    HELD(push_byte(&l, 8) == SGH_DECODER_OUT_OF_MEMORY && same_decoder(&l.d, &new.d) && memcmp(l.buf, before.buf, CAPACITY) == 0);
+    HELD(memcmp(l.values, before.values, sizeof l.values) == 0);
+}
+
+static void pushing_slices(void)
+{
+    static const uint8_t escape[] = {0x1b, 0x1b, 0x1b, 0x1b, 2, 0, 0, 9};
+    struct lent l = fresh(SGH_SECOND_WAY);
+
+    HELD(push_slice(&l, (const uint8_t[]){0x1b}, 1) == SGH_GOOD && l.n == 1);
+    HELD(push_slice(&l, FRAME, sizeof FRAME) == SGH_DISCARDED_BYTES && l.n == START_LEN && says(&l, 1, 1, 0, 0, 0));
+    HELD(push_slice(&l, FRAME + l.n, sizeof FRAME - l.n) == SGH_PAYLOAD && l.n == sizeof FRAME - START_LEN && says(&l, 1, 4, 0, 0, 0));
+    HELD(push_slice(&l, FRAME, LAST) == SGH_GOOD && l.n == LAST);
+    HELD(push_slice(&l, FRAME, 0) == SGH_GOOD && l.n == 0);
+    HELD(push_slice(&l, FRAME + LAST, 1) == SGH_PAYLOAD && l.n == 1);
+    HELD(push_slice(&l, FRAME, START_LEN) == SGH_GOOD);
+    HELD(push_slice(&l, escape, sizeof escape) == SGH_INVALID_ESC && l.n == sizeof escape && says(&l, 4, 2, 0, 0, 9));
+
+    /* in the first way the stray 1b hides the frame */
+    l = fresh(SGH_FIRST_WAY);
+    HELD(push_slice(&l, (const uint8_t[]){0x1b}, 1) == SGH_GOOD);
+    HELD(push_slice(&l, FRAME, sizeof FRAME) == SGH_GOOD && l.n == sizeof FRAME && says(&l, 0, 0, 0, 0, 0));
+}
+
+/* No decoder, by some of its bytes: an unknown kind, a count that is too large, an unknown way, bytes that must be 0, a capacity over the limit. */
+static void no_decoders(void)
+{
+    static const struct { uint8_t at, byte; } wrong[] = {{0, 5}, {0, 1}, {1, 8}, {2, 0}, {2, 3}, {3, 1}, {7, 1}, {8, 1}, {12, 1}, {27, 1}};
+
+    for (unsigned k = 0; k <= sizeof wrong / sizeof *wrong; k++) {
+        struct lent l = k ? fresh(SGH_FIRST_WAY) : UNTOUCHED;
+        if (k)
+            l.d.bytes[wrong[k - 1].at] = wrong[k - 1].byte;
+        struct lent before = l;
+
+        HELD(push_byte(&l, 0) == SGH_BAD_STATE && same(&l, &before));
+        HELD(sgh_push_byte(&l.d, l.buf, CAPACITY - 1, 0, l.values) == SGH_BAD_STATE && same(&l, &before));
+        HELD(sgh_finalize(&l.d, l.values) == SGH_BAD_STATE && same(&l, &before));
+        HELD(sgh_reset(&l.d, l.values) == SGH_BAD_STATE && same(&l, &before));
+        before.n = 0;
+        HELD(push_slice(&l, FRAME, sizeof FRAME) == SGH_BAD_STATE && same(&l, &before));
+        HELD(sgh_push_slice(&l.d, l.buf, CAPACITY - 1, FRAME, sizeof FRAME, &l.n, l.values) == SGH_BAD_STATE && same(&l, &before));
+        l.n = 77;
+        HELD(sgh_payload(&l.d, l.buf, CAPACITY, &l.n) == SGH_BAD_SPAN && same(&l, &before));
+    }
+}
+
+static void wrong_buffers(void)
+{
+    struct lent l = fresh(SGH_SECOND_WAY);
+    uint8_t longer[CAPACITY + 1] = {0};
+
+    push_slice(&l, FRAME, 10);
+    l.n = 77;
+    struct lent before = l;
+    HELD(sgh_push_byte(&l.d, l.buf, CAPACITY - 1, 0, l.values) == SGH_WRONG_BUFFER && same(&l, &before));
+    HELD(sgh_push_byte(&l.d, longer, CAPACITY + 1, 0, l.values) == SGH_WRONG_BUFFER && same(&l, &before));
+    before.n = 0;
+    HELD(sgh_push_slice(&l.d, l.buf, CAPACITY - 1, FRAME, sizeof FRAME, &l.n, l.values) == SGH_WRONG_BUFFER && same(&l, &before));
+    l.n = 77;
+    HELD(sgh_push_slice(&l.d, longer, CAPACITY + 1, FRAME, 0, &l.n, l.values) == SGH_WRONG_BUFFER && same(&l, &before));
+    for (unsigned i = 0; i <= CAPACITY; i++)
+        HELD(longer[i] == 0);
+}
+
+static void payloads(void)
+{
+    struct lent l = fresh(SGH_FIRST_WAY);
+
+    HELD(sgh_payload(&l.d, l.buf, CAPACITY, &l.n) == SGH_BAD_SPAN && l.n == 0);
+    push_slice(&l, FRAME, sizeof FRAME);
+    struct lent before = l;
+    before.n = 4;
+    HELD(sgh_payload(&l.d, l.buf, CAPACITY, &l.n) == SGH_GOOD && same(&l, &before));
+    before.n = 0;
+    HELD(sgh_payload(&l.d, l.buf, CAPACITY - 1, &l.n) == SGH_BAD_SPAN && same(&l, &before));
+    push_byte(&l, 0);
+    HELD(sgh_payload(&l.d, l.buf, CAPACITY, &l.n) == SGH_BAD_SPAN && l.n == 0);
+}
+
+static void ends(void)
+{
+    struct lent l = fresh(SGH_FIRST_WAY), new = l;
+
+    HELD(sgh_finalize(&l.d, l.values) == SGH_GOOD && same(&l, &new));
+    push_slice(&l, FRAME, 10);
+    HELD(sgh_finalize(&l.d, l.values) == SGH_DISCARDED_BYTES && says(&l, 1, 10, 0, 0, 0) && same_decoder(&l.d, &new.d));
+
+    l = new;
+    HELD(sgh_reset(&l.d, l.values) == SGH_GOOD && says(&l, 1, 0, 0, 0, 0) && same_decoder(&l.d, &new.d));
+    push_slice(&l, FRAME, 12);
+    HELD(sgh_reset(&l.d, l.values) == SGH_GOOD && says(&l, 1, 12, 0, 0, 0) && same_decoder(&l.d, &new.d));
+    HELD(push_slice(&l, FRAME, sizeof FRAME) == SGH_PAYLOAD);
+    HELD(sgh_reset(&l.d, l.values) == SGH_GOOD && says(&l, 1, 0, 0, 0, 0) && same_decoder(&l.d, &new.d));
+}
+
+/* A decoder is plain bytes: moved in the middle of a frame, with its buffer, it goes on where it was. */
+static void moved(void)
+{
+    struct lent rows[3] = {fresh(SGH_SECOND_WAY), UNTOUCHED, UNTOUCHED};
+
+    push_slice(&rows[0], FRAME, 10);
+    memcpy(&rows[2], &rows[0], sizeof rows[0]);
+    memset(&rows[0], 0, sizeof rows[0]);
+    HELD(push_slice(&rows[2], FRAME + 10, sizeof FRAME - 10) == SGH_PAYLOAD && memcmp(rows[2].buf, FRAME + START_LEN, 4) == 0);
+}
+
+/* ---- frames */
+
+static bool all_are(const uint8_t *s, size_t len, uint8_t b)
+{
+    for (size_t i = 0; i < len; i++)
+        if (s[i] != b)
+            return false;
+    return true;
+}
+
+static void encoding(void)
+{
+    size_t n = 77;
+
+    memset(out, 0xa5, sizeof out);
+    HELD(sgh_encode(FRAME + START_LEN, 4, out, sizeof out, &n) == SGH_GOOD && n == sizeof FRAME);
+    HELD(memcmp(out, FRAME, sizeof FRAME) == 0 && all_are(out + n, sizeof out - n, 0xa5));
+    memset(out, 0xa5, sizeof out);
+    HELD(sgh_encode(FRAME + START_LEN, 4, out, LAST, &n) == SGH_ENCODE_OUT_OF_MEMORY && n == 0 && all_are(out, sizeof out, 0xa5));
+    HELD(sgh_encode(bytes, SGH_LIMIT + 1, out, sizeof out, &n) == SGH_PAYLOAD_TOO_LONG && n == 0 && all_are(out, sizeof out, 0xa5));
+    n = 77;
+    HELD(sgh_encode(bytes, SGH_LIMIT + 1, out, 1, &n) == SGH_PAYLOAD_TOO_LONG && n == 0 && all_are(out, sizeof out, 0xa5));
+    /* the longest payload, each byte of it escaped: what the header says is always enough */
+    memset(bytes, 0x1b, SGH_LIMIT);
+    HELD(sgh_encode(bytes, SGH_LIMIT, out, 2 * SGH_LIMIT + 19, &n) == SGH_GOOD && n == 2 * SGH_LIMIT + 16);
+    memset(bytes, 0, SGH_LIMIT);
+}
+
+/* Whether the Encoder gives exactly this frame, and then nothing, again and again. */
+static bool gives(const uint8_t *payload, size_t len, const uint8_t *frame, size_t frame_len)
+{
+    sgh_encoder e;
+    uint8_t byte = 0;
+
+    sgh_encoder_new(&e);
+    for (size_t i = 0; i < frame_len; i++)
+        if (sgh_encoder_next(&e, payload, len, &byte) != SGH_GOOD || byte != frame[i])
+            return false;
+    for (int i = 0; i < 3; i++) {
+        sgh_encoder before = e;
+        byte = 0x77;
+        if (sgh_encoder_next(&e, payload, len, &byte) != SGH_FINISHED || byte != 0x77 || memcmp(&e, &before, sizeof e) != 0)
+            return false;
+    }
+    return true;
+}
+
+static void encoders(void)
+{
+    static const sgh_encoder wrong[] = {{4, 0, 0, 0}, {TOP, 0, 0, 0}, {0, 9, 0, 0}, {1, 5, 0, 0}, {2, 5, 0, 0}, {0, 256, 0, 0}, {1, 256, 0, 0}, {3, 12, 0, 0}, {3, 256, 0, 0}, {3, TOP, 0, 0}, {0, 0, 5, 0}, {3, 8, 5, 0}, {0, 0, TOP, 0}, {0, 0, 0, 65536}};
+    sgh_encoder e = {TOP, TOP, TOP, TOP}, before;
+    uint8_t byte = 0x77;
+
+    HELD(gives(FRAME + START_LEN, 4, FRAME, sizeof FRAME));
+    sgh_encoder_new(&e);
+    HELD(e.kind == 0 && e.count == 0 && e.place == 0 && e.crc <= UINT16_MAX);
+    before = e;
+    HELD(sgh_encoder_next(&e, bytes, SGH_LIMIT + 1, &byte) == SGH_PAYLOAD_TOO_LONG && byte == 0x77 && memcmp(&e, &before, sizeof e) == 0);
+    HELD(sgh_encoder_next(&e, bytes, SGH_LIMIT, &byte) == SGH_GOOD && byte == 0x1b);
+    for (unsigned k = 0; k < sizeof wrong / sizeof *wrong; k++) {
+        e = wrong[k];
+        byte = 0x77;
+        HELD(sgh_encoder_next(&e, FRAME + START_LEN, 4, &byte) == SGH_BAD_STATE && byte == 0x77 && memcmp(&e, &wrong[k], sizeof e) == 0);
+        HELD(sgh_encoder_next(&e, bytes, SGH_LIMIT + 1, &byte) == SGH_PAYLOAD_TOO_LONG && byte == 0x77 && memcmp(&e, &wrong[k], sizeof e) == 0);
+    }
+}
+
+/* ---- messages */
+
+/* A close, whole; document 01's numbers for what is wrong with a byte of it, at its place, stand in docs/PLACES.md. */
+static const uint8_t CLOSE[] = {0x76, 0x05, 0xdd, 0x43, 0x44, 0x00, 0x62, 0x00, 0x62, 0x00, 0x72, 0x63, 0x02, 0x01, 0x71, 0x01, 0x63, 0xfd, 0x56, 0x00};
+
+static sgh_event used(void)
+{
+    sgh_event e;
+
+    memset(&e, 0xa5, sizeof e);
+    return e;
+}
+
+/* Whether the event is of this kind and its words from `from` on are 0. */
+static bool ends_at(const sgh_event *e, uint64_t kind, unsigned from)
+{
+    for (unsigned i = from; i < SGH_EVENT_WORDS; i++)
+        if (e->words[i - 1] != 0)
+            return false;
+    return e->kind == kind;
+}
+
+static bool refused(const sgh_event *e, uint64_t event, uint64_t number, uint64_t kind, uint64_t place)
+{
+    return ends_at(e, event, 4) && e->refused.number == number && e->refused.kind == kind && e->refused.place == place;
+}
+
+static bool is_reader(const sgh_reader *r, uint64_t place, uint64_t start, uint64_t pending)
+{
+    return r->place == place && r->start == start && r->pending == pending;
+}
+
+static void reading(void)
+{
+    sgh_reader r = {0};
+    sgh_event e = used();
+
+    HELD(sizeof e == 8 * SGH_EVENT_WORDS && sizeof r == 24 && sizeof(sgh_encoder) == 32);
+    HELD(sgh_next_event(CLOSE, sizeof CLOSE, &r, &e) == SGH_GOOD && ends_at(&e, SGH_MESSAGE_START, 9) && is_reader(&r, 16, 0, 1));
+    HELD(e.message.transaction_id.start == 2 && e.message.transaction_id.len == 4 && e.message.body == SGH_CLOSE_RESPONSE && e.message.close.global_signature.present == 0);
+    e = used();
+    HELD(sgh_next_event(CLOSE, sizeof CLOSE, &r, &e) == SGH_FINISHED && ends_at(&e, SGH_NO_EVENT, 1) && is_reader(&r, sizeof CLOSE, 0, 0));
+    HELD(sgh_next_event(CLOSE, sizeof CLOSE, &r, &e) == SGH_FINISHED && ends_at(&e, SGH_NO_EVENT, 1));
+    /* cut behind its first event, every later call says so */
+    r = (sgh_reader){0};
+    HELD(sgh_next_event(CLOSE, sizeof CLOSE - 1, &r, &e) == SGH_GOOD);
+    for (int i = 0; i < 3; i++) {
+        e = used();
+        HELD(sgh_next_event(CLOSE, sizeof CLOSE - 1, &r, &e) == SGH_UNEXPECTED_EOF && refused(&e, SGH_REFUSED, SGH_UNEXPECTED_EOF, 0, 19) && is_reader(&r, 19, 0, 1));
+    }
+}
+
+static void readers(void)
+{
+    static const sgh_reader wrong[] = {{21, 0, 0}, {TOP, 0, 0}, {3, 4, 0}, {20, 21, 1}, {20, TOP, 0}, {20, 0, 4294967298}, {0, 0, TOP}};
+
+    for (unsigned k = 0; k < sizeof wrong / sizeof *wrong; k++) {
+        sgh_reader r = wrong[k];
+        sgh_event e = used();
+        HELD(sgh_next_event(CLOSE, sizeof CLOSE, &r, &e) == SGH_BAD_STATE && refused(&e, SGH_REFUSED_ALONE, SGH_BAD_STATE, 0, 0) && memcmp(&r, &wrong[k], sizeof r) == 0);
+        HELD(sgh_next_event(bytes, SGH_LIMIT + 1, &r, &e) == SGH_INPUT_TOO_LONG && refused(&e, SGH_REFUSED_ALONE, SGH_INPUT_TOO_LONG, 0, 0) && memcmp(&r, &wrong[k], sizeof r) == 0);
+    }
+    sgh_reader r = {0};
+    sgh_event e = used();
+    HELD(sgh_next_event(bytes, SGH_LIMIT, &r, &e) == SGH_INVALID_TLF && refused(&e, SGH_REFUSED, SGH_INVALID_TLF, SGH_TLF_LENGTH_UNDERFLOW, 0) && is_reader(&r, SGH_LIMIT, 0, 0));
+}
+
+/* A null pointer with length 0 is an empty slice, wherever one is taken. */
+static void nulls(void)
+{
+    struct lent l = UNTOUCHED;
+    sgh_encoder encoder;
+    sgh_reader r = {0};
+    sgh_event e = used();
+    uint8_t empty[16], byte;
+    size_t n = 77;
+
+    sgh_decoder_new(&l.d, 0, SGH_SECOND_WAY);
+    for (unsigned i = 0; i < START_LEN; i++)
+        HELD(sgh_push_byte(&l.d, NULL, 0, FRAME[i], l.values) == SGH_GOOD);
+    HELD(sgh_push_slice(&l.d, NULL, 0, NULL, 0, &n, l.values) == SGH_GOOD && n == 0);
+    HELD(sgh_push_slice(&l.d, NULL, 0, FRAME + START_LEN, 4, &n, l.values) == SGH_DECODER_OUT_OF_MEMORY && n == 1);
+    n = 77;
+    HELD(sgh_payload(&l.d, NULL, 0, &n) == SGH_BAD_SPAN && n == 0);
+    l = fresh(SGH_FIRST_WAY);
+    HELD(sgh_push_byte(&l.d, NULL, 0, 0, l.values) == SGH_WRONG_BUFFER);
+    HELD(sgh_push_slice(&l.d, NULL, 0, NULL, 0, &n, l.values) == SGH_WRONG_BUFFER);
+    HELD(push_slice(&l, NULL, 0) == SGH_GOOD && l.n == 0);
+    HELD(sgh_encode(NULL, 0, empty, sizeof empty, &n) == SGH_GOOD && n == sizeof empty && empty[14] == 0xc6 && empty[15] == 0xe5);
+    HELD(sgh_encode(NULL, 0, NULL, 0, &n) == SGH_ENCODE_OUT_OF_MEMORY && n == 0);
+    HELD(gives(NULL, 0, empty, sizeof empty));
+    sgh_encoder_new(&encoder);
+    encoder.place = 1;
+    HELD(sgh_encoder_next(&encoder, NULL, 0, &byte) == SGH_BAD_STATE);
+    HELD(sgh_crc(NULL, 0) == 0);
+    HELD(sgh_next_event(NULL, 0, &r, &e) == SGH_FINISHED && ends_at(&e, SGH_NO_EVENT, 1) && is_reader(&r, 0, 0, 0));
+}
+
+static int calls(void)
+{
+    making();
+    pushing_bytes();
+    pushing_slices();
+    no_decoders();
+    wrong_buffers();
+    payloads();
+    ends();
+    moved();
+    encoding();
+    encoders();
+    reading();
+    readers();
+    nulls();
+    HELD(sgh_crc((const uint8_t *)"123456789", 9) == 0x906e);
+    printf("%u facts, %u failed\n", held, failed);
+    return failed ? 1 : 0;
+}
+
+/* ---- answers */
+
+static void put_hex(const uint8_t *s, uint64_t len)
+{
+    for (uint64_t i = 0; i < len; i++)
+        printf("%02x", s[i]);
+}
+
+static void put_string(const char *name, const uint8_t *s, uint64_t present, uint64_t start, uint64_t len)
+{
+    printf(" %s=%s", name, present ? "x" : "-");
+    put_hex(s + start, len);
+}
+
+static void put_span(const char *name, const uint8_t *s, sgh_span p)
+{
+    put_string(name, s, 1, p.start, p.len);
+}
+
+static void put_opt_span(const char *name, const uint8_t *s, sgh_opt_span p)
+{
+    put_string(name, s, p.present, p.start, p.len);
+}
+
+static void put_opt(const char *name, const char *before, sgh_opt_unsigned n)
+{
+    if (n.present)
+        printf(" %s=%s%" PRIu64, name, before, n.value);
+    else
+        printf(n.value ? " %s=absent, and not 0" : " %s=-", name);
+}
+
+static void put_value(const uint8_t *s, const sgh_value *v)
+{
+    printf(" value=");
+    if (v->kind == SGH_VALUE_BYTES) {
+        printf("oct:");
+        put_hex(s + v->bytes.start, v->bytes.len);
+    } else if (v->kind == SGH_VALUE_SIGNED) {
+        printf("i%" PRIu64 ":%" PRId64, 8 * v->width, (int64_t)v->number);
+    } else if (v->kind == SGH_VALUE_UNSIGNED) {
+        printf("u%" PRIu64 ":%" PRIu64, 8 * v->width, v->number);
+    } else {
+        printf("%s%" PRIu64, v->kind == SGH_VALUE_BOOL ? "bool:" : "list:sec:", v->number);
+    }
+}
+
+static void put_entry(const uint8_t *s, const sgh_list_entry *e)
+{
+    printf("entry");
+    put_span("name", s, e->obj_name);
+    if (e->status.present)
+        printf(" status=u%" PRIu64 ":%" PRIu64, 8 * e->status.width, e->status.value);
+    else
+        printf(" status=-");
+    put_opt("time", "sec:", e->val_time);
+    put_opt("unit", "", e->unit);
+    if (e->scaler.present)
+        printf(" scaler=%" PRId64, e->scaler.value);
+    else
+        printf(" scaler=-");
+    put_value(s, &e->value);
+    put_opt_span("sig", s, e->value_signature);
+}
+
+static void put_body(const uint8_t *s, const sgh_message_start *m)
+{
+    if (m->body == SGH_OPEN_RESPONSE) {
+        put_opt_span("codepage", s, m->open.codepage);
+        put_opt_span("client", s, m->open.client_id);
+        put_span("file", s, m->open.req_file_id);
+        put_span("server", s, m->open.server_id);
+        put_opt("time", "sec:", m->open.ref_time);
+        put_opt("version", "", m->open.sml_version);
+    } else if (m->body == SGH_CLOSE_RESPONSE) {
+        put_opt_span("sig", s, m->close.global_signature);
+    } else {
+        put_opt_span("client", s, m->list.client_id);
+        put_span("server", s, m->list.server_id);
+        put_opt_span("name", s, m->list.list_name);
+        put_opt("time", "sec:", m->list.act_sensor_time);
+        printf(" n=%" PRIu64, m->list.num_vals);
+    }
+}
+
+static void put_event(const uint8_t *s, const sgh_event *e)
+{
+    static const char *const bodies[] = {"body 0", "open", "close", "list"};
+
+    if (e->kind == SGH_MESSAGE_START) {
+        printf("%s", bodies[e->message.body]);
+        put_span("tid", s, e->message.transaction_id);
+        printf(" group=%" PRIu64 " abort=%" PRIu64, e->message.group_no, e->message.abort_on_error);
+        put_body(s, &e->message);
+    } else if (e->kind == SGH_LIST_ENTRY) {
+        put_entry(s, &e->entry);
+    } else if (e->kind == SGH_GET_LIST_RESPONSE_END) {
+        printf("end");
+        put_opt_span("sig", s, e->end.list_signature);
+        put_opt("time", "sec:", e->end.act_gateway_time);
+    } else if (e->kind == SGH_NO_EVENT) {
+        printf("none");
+    } else {
+        printf("err %" PRIu64 " %" PRIu64 " @%" PRIu64, e->refused.number, e->refused.kind, e->refused.place);
+    }
+}
+
+/* As `places` of bin/replay: up to the first call without an event, or to a refusal and three more calls. */
+static void answer_events(const uint8_t *s, size_t len)
+{
+    sgh_reader r = {0};
+    sgh_event e;
+    uint32_t answer = SGH_GOOD;
+
+    while (answer == SGH_GOOD) {
+        answer = sgh_next_event(s, len, &r, &e);
+        put_event(s, &e);
+        fputs(answer == SGH_GOOD ? " | " : "", stdout);
+    }
+    for (int more = answer == SGH_FINISHED ? 0 : 3; more > 0; more--) {
+        sgh_next_event(s, len, &r, &e);
+        fputs(" | ", stdout);
+        put_event(s, &e);
+    }
+}
+
+static void put_answer(uint32_t answer, const uint8_t *buf, const uint64_t v[SGH_VALUES])
+{
+    if (answer == SGH_PAYLOAD) {
+        fputs(v[0] ? "payload " : "payload", stdout);
+        put_hex(buf, v[0]);
+    } else if (answer == SGH_DISCARDED_BYTES) {
+        printf("discarded %" PRIu64, v[0]);
+    } else if (answer == SGH_INVALID_ESC) {
+        printf("escape %02" PRIx64 "%02" PRIx64 "%02" PRIx64 "%02" PRIx64, v[0], v[1], v[2], v[3]);
+    } else if (answer == SGH_INVALID_MESSAGE) {
+        printf("invalid %04" PRIx64 " %04" PRIx64 " %s %" PRIu64, v[0], v[1], v[2] ? "misaligned" : "aligned", v[3]);
+    } else if (answer == SGH_DECODER_OUT_OF_MEMORY) {
+        fputs("memory", stdout);
+    } else {
+        printf("answer %" PRIu32, answer);
+    }
+}
+
+/* Prints an answer that says something, behind `before` others; gives how many there are then. */
+static unsigned put_said(unsigned before, size_t index, uint32_t answer, const uint8_t *buf, const uint64_t v[SGH_VALUES])
+{
+    if (answer == SGH_GOOD)
+        return before;
+    printf("%s%zu:", before ? ";" : "", index);
+    put_answer(answer, buf, v);
+    return before + 1;
+}
+
+/* As `push` of bin/replay, with finalize at the end: in chunks of `size` bytes, or by single pushes where that is 0. */
+static void answer_push(uint8_t way, size_t capacity, size_t size, const uint8_t *s, size_t len)
+{
+    sgh_decoder d;
+    uint64_t v[SGH_VALUES];
+    size_t taken = 1;
+    unsigned said = 0;
+
+    sgh_decoder_new(&d, capacity, way);
+    for (size_t i = 0; i < len && taken > 0; i += taken) {
+        size_t n = len - i < size ? len - i : size;
+        uint32_t answer = size == 0 ? sgh_push_byte(&d, out, capacity, s[i], v) : sgh_push_slice(&d, out, capacity, s + i, n, &taken, v);
+        said = put_said(said, i + taken, answer, out, v);
+    }
+    said = put_said(said, len + 1, sgh_finalize(&d, v), out, v);
+    fputs(said ? "" : "-", stdout);
+}
+
+/* The frame, if the Encoder gives the same. */
+static void answer_encode(const uint8_t *s, size_t len)
+{
+    size_t n;
+
+    sgh_encode(s, len, out, 2 * len + 19, &n);
+    if (gives(s, len, out, n))
+        put_hex(out, n);
+    else
+        printf("differ");
+}
+
+static size_t unhex(const char *text)
+{
+    size_t n = 0;
+
+    for (; text[2 * n] > ' '; n++) {
+        const char two[] = {text[2 * n], text[2 * n + 1], '\0'};
+        bytes[n] = (uint8_t)strtoul(two, NULL, 16);
+    }
+    return n;
+}
+
+/* A line is a letter, three numbers (way, capacity and size of a chunk, of `p` alone) and the bytes in hex. */
+static int answers(void)
+{
+    static char line[200000];
+
+    while (fgets(line, sizeof line, stdin) != NULL) {
+        char *at = line + 1;
+        unsigned long n[3];
+        for (int i = 0; i < 3; i++)
+            n[i] = strtoul(at, &at, 10);
+        size_t len = unhex(at + 1);
+        if (line[0] == 'p')
+            answer_push((uint8_t)n[0], n[1], n[2], bytes, len);
+        else if (line[0] == 'e')
+            answer_events(bytes, len);
+        else if (line[0] == 'f')
+            answer_encode(bytes, len);
+        else
+            printf("%04x", sgh_crc(bytes, len));
+        putchar('\n');
+    }
+    return 0;
+}
+
+int main(int argc, char **argv)
+{
+    if (argc == 2 && strcmp(argv[1], "calls") == 0)
+        return calls();
+    if (argc == 2 && strcmp(argv[1], "answers") == 0)
+        return answers();
+    return 2;
+}

@@ -1,0 +1,526 @@
+"""The library as C links it (include/sartrogheo.h, libsartrogheo.a, examples/, scripts/install, docs/LIBRARY.md).
+
+The header says what the crate exports: each constant is the number that the definitions have, each prototype that of one export, each word of an event that of `eventWords`; C++ takes it too. The archive is for x86-64, defines the exports and nothing else, has nothing that can be
+written, and asks for nothing but what a compiler asks for by itself. tests/library.c makes every call with good and bad input, and answers random commands, each as tests/push_rules.py, tests/places_reading.py and oracle/sml.py do, which were written from the documents alone.
+The examples are built with the toolchain, and print of the captures and of a recording with noise and damaged frames what is stored in tests/expected, and what those readings say. An installed folder is moved, and is all that the program of docs/LIBRARY.md is built with.
+
+`python3 tests/test_library.py N` runs N random commands of each kind, with --all 20,000; --store writes the output of the examples to tests/expected.
+"""
+import glob, os, platform, random, re, select, shutil, struct, subprocess, sys, tempfile
+from decimal import Decimal
+
+sys.dont_write_bytecode = True
+os.chdir(os.path.join(os.path.dirname(os.path.abspath(__file__)), ".."))
+sys.path += ["scripts", "oracle"]
+import clink, push_rules
+from messages import ABSENT, BOOL, INT, LIST, OCT, UINT, element, file, length, sealed, unsigned
+from places_reading import NAMES, Reading, crc
+from sml import START, frame
+
+push_rules.crc = crc  # the same by a table: it is asked for at every frame's end of 200 lines
+SEED, GATE, ALL = 20250911, 700, 20000
+LIMIT, LINES, CAPACITY, TIMES = 1048576, 200, 4096, 2  # the last three are those of the examples
+EXAMPLES = ["collector", "host"]
+faults = []
+
+
+def held(what, said, wanted):
+    if said != wanted:
+        faults.append(f"{what}\n  wanted   {str(wanted)[:600]}\n  found    {str(said)[:600]}")
+
+
+def held_lines(what, output, wanted):
+    """Of long outputs the first line that differs is told."""
+    for k, (one, other) in enumerate(zip(output.split("\n") + [None], wanted.split("\n") + [None]), 1):
+        if one != other:
+            return held(f"{what}, line {k}", one, other)
+
+
+def text(path):
+    return open(path, encoding="utf-8").read()
+
+
+def ran(words, data=b""):
+    """Status and output of a program."""
+    run = subprocess.run(words, input=data, stdout=subprocess.PIPE, stderr=subprocess.STDOUT)
+    return run.returncode, run.stdout.decode()
+
+
+def said(what, words, data=b""):
+    """The output of a program that must end with 0."""
+    status, output = ran(words, data)
+    held(f"{what}: status", (status, output[-300:] if status else ""), (0, ""))
+    return output
+
+
+# ---- the header
+
+HEADER = re.sub(r"/\*.*?\*/", "", text("include/sartrogheo.h"), flags=re.S)
+EXPORTS = "".join(map(text, sorted(glob.glob("crates/sartrogheo/src/*.rt"))))
+WORDS = re.sub("--.*", "", text("crates/words/specs/Words.antt"))
+# what a term of a definition of words puts down
+PARTS = {"spanWords": [".start", ".len"], "numberWord": [""], "valueWords": [".kind", ".width", ".number", ".bytes.start", ".bytes.len"],
+         "fieldWords 2 spanWords": [".present", ".start", ".len"], "fieldWords 2 statusWords": [".present", ".width", ".value"], "fieldWords 1 numberWord": [".present", ".value"], "fieldWords 1 signedWord": [".present", ".value"]}
+# the definition and its cases, whose numbers are constants; where a case's fields stand in an event
+TAGS = {("startWords", "m"): "MESSAGE_START", ("endWords", "e"): "GET_LIST_RESPONSE_END", ("entryWords", "e"): "LIST_ENTRY", ("saidWords", "noEvent"): "NO_EVENT", ("saidWords", "failed f"): "REFUSED", ("saidWords", "alone number"): "REFUSED_ALONE",
+        ("bodyWords", "openBody b"): "OPEN_RESPONSE", ("bodyWords", "closeBody b"): "CLOSE_RESPONSE", ("bodyWords", "listBody b"): "GET_LIST_RESPONSE",
+        ("valueWords", "truth b"): "VALUE_BOOL", ("valueWords", "bytes s"): "VALUE_BYTES", ("valueWords", "signed width z"): "VALUE_SIGNED", ("valueWords", "unsigned width n"): "VALUE_UNSIGNED", ("valueWords", "listTime n"): "VALUE_TIME"}
+PLACED = {("startWords", "m"): "message.", ("bodyWords", "openBody b"): "message.open.", ("bodyWords", "closeBody b"): "message.close.", ("bodyWords", "listBody b"): "message.list.", ("endWords", "e"): "end.", ("entryWords", "e"): "entry.", ("saidWords", "failed f"): "refused."}
+# the type of a parameter, and of an answer
+TYPES = {"&mut [u8; 28]": "sgh_decoder *", "&[u8; 28]": "const sgh_decoder *", "&mut [u64; 3]": "sgh_reader *", "&mut [u64; 24]": "sgh_event *", "&[u8]": "const uint8_t *, size_t", "&mut [u8]": "uint8_t *, size_t",
+         "&mut usize": "size_t *", "&mut u8": "uint8_t *", "u8": "uint8_t", "usize": "size_t", "u16": "uint16_t", "u32": "uint32_t", "": "void"}
+
+
+def upper(name):
+    return re.sub("(?<=[a-z])(?=[A-Z])", "_", name).upper()
+
+
+def numbers_of(path, pattern):
+    """The numbers that a file defines, by name."""
+    return {name: int(n) for name, n in re.findall(pattern, text(path), re.M)}
+
+
+# document 01's, by number; the kinds of 11, by name
+REFUSALS = {n: upper(name) for name, n in numbers_of("crates/refusals/specs/Numbers.antt", r"^(\w+)No = (\d+)$").items() if n <= 16}
+KINDS = numbers_of("crates/refusals/specs/Answers.antt", r"^kindOf (\w+) = (\d)$")
+
+
+def terms(name, case):
+    """What a definition of words puts down for a case, in order."""
+    body = re.search(rf"^{name} \(?{re.escape(case)}\)? =((?:.*\n)(?:    .*\n)*)", WORDS, re.M)
+    if not body:
+        sys.exit(f"test_library: crates/words/specs/Words.antt has no {name} of {case}")
+    return [t for t in map(str.strip, re.split(r"∷|\+\+", body.group(1))) if t not in ("", "[]")]
+
+
+def constants():
+    """The header's constants by the definitions and the code that the proofs are about."""
+    held("document 01's numbers", sorted(REFUSALS), list(range(1, 17)))
+    wanted = {name: n for n, name in REFUSALS.items()} | {upper(name): n for name, n in KINDS.items()}
+    wanted |= {upper(name): n for name, n in numbers_of("crates/sartrogheo/specs/Calls.antt", r"^(good|payload|finished)No = (\d+)$").items()}
+    wanted |= numbers_of("crates/decoder/src/lib.rt", r"const (\w+_WAY): u8 = (\d);")
+    wanted |= {case: int(terms(*words)[0]) for words, case in TAGS.items()}
+    wanted["LIMIT"] = numbers_of("crates/refusals/specs/Numbers.antt", r"^(limit) = (\d+)$")["limit"]
+    wanted["DECODER_LEN"] = numbers_of("crates/packed/src/lib.rt", r"^pub const (LEN): usize = (\d+);")["LEN"]
+    wanted["VALUES"] = int(re.search(r"values: &mut \[u64; (\d+)\]", EXPORTS).group(1))
+    wanted["EVENT_WORDS"] = int(re.search(r"^eventWords s = withZeros (\d+)", WORDS, re.M).group(1))
+    found = {name: int(n) for name, n in re.findall(r"^#define SGH_(\w+) (\d+)u *$", HEADER, re.M)}
+    held("constants: names", sorted(found), sorted(wanted))
+    held("constants: numbers", {name: n for name, n in found.items() if n != wanted.get(name)}, {})
+    held("constants: every line", len(found), len(re.findall("^#define SGH_", HEADER, re.M)))
+    return len(found)
+
+
+def layout():
+    """The words of an event by `eventWords`, each with the name that it has in C."""
+    words = {"kind": 0, "message.body": 5}
+    for (name, case), place in PLACED.items():
+        at = 6 if name == "bodyWords" else 1
+        for term in terms(name, case)[1:]:
+            what, field = re.fullmatch(r"(?:(.*) )?\(?\w+ \.«?(\w+)»?\)?", term).groups()
+            if what == "bodyWords":
+                held("layout: where a body begins", at, 5)
+                continue
+            for part in PARTS[what] if what else [""]:
+                words[place + field + part], at = at, at + 1
+    return words
+
+
+def leaves(kind, structs):
+    """All fields of a struct, by their names in C; those of an unnamed union belong to the struct."""
+    for names in structs[kind]:
+        sort, names = names.split(" ", 1)
+        for name in names.split(", "):
+            yield from ([name] if sort not in structs else (f"{name}.{leaf}" for leaf in leaves(sort, structs)))
+
+
+def compiles(folder, what, source, flags):
+    path = os.path.join(folder, "asked.c")
+    open(path, "w").write(source)
+    status, output = ran([clink.tools("bin/clang"), "--target=x86_64-unknown-linux-gnu", *clink.PLAIN, *clink.INCLUDE, *flags, "-fsyntax-only", path])
+    held(what, output if status else "", "")
+
+
+def structs_are(folder):
+    """The header's structs have exactly the fields of the words, where C puts them; the plain arrays of the exports are as long."""
+    flat = re.sub(r"^    \};\n", "", re.sub(r"^    union \{\n", "", HEADER, flags=re.M), flags=re.M)
+    structs = {name: [" ".join(f.split()) for f in body.split(";") if f.strip() and "[" not in f] for body, name in re.findall(r"typedef struct \{(.*?)\} (\w+);", flat, re.S)}
+    words = layout()
+    held("layout: fields of sgh_event", sorted(leaves("sgh_event", structs)), sorted(words))
+    asked = [f"_Static_assert(offsetof(sgh_event, {path}) == {8 * at} && sizeof(((sgh_event *)0)->{path}) == 8, \"{path}\");" for path, at in words.items()]
+    sizes = {"sgh_decoder": "SGH_DECODER_LEN", "sgh_event": "8 * SGH_EVENT_WORDS", "sgh_encoder": "8 * 4", "sgh_reader": "8 * 3"}
+    asked += [f"_Static_assert(sizeof({name}) == {size}, \"{name}\");" for name, size in sizes.items()]
+    held("layout: Encoder and reader", [list(leaves(name, structs)) for name in ("sgh_encoder", "sgh_reader")], [["kind", "count", "place", "crc"], ["place", "start", "pending"]])
+    compiles(folder, "layout: as the compiler has it", "\n".join(["#include <stddef.h>", "#include <sartrogheo.h>", *asked, ""]), ["-std=c11"])
+    compiles(folder, "the header alone, in C11", "#include <sartrogheo.h>\n", ["-std=c11", "-pedantic", "-Wpadded"])
+    compiles(folder, "the header alone, in C++", "#include <sartrogheo.h>\n", ["-x", "c++", "-std=c++11", "-pedantic"])
+    return len(words)
+
+
+def prototypes():
+    """Each export as C has it. `values` is a plain array, any other four numbers are an Encoder."""
+    wanted = {}
+    for name, parameters, answer in re.findall(r'#\[no_mangle\]\s*pub extern "C" fn (\w+)\(([^)]*)\)(?: -> (\w+))?', EXPORTS):
+        pairs = [p.strip().split(": ", 1) for p in parameters.replace("\n", " ").split(",") if p.strip()]
+        types = [TYPES.get(t) or ("uint64_t [SGH_VALUES]" if n == "values" else "sgh_encoder *") for n, t in pairs]
+        held(f"types of {name}", [t for n, t in pairs if t not in TYPES and t != "&mut [u64; 4]"], [])
+        wanted[name] = f"{TYPES[answer]} ({', '.join(types)})"
+    found = {}
+    for answer, name, parameters in re.findall(r"^(\w+) (\w+)\(([^)]*)\);", HEADER, re.M):
+        types = [re.sub(r"\w+$|\w+(?=\[)", "", p.strip()).strip() for p in parameters.split(",")]
+        found[name] = f"{answer} ({', '.join(types)})"
+    held("exports with no prototype", sorted(set(wanted) - set(found)), [])
+    held("prototypes with no export", sorted(set(found) - set(wanted)), [])
+    for name in set(wanted) & set(found):
+        held(f"prototype of {name}", found[name], wanted[name])
+    return set(wanted)
+
+
+# ---- the archive
+
+# what compilers ask for of any program, with and without a C library
+ALLOWED = {"memcpy", "memmove", "memset", "memcmp"}
+WRITE, ALLOC, TLS, EXEC = 1, 2, 0x400, 4
+
+
+def members(data):
+    """The files of an archive, without its own tables."""
+    at = 8
+    held("archive: first bytes", data[:8], b"!<arch>\n")
+    while at < len(data):
+        name, size = data[at : at + 16].decode().strip(), int(data[at + 48 : at + 58])
+        if name not in ("/", "//", "/SYM64/"):
+            yield name, data[at + 60 : at + 60 + size]
+        at += 60 + size + size % 2
+
+
+def looked(name, elf):
+    """What an object file defines for all, and what it asks for; that nothing of it can be written and its stack is not to be run."""
+    held(f"{name}: 64 bits, low byte first, an object file, x86-64", (elf[:6], *struct.unpack_from("<HH", elf, 16)), (b"\x7fELF\2\1", 1, 62))
+    table, (size, count, names) = struct.unpack_from("<Q", elf, 40)[0], struct.unpack_from("<HHH", elf, 58)
+    sections = [struct.unpack_from("<IIQQQQIIQQ", elf, table + k * size) for k in range(count)]
+    called = lambda base, at: elf[base + at : elf.index(b"\0", base + at)].decode()
+    section = {called(sections[names][4], s[0]): s for s in sections}
+    held(f"{name}: what can be written", [n for n, s in section.items() if s[2] & ALLOC and s[2] & (WRITE | TLS) and s[5]], [])
+    held(f"{name}: a stack that can be run", section[".note.GNU-stack"][2] & EXEC, 0)
+    symbols = section[".symtab"]
+    defined, asked = set(), set()
+    for at in range(symbols[4], symbols[4] + symbols[5], 24):
+        word, info, _, index, _, _ = struct.unpack_from("<IBBHQQ", elf, at)
+        held(f"{name}: memory that is common to all", index == 0xFFF2, False)
+        if info >> 4 and index:
+            held(f"{name}: {called(sections[symbols[6]][4], word)} is a function", info & 15, 2)
+        if info >> 4:
+            (defined if index else asked).add(called(sections[symbols[6]][4], word))
+    return defined, asked
+
+
+def archive_is(exports):
+    defined, asked = set(), set()
+    for name, elf in members(open(clink.archive(), "rb").read()):
+        here = looked(name, elf)
+        defined, asked = defined | here[0], asked | here[1]
+    held("archive: what it defines for all", sorted(defined), sorted(exports))
+    held("archive: what it asks for beyond the compiler's own", sorted(asked - defined - ALLOWED), [])
+    return os.path.getsize(clink.archive())
+
+
+# ---- random commands
+
+ESC = b"\x1b" * 4
+
+
+def bytes_of(r):
+    """Noise, frames, right and bent, and what begins like one."""
+    def piece():
+        data = bytes(r.choices(b"\x1b\x1b\x1b\1\1\x1a\0\2" + bytes([r.randrange(256)]), k=r.randrange(30)))
+        whole = frame(data)
+        k = r.randrange(len(whole))
+        return r.choice((whole, whole, data, START + data, whole[:k], whole[:k] + bytes([r.randrange(256)]) + whole[k + 1 :], START + data + ESC + b"\x1a\0\0\0", b"\x1b" * r.randint(1, 9), START))
+    return b"".join(piece() for _ in range(r.randint(0, 5)))
+
+
+def numbered(line):
+    """A line of `places` with a refusal's number, kind and place."""
+    def one(m):
+        held(f"the name of {m[3]}", m[1], NAMES[int(m[3])])
+        return f"err {m[3]} {KINDS[m[2]] if m[2] else 0} @{m[4]}"
+    return re.sub(r"err (\w+)(?: (\w+))? (\d+) @(\d+)", one, line)
+
+
+def commands(n):
+    """Commands, and what the readings answer."""
+    r = random.Random(SEED)
+    for _ in range(n):
+        data, way, capacity, size = bytes_of(r), r.choice((1, 2)), r.choice((r.randrange(40), 64)), r.choice((0, 0, 1, 3, 7, 200))
+        yield f"p {way} {capacity} {size} {data.hex()}", push_rules.answer(capacity, [data, "f"], way)
+        data = bytes_of(r)
+        yield f"f 0 0 0 {data.hex()}", frame(data).hex()
+        yield f"c 0 0 0 {data.hex()}", "%04x" % crc(data)
+        data = file(r)
+        yield f"e 0 0 0 {data.hex()}", numbered(Reading(data).line())
+
+
+def answers(program, n):
+    asked = list(commands(n))
+    output = said("library answers", [*program, "answers"], "".join(line + "\n" for line, _ in asked).encode()).split("\n")[:-1]
+    held("library answers: lines", len(output), len(asked))
+    for (line, wanted), one in zip(asked, output):
+        held(f"library answers: {line[:200]}", one, wanted)
+    everything = " ".join(output)
+    # a run that reaches too little says little
+    for word in [] if n < GATE else ["payload", "discarded", "memory", "escape", "invalid", "misaligned", "open", "close", "list", "entry", "end", "none", *(f"err {k}" for k in range(10, 16)), *(f"err 11 {k}" for k in range(1, 6)), "bool:", "oct:", "list:sec:", *(f"{s}{w}:" for s in "iu" for w in (8, 16, 32, 64))]:
+        held(f"library answers: some say {word}", re.search(rf"\b{word}", everything) is not None, True)
+    return len(asked)
+
+
+# ---- the examples
+
+UNITS = {27: "W", 30: "Wh", 33: "A", 35: "V", 44: "Hz"}
+REFUSED = {"discarded": "6 DiscardedBytes", "memory": "3 OutOfMemory", "escape": "7 InvalidEsc", "invalid": "8 InvalidMessage"}
+
+
+def number(x, width):
+    return element(INT, x.to_bytes(width, "big", signed=True))
+
+
+def entry(name, value, unit=ABSENT, scaler=None):
+    return b"\x77" + element(OCT, name) + ABSENT + ABSENT + unit + (ABSENT if scaler is None else number(scaler, 1)) + value + ABSENT
+
+
+def list_of(entries):
+    """A message with these entries."""
+    return sealed(b"\x76" + element(OCT, b"\1\2") + unsigned(0, 1) + unsigned(0, 1) + b"\x72" + unsigned(0x701, 2) + b"\x77" + ABSENT + element(OCT, b"\x0a\1") + ABSENT + ABSENT + length(LIST, len(entries)) + b"".join(entries) + ABSENT + ABSENT)
+
+
+def values():
+    """Each kind of value, names of other lengths, units with and without a name, and the ends of numbers and scalers."""
+    name, wh = bytes.fromhex("0100010800ff"), unsigned(30, 1)
+    plain = [element(BOOL, b"\0"), element(BOOL, b"\7"), element(OCT, b""), element(OCT, b"\x1b" * 9), b"\x72" + unsigned(1, 1) + unsigned(86400, 4), b"\x72" + unsigned(1, 1) + b"\x72" + unsigned(1, 1) + unsigned(7, 1)]
+    numbers = [unsigned(x, w) for w in (1, 2, 4, 8) for x in (0, 1, 256**w - 1)] + [number(x, w) for w in (1, 2, 4, 8) for x in (-(256**w) // 2, -1, 256**w // 2 - 1)] + [element(UINT, b"\1\2\3"), element(INT, b"\xff\xfe\xfd\xfc\xfb")]
+    scaled = [(x, s) for x in (unsigned(0, 1), unsigned(5, 1), number(-12345, 4), unsigned(2**64 - 1, 8), number(-(2**63), 8)) for s in (-128, -21, -20, -19, -5, -4, -1, 0, 1, 2, 127)]
+    entries = [entry(name, v) for v in plain + numbers] + [entry(name, x, wh, s) for x, s in scaled]
+    entries += [entry(name, unsigned(7, 1), unsigned(u, 1), -1) for u in (0, *UNITS, 62, 255)] + [entry(b"", unsigned(7, 1)), entry(b"\1", unsigned(7, 1)), entry(bytes(range(250, 256)), unsigned(7, 1)), entry(name + b"\0", unsigned(7, 1))]
+    return list_of(entries)
+
+
+def recording():
+    """Noise, frames with all kinds of values, and every refusal of a frame and of a message."""
+    meter, bare = (open(f"captures/{name}.bin", "rb").read() for name in ("two-byte-length", "bare-times"))
+    noise = bytes(b for b in random.Random(SEED).randbytes(40) if b != 0x1B)
+    close = bytes.fromhex("7605dd4344006200620072630201710163fd5600")
+    whole = list_of([entry(b"\1\0\1\x08\0\xff", unsigned(k, 1)) for k in range(3)])
+    # a byte missing; each kind of 11; another type; a tag; the CRC; the end byte; a list that breaks in its second entry; nothing but a byte
+    broken = [close[:-1], *(close[:15] + bytes.fromhex(b) + close[16:] for b in ("10", "c2", "8112", "818080808080808080", "00")), close[:14] + b"\x72" + close[15:], close[:13] + b"\2" + close[14:], close[:18] + b"\x57\0", close[:-1] + b"\1", close + whole[:45] + b"\x52" + whole[46:], b"\x01"]
+    parts = [noise, b"\x1b", meter, meter[:100] + b"\xff" + meter[101:], meter[:150], bare, START, ESC, bytes([2, 0, 0, 9]), noise, frame(bytes(CAPACITY)), frame(bytes(CAPACITY - 4)), frame(values()), frame(b""), *map(frame, broken), meter, b"\x1b\x1b", bare[:57]]
+    return b"".join(parts)
+
+
+def shown(event):
+    """An entry of the reading as the collector prints it."""
+    field = dict(word.split("=", 1) for word in event.split(" ")[1:])
+    name = bytes.fromhex(field["name"][1:])
+    kind, _, value = field["value"].partition(":")
+    if kind == "bool":
+        value = ("false", "true")[int(value)]
+    elif kind == "list":
+        value = value.split(":")[1] + " s"
+    elif kind != "oct":
+        moved = Decimal(value).scaleb(0 if field["scaler"] == "-" else int(field["scaler"]))
+        value = format(moved if moved or moved.as_tuple().exponent < 0 else Decimal(0), "f")
+    unit = "" if field["unit"] == "-" else " " + UNITS.get(int(field["unit"]), "unit " + field["unit"])
+    return ("%d-%d:%d.%d.%d*%d" % tuple(name) if len(name) == 6 else name.hex() or "-") + " " + (value or "-") + unit
+
+
+def told(event, place):
+    """A decoder's refusal as the collector prints it."""
+    word, *rest = event.split(" ")
+    more = {"discarded": ": {} lost", "memory": "", "escape": ": {}", "invalid": ": CRC {}, computed {}, {}, {} pads"}[word].format(*rest)
+    return f"refused {REFUSED[word]} at byte {place} of the input{more}"
+
+
+def collected(data):
+    """The collector's lines and status, by the readings."""
+    d, lines, payloads, refused = push_rules.Decoder(CAPACITY, 2), [], 0, False
+    for place in range(len(data) + 1):
+        event = d.push(data[place]) if place < len(data) else d.finalize()
+        if event and event.startswith("payload"):
+            payloads += 1
+            found = Reading(bytes.fromhex(event[8:]))
+            lines += [shown(e) for e in found.events if e.startswith("entry")]
+            f = found.refusal
+            if f:
+                lines.append(f"refused {f.number} {NAMES[f.number]}{f.kind and ' ' + f.kind} at byte {f.place} of payload {payloads}")
+            refused = refused or f is not None
+        elif event:
+            lines.append(told(event, place))
+            refused = True
+    return "".join(line + "\n" for line in lines), int(refused)
+
+
+def hosted(data):
+    """What the host prints, by the reading."""
+    lines, sums = "", [0, 0, 0]
+    for i in range(LINES):
+        at = len(data) * i // LINES
+        events = push_rules.events(CAPACITY, (data[at:] + data[:at]) * TIMES, 2)
+        payloads = [bytes.fromhex(e[8:]) for e in events if e.startswith("payload")]
+        counts = len(payloads), len(events) - len(payloads), sum(int(e.split(" ")[1]) for e in events if e.startswith("discarded"))
+        lines += f"{i}: payloads %d, refused %d, lost %d, sum {sum(map(crc, payloads)) % 65536:04x}\n" % counts
+        sums = [a + b for a, b in zip(sums, counts)]
+    return lines + "all: payloads %d, refused %d, lost %d\n" % tuple(sums)
+
+
+def stored(name, output):
+    """The output of an example is what is stored."""
+    path = f"tests/expected/{name}.txt"
+    if "--store" in sys.argv:
+        open(path, "w").write(output)
+    held_lines(path, output, text(path))
+
+
+def as_it_comes(program, meter):
+    """A frame's lines come before anything follows it."""
+    run, wanted = subprocess.Popen(program, stdin=subprocess.PIPE, stdout=subprocess.PIPE), collected(meter)[0].encode()
+    for _ in range(2):
+        run.stdin.write(meter)
+        run.stdin.flush()
+        got = b""
+        while len(got) < len(wanted) and select.select([run.stdout], [], [], 20)[0]:
+            got += os.read(run.stdout.fileno(), 65536)
+        held("collector, a live pipe", got, wanted)
+    run.stdin.close()
+    held("collector, a live pipe: its end", (run.stdout.read(), run.wait()), (b"", 0))
+
+
+def used(name, program, folder):
+    """Options and files."""
+    status, output = ran([*program, "-h"])
+    held(f"{name} -h", (status, output.startswith(f"{name} [FILE]: ")), (0, True))
+    for words in (["-x"], ["a", "b"], ["-h", "a"]):
+        held(f"{name} {words}", ran([*program, *words]), (2, f"usage: {name} [-h] [FILE]\n"))
+    held(f"{name}, no file", ran([*program, os.path.join(folder, "none")]), (2, f"{name}: {folder}/none: No such file or directory\n"))
+    held(f"{name}, a folder", ran([*program, folder]), (2, f"{name}: {folder}: Is a directory\n"))
+    full = subprocess.run([*program, os.path.join(folder, "damaged.bin")], stdout=open("/dev/full", "w"), stderr=subprocess.PIPE, text=True)
+    held(f"{name}, no room for the output", (full.returncode, full.stderr), (2, f"{name}: output: No space left on device\n"))
+
+
+def examples(folder):
+    programs = {name: clink.built(f"examples/{name}.c", os.path.join(folder, name)) for name in EXAMPLES}
+    path = os.path.join(folder, "damaged.bin")
+    open(path, "wb").write(recording())
+    for name in ("captures/two-byte-length.bin", "captures/bare-times.bin", path):
+        data, short = open(name, "rb").read(), os.path.basename(name)[:-4]
+        (status, output), wanted = ran([*programs["collector"], name]), collected(data)
+        held_lines(f"collector {short}", output, wanted[0])
+        held(f"collector {short}: status", status, wanted[1])
+        held(f"collector {short}, standard input", ran(programs["collector"], data), (status, output))
+        stored(f"collector-{short}", output)
+        output = said(f"host {short}", [*programs["host"], name])
+        held_lines(f"host {short}", output, hosted(data))
+        held(f"host {short}, standard input", ran([*programs["host"], "-"], data), (0, output))
+    stored("host-damaged", output)
+    lines = text("tests/expected/collector-damaged.txt")
+    for word in ["refused %d " % k for k in (3, 6, 7, 8, *range(10, 16))] + ["InvalidTlf " + k for k in KINDS]:
+        held(f"the recording has {word}", word in lines, True)
+    held("collector, nothing", ran(programs["collector"]), (0, ""))
+    held("host, nothing", ran(programs["host"])[1].split("\n")[LINES], "all: payloads 0, refused 0, lost 0")
+    held("host, too long", ran(programs["host"], bytes(LIMIT)), (2, "host: -: a recording of a megabyte or more\n"))
+    as_it_comes(programs["collector"], open("captures/two-byte-length.bin", "rb").read())
+    for name, program in programs.items():
+        used(name, program, folder)
+
+
+# ---- what is installed
+
+
+def below(folder):
+    return sorted(os.path.relpath(os.path.join(at, name), folder) for at, _, names in os.walk(folder) for name in names)
+
+
+def flags_of(folder):
+    """What pkg-config says of the folder: words for the compiler, and for the linker."""
+    at = os.path.join(folder, "lib/pkgconfig")
+    variables = {"pcfiledir": at}
+    for name, mark, value in re.findall(r"^(\w+)(=|: )(.*)$", text(os.path.join(at, "sartrogheo.pc")), re.M):
+        variables[name] = re.sub(r"\$\{(\w+)\}", lambda m: variables[m[1]], value)
+    words = variables["Cflags"].split(), variables["Libs"].split()
+    if shutil.which("pkg-config"):
+        for option, ours in zip(("--cflags", "--libs"), words):
+            output = said("pkg-config", ["env", f"PKG_CONFIG_PATH={at}", "pkg-config", option, "sartrogheo"])
+            held(f"pkg-config {option}", [os.path.normpath(w[2:]) for w in output.split()], [os.path.normpath(w[2:]) for w in ours])
+    return words
+
+
+def installed(folder, exports):
+    """An installed folder, moved, is all that a program needs: here that of docs/LIBRARY.md."""
+    first, moved = os.path.join(folder, "first"), os.path.join(folder, "moved", "here")
+    for _ in range(2):
+        held("scripts/install", ran(["scripts/install", first]), (0, f"installed into {first}\n"))
+    os.makedirs(os.path.dirname(moved))
+    os.rename(first, moved)
+    names = ["include/sartrogheo.h", "lib/libsartrogheo.a", "lib/pkgconfig/sartrogheo.pc", "share/sartrogheo/NOTICE"]
+    rust = subprocess.run(["git", "ls-files", "-co", "--exclude-standard", "rust"], capture_output=True, text=True).stdout.split() if os.path.isdir("rust") else []
+    held("installed files", below(moved), sorted(names + ["share/sartrogheo/" + f for f in rust if not f.endswith(".gitignore")]))
+    for name, source in zip(names, ["include/sartrogheo.h", clink.archive(), None, "NOTICE"]):
+        held(f"installed {name}", source is None or open(os.path.join(moved, name), "rb").read() == open(source, "rb").read(), True)
+    if rust:
+        version = re.search(r'^version = "(.*)"', text("rust/Cargo.toml"), re.M).group(1)
+        held("the version that pkg-config knows", re.search("^Version: (.*)", text(os.path.join(moved, names[2])), re.M).group(1), version)
+    page = text("docs/LIBRARY.md")
+    held("docs/LIBRARY.md: calls", sorted(re.findall(r"^\| `(sgh_\w+)` \|", page, re.M)), sorted(exports))
+    held("docs/LIBRARY.md: numbers", re.findall(r"^\| (\d+)(?: to \d+)? \| `SGH_(\w+)`", page, re.M), [(str(k), REFUSALS[k]) for k in (*range(1, 11), 16)])
+    source, wanted = re.search(r"^```c\n(.*?)^```", page, re.M | re.S).group(1), re.search(r"^```text\n(.*?)^```", page, re.M | re.S).group(1)
+    path = os.path.join(folder, "page.c")
+    open(path, "w").write(source)
+    include, library = flags_of(moved)
+    program = clink.built(path, os.path.join(folder, "page"), include, library)
+    held("the program of docs/LIBRARY.md", ran(program, open("captures/two-byte-length.bin", "rb").read()), (0, wanted))
+    held("scripts/install -h", (ran(["scripts/install", "-h"])[0], ran(["scripts/install", "-h"])[1][:8]), (0, "install "))
+    held("scripts/install, no folder", ran(["scripts/install"]), (2, "usage: scripts/install [-h] FOLDER\n"))
+    held("scripts/install, a file", ran(["scripts/install", path]), (2, f"install: {path}/lib: Not a directory\n"))
+    return include, library
+
+
+def own_compiler(folder, include, library):
+    """The machine's own compiler takes the examples, with its own headers; on x86-64 they are linked and run, too."""
+    cc = shutil.which("cc")
+    if not cc:
+        print("skipped: this machine's own compiler: no cc")
+        return
+    for name in EXAMPLES:
+        out, here = os.path.join(folder, name + "-own"), platform.machine() == "x86_64"
+        said(f"cc {name}", [cc, "-std=c11", "-pedantic-errors", "-Wall", "-Wextra", "-O2", *include, f"examples/{name}.c", *(library if here else ["-c"]), "-o", out])
+        if here:
+            held_lines(f"{name} by cc", ran([out, os.path.join(folder, "damaged.bin")])[1], text(f"tests/expected/{name}-damaged.txt"))
+
+
+def end_at_faults():
+    for fault in sorted(faults, key=len)[:5]:
+        print(fault)
+    if faults:
+        sys.exit(f"{len(faults)} faults")
+
+
+def main(folder):
+    numbers = [int(w) for w in sys.argv[1:] if w.isdigit()]
+    found, exports = constants(), prototypes()
+    fields = structs_are(folder)
+    # what is wrong in the header would only show again as what the compiler says
+    end_at_faults()
+    size = archive_is(exports)
+    library = clink.built("tests/library.c", os.path.join(folder, "library"))
+    facts = said("library calls", [*library, "calls"])
+    held("library calls: the last line", re.fullmatch(r"\d{3,} facts, 0 failed", facts.strip()) is None and facts, False)
+    asked = answers(library, ALL if "--all" in sys.argv else (numbers + [GATE])[0])
+    examples(folder)
+    own_compiler(folder, *installed(folder, exports))
+    end_at_faults()
+    print(f"library: {found} constants, {len(exports)} prototypes and {fields} fields of an event as the definitions have them; an archive of {size:,} bytes with these functions alone; {facts.split(' ')[0]} facts of the calls; {asked:,} random commands; two examples, an installed folder and the page's program")
+
+
+folder = os.path.realpath(tempfile.mkdtemp())
+try:
+    main(folder)
+finally:
+    shutil.rmtree(folder)
