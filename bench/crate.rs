@@ -1,4 +1,4 @@
-//! The crate sml-rs 0.4.0 doing what crate bench does, for instructions and times beside it: crate FUNCTION CALLS REPEAT CAPACITY, the input on standard input.
+//! The crate sml-rs 0.4.0 doing what crate bench does, for instructions and times beside it: crate FUNCTION CALLS REPEAT, and what main.c takes behind them, the input on standard input.
 //! Prints the last call's number and the nanoseconds of all calls. It is built by oracle/build over the crate's unchanged files.
 #![allow(dead_code, unused_imports, missing_docs)]
 extern crate alloc;
@@ -50,7 +50,7 @@ fn main() {
     std::io::stdin().read_to_end(&mut once).unwrap();
     let input = once.repeat(number(3));
     let call = || match args[1].as_str() {
-        "bench_push" | "bench_push_slice" | "bench_push_slice_second" | "bench_packed" => push(&input),
+        "bench_push" | "bench_push_slice" | "bench_push_slice_second" | "bench_packed" | "sgh_push_byte" | "sgh_push_slice" => push(&input),
         "bench_encode" => encode(&input),
         "bench_stream" => stream(&input),
         "bench_events" => events(&input),

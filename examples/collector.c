@@ -201,14 +201,15 @@ static bool flushed(void)
     return fflush(stdout) == 0 && !ferror(stdout);
 }
 
-/* read, not fread: it gives what has come so far. Flushed behind each chunk, so that whoever reads the output waits for no more than that. */
+/* By read, which gives what has come so far and is called again where a signal cut it; flushed behind each chunk, so that whoever reads the output waits for no more than that. */
 static int collect(int in, const char *path, struct line *l)
 {
     uint8_t chunk[1024];
     ssize_t n;
 
-    while ((n = read(in, chunk, sizeof chunk)) > 0) {
-        take(l, chunk, (size_t)n);
+    while ((n = read(in, chunk, sizeof chunk)) > 0 || (n < 0 && errno == EINTR)) {
+        if (n > 0)
+            take(l, chunk, (size_t)n);
         if (!flushed())
             return fail("output");
     }

@@ -1,7 +1,7 @@
 /* Sartrogheo: SML meter frames (transport version 1) and messages, every function proved. Link libsartrogheo.a; docs/LIBRARY.md tells how.
 
-   Any bytes may come in: no call relies on what its caller checked, and none stops the program. What is refused has document 01's number, and leaves
-   what the comment says. No heap, no global: a call touches only what it is lent, so that calls over different memory may run at once.
+   Any bytes may come in: no call relies on what its caller checked, and none stops the program. What is refused has the number of a refusal below, and leaves
+   what the comment says. A state whose counts could not be is refused; other bytes that no call left are taken as they are, and the answers mean nothing then. No heap, no global: a call touches only what it is lent, so that calls over different memory may run at once.
    A pointer that is null with length 0 is an empty slice; every other pointer must be good for its length, and what a call writes must not overlap with anything else that it is lent. */
 #ifndef SARTROGHEO_H
 #define SARTROGHEO_H
@@ -22,7 +22,7 @@ extern "C" {
 #define SGH_PAYLOAD_TOO_LONG 1u      /* a payload of more than SGH_LIMIT bytes */
 #define SGH_ENCODE_OUT_OF_MEMORY 2u  /* the whole frame doesn't fit in the output */
 #define SGH_DECODER_OUT_OF_MEMORY 3u /* a byte to store doesn't fit in the decoder's buffer */
-#define SGH_BAD_STATE 4u             /* a decoder, Encoder or reader that no call leaves (28 zero bytes are no decoder), or an unknown way */
+#define SGH_BAD_STATE 4u             /* a decoder, Encoder or reader that can't be (zeros are no decoder and no Encoder), or an unknown way */
 #define SGH_WRONG_BUFFER 5u          /* the lent buffer isn't as long as the capacity, or a capacity over SGH_LIMIT */
 #define SGH_DISCARDED_BYTES 6u       /* bytes before a start, or before finalize, belong to no frame */
 #define SGH_INVALID_ESC 7u           /* an escape with four bytes that mean nothing */
@@ -41,7 +41,7 @@ extern "C" {
 #define SGH_MSG_END_MISMATCH 15u   /* a message's end byte isn't 00 */
 #define SGH_BAD_SPAN 16u           /* no payload stands in the buffer */
 
-#define SGH_LIMIT 1048576u /* the longest payload, buffer and message input */
+#define SGH_LIMIT 1048576u /* the longest payload to encode, the longest buffer and message input; a decoder hands out SGH_LIMIT - 4 bytes at most */
 
 /* ---- the decoder: 28 plain bytes, which may be copied, stored and kept in an array */
 
@@ -64,7 +64,7 @@ uint32_t sgh_decoder_new(sgh_decoder *d, size_t capacity, uint8_t way);
 #define SGH_VALUES 4u
 
 /* Pushes a byte. Gives 0, SGH_PAYLOAD, 3 to 8. The buffer is the decoder's own: lend the same one each time, and let nobody else write it.
-   4 and 5 leave decoder and buffer as they are. */
+   4 and 5 leave decoder and buffer as they are. Behind 3, 7 and 8 it searches again (3 leaves the buffer as it is, 7 and 8 have stored the byte); behind 6 a frame has begun. */
 uint32_t sgh_push_byte(sgh_decoder *d, uint8_t *buf, size_t len, uint8_t byte, uint64_t values[SGH_VALUES]);
 
 /* Pushes bytes up to and with the first that has something to say, and writes how many it took. Gives what that byte's push gives, or 0 if all were taken;
@@ -86,7 +86,7 @@ uint32_t sgh_reset(sgh_decoder *d, uint64_t values[SGH_VALUES]);
 /* Writes the payload's frame to `out`: 2 * payload_len + 19 bytes are always enough. Gives 0 and its length; 1 or 2, length 0, and `out` as it was. */
 uint32_t sgh_encode(const uint8_t *payload, size_t payload_len, uint8_t *out, size_t len, size_t *frame_len);
 
-/* A frame a byte at a time, for a payload that is lent at every call and stays the same. */
+/* A frame a byte at a time, for a payload that is lent at every call and stays the same. {0} is no Encoder: sgh_encoder_new makes one. */
 typedef struct {
     uint64_t kind, count, place, crc;
 } sgh_encoder;
@@ -132,8 +132,8 @@ typedef struct {
 
 #define SGH_VALUE_BOOL 1u     /* `number` is 0 or 1 */
 #define SGH_VALUE_BYTES 2u    /* `bytes` */
-#define SGH_VALUE_SIGNED 3u   /* `number` as an int64_t, from a number of `width` bytes: 1, 2, 4 or 8 */
-#define SGH_VALUE_UNSIGNED 4u /* `number`, from a number of `width` bytes */
+#define SGH_VALUE_SIGNED 3u   /* `number` as an int64_t; `width` is the least of 1, 2, 4 and 8 bytes that has room for the bytes sent */
+#define SGH_VALUE_UNSIGNED 4u /* `number`; `width` as of a signed one */
 #define SGH_VALUE_TIME 5u     /* a list with a time: `number` seconds */
 
 /* What its kind doesn't use is 0. */

@@ -1,5 +1,5 @@
 //! Links libsartrogheo.a: that of the folder SARTROGHEO_LIB_DIR, else the one that was built or installed with this crate.
-use std::path::PathBuf;
+use std::path::{Path, PathBuf};
 use std::{env, process};
 
 const ARCHIVE: &str = "libsartrogheo.a";
@@ -9,14 +9,17 @@ fn refuse(said: &str) -> ! {
     process::exit(1)
 }
 
-/// Where the archive stands beside this crate: in the repository, and where both are installed, the crate in share/sartrogheo/rust.
-fn beside() -> Vec<PathBuf> {
-    let own = env::var_os("CARGO_MANIFEST_DIR").map(PathBuf::from).unwrap_or_default();
-    let up = |n: usize, folder: &str| own.ancestors().nth(n).map(|at| at.join(folder));
-    up(1, "target/staticlib").into_iter().chain(up(3, "lib")).collect()
+/// The folder for the archive beside this crate, which must stand where it is installed, in share/sartrogheo/rust, or in the repository: nobody else's archive is taken.
+fn beside() -> Option<PathBuf> {
+    let own = env::var_os("CARGO_MANIFEST_DIR").map(PathBuf::from)?;
+    if own.ends_with("share/sartrogheo/rust") {
+        return own.ancestors().nth(3).map(|at| at.join("lib"));
+    }
+    let repository = |at: &&Path| ["crates.txt", "include/sartrogheo.h"].iter().all(|name| at.join(name).is_file());
+    own.parent().filter(repository).map(|at| at.join("target/staticlib"))
 }
 
-/// The folder with the archive. Those beside the crate are looked at for x86-64 Linux alone: the archive is compiled for nothing else.
+/// The folder with the archive. The one beside the crate is looked at for x86-64 Linux with pointers of 64 bits alone: the archive is compiled for nothing else.
 fn found() -> PathBuf {
     if let Some(folder) = env::var_os("SARTROGHEO_LIB_DIR").map(PathBuf::from) {
         if !folder.join(ARCHIVE).is_file() {
@@ -24,18 +27,18 @@ fn found() -> PathBuf {
         }
         return folder;
     }
-    let [processor, system] = ["ARCH", "OS"].map(|part| env::var(format!("CARGO_CFG_TARGET_{part}")).unwrap_or_default());
-    if (processor.as_str(), system.as_str()) != ("x86_64", "linux") {
+    let target = ["ARCH", "OS", "POINTER_WIDTH"].map(|part| env::var(format!("CARGO_CFG_TARGET_{part}")).unwrap_or_default());
+    if target != ["x86_64", "linux", "64"] {
         refuse(&format!(
-            "{ARCHIVE} is for x86-64 Linux, and this is {processor} {system}: set SARTROGHEO_LIB_DIR to a folder with one for it (docs/MOVING.md)"
+            "{ARCHIVE} is for x86-64 Linux with pointers of 64 bits, and this is {}: set SARTROGHEO_LIB_DIR to a folder with one for it (docs/MOVING.md)",
+            target.join(" ")
         ));
     }
-    match beside().into_iter().find(|folder| folder.join(ARCHIVE).is_file()) {
-        Some(folder) => folder,
-        None => refuse(&format!(
-            "no {ARCHIVE} in {:?}: build it by `rt staticlib sartrogheo`, install it by scripts/install, or set SARTROGHEO_LIB_DIR",
-            beside()
-        )),
+    let to_do = "install it by scripts/install, or set SARTROGHEO_LIB_DIR";
+    match beside() {
+        Some(folder) if folder.join(ARCHIVE).is_file() => folder,
+        Some(folder) => refuse(&format!("no {ARCHIVE} in {}: build it by `rt staticlib sartrogheo`, {to_do}", folder.display())),
+        None => refuse(&format!("no {ARCHIVE} belongs to a crate at this place: {to_do}")),
     }
 }
 

@@ -6,15 +6,15 @@ The toolchain's own compiler, linker and C library do it, so that nothing else i
 the words have the emulator where one is needed. The first run proves and builds the library. Status: 1 no proof, or not compiled; 2 usage.
 Try: $(scripts/clink.py examples/collector.c target/collector) captures/two-byte-length.bin
 """
-import functools, os, subprocess, sys
+import functools, os, shutil, subprocess, sys
 
 sys.dont_write_bytecode = True
 import programs
 
 ROOT = programs.ROOT
 LIBRARY, SECONDS = "sartrogheo", 400
-# C11 as any compiler takes it; the toolchain's has no headers of its own, and must not find the machine's
-PLAIN = ["-Wall", "-Wextra", "-Werror", "-O2", "-nostdinc", "-isystem", os.path.join(ROOT, "scripts/headers")]
+# C11 as any compiler takes it; the toolchain's has no headers of its own, must not find the machine's, and is told the one number that scripts/headers/errno.h lacks
+PLAIN = ["-Wall", "-Wextra", "-Werror", "-O2", "-nostdinc", "-isystem", os.path.join(ROOT, "scripts/headers"), "-DEINTR=4"]
 C11 = ["-std=c11", *PLAIN]
 INCLUDE = ["-I", os.path.join(ROOT, "include")]
 
@@ -40,14 +40,24 @@ def rt(command, name):
         sys.exit(1)
 
 
+def fresh(path, proof):
+    """Whether an archive is there and not older than its crate's last proof."""
+    return os.path.exists(path) and os.path.exists(proof) and os.path.getmtime(path) >= os.path.getmtime(proof)
+
+
 @functools.lru_cache(maxsize=None)
 def archive(name=LIBRARY):
-    """The path of a crate's archive, which is proved and written unless it is younger than the crate's last proof. It is asked for once a run."""
+    """The path of a crate's archive, which is proved and written unless it is younger than the crate's last proof; without rt only such a one is taken. It is asked for once a run."""
     lock = programs.turn()
     path, proof = os.path.join(ROOT, "target/staticlib", f"lib{name}.a"), os.path.join(ROOT, "target/stamp", name)
-    rt("check", name)
-    if not os.path.exists(path) or not os.path.exists(proof) or os.path.getmtime(path) < os.path.getmtime(proof):
-        rt("staticlib", name)
+    if shutil.which("rt"):
+        rt("check", name)
+        if not fresh(path, proof):
+            rt("staticlib", name)
+    elif fresh(path, proof):
+        print(f"rt is not at hand: {path} is taken, of the last proof; whether the sources have changed since is not looked at", file=sys.stderr, flush=True)
+    else:
+        programs.refuse(f"rt, the command of the Rattle toolchain, is not at hand, and {path} is missing or older than its proof")
     os.close(lock)
     return path
 

@@ -113,7 +113,7 @@ static void pushing_bytes(void)
     l = fresh(SGH_SECOND_WAY);
     for (size_t i = 0; i < LAST; i++)
         push_byte(&l, FRAME[i]);
-    HELD(push_byte(&l, 0x7a) == SGH_INVALID_MESSAGE && says(&l, 4, 0x7ab8, 0x7bb8, 0, 0));
+    HELD(push_byte(&l, 0x7a) == SGH_INVALID_MESSAGE && says(&l, 4, 0x7ab8, 0x7bb8, 0, 0) && l.buf[7] == 0x7a);
     for (size_t i = 0; i < START_LEN; i++)
         HELD(push_byte(&l, FRAME[i]) == SGH_GOOD);
     for (unsigned i = 0; i < CAPACITY; i++)
@@ -135,7 +135,8 @@ static void pushing_slices(void)
     HELD(push_slice(&l, FRAME, 0) == SGH_GOOD && l.n == 0);
     HELD(push_slice(&l, FRAME + LAST, 1) == SGH_PAYLOAD && l.n == 1);
     HELD(push_slice(&l, FRAME, START_LEN) == SGH_GOOD);
-    HELD(push_slice(&l, escape, sizeof escape) == SGH_INVALID_ESC && l.n == sizeof escape && says(&l, 4, 2, 0, 0, 9));
+    HELD(push_slice(&l, escape, sizeof escape) == SGH_INVALID_ESC && l.n == sizeof escape && says(&l, 4, 2, 0, 0, 9) && memcmp(l.buf, escape + 4, 4) == 0);
+    HELD(push_slice(&l, FRAME, sizeof FRAME) == SGH_PAYLOAD && l.n == sizeof FRAME);
 
     /* in the first way the stray 1b hides the frame */
     l = fresh(SGH_FIRST_WAY);
@@ -236,6 +237,28 @@ static bool all_are(const uint8_t *s, size_t len, uint8_t b)
     return true;
 }
 
+/* What a decoder with the largest buffer says of the frame of n zeros. */
+static uint32_t largest(size_t n, uint64_t values[SGH_VALUES])
+{
+    sgh_decoder d;
+    size_t len, taken;
+
+    memset(bytes, 0, sizeof bytes);
+    HELD(sgh_encode(bytes, n, out, sizeof out, &len) == SGH_GOOD);
+    HELD(sgh_decoder_new(&d, SGH_LIMIT, SGH_SECOND_WAY) == SGH_GOOD);
+    return sgh_push_slice(&d, bytes, SGH_LIMIT, out, len, &taken, values);
+}
+
+/* The longest payload that a decoder hands out, and one more. */
+static void longest(void)
+{
+    uint64_t values[SGH_VALUES] = {0};
+
+    HELD(largest(SGH_LIMIT - 4, values) == SGH_PAYLOAD && values[0] == SGH_LIMIT - 4 && all_are(bytes, SGH_LIMIT - 4, 0));
+    HELD(largest(SGH_LIMIT - 3, values) == SGH_DECODER_OUT_OF_MEMORY);
+    memset(bytes, 0, sizeof bytes);
+}
+
 static void encoding(void)
 {
     size_t n = 77;
@@ -275,13 +298,13 @@ static bool gives(const uint8_t *payload, size_t len, const uint8_t *frame, size
 
 static void encoders(void)
 {
-    static const sgh_encoder wrong[] = {{4, 0, 0, 0}, {TOP, 0, 0, 0}, {0, 9, 0, 0}, {1, 5, 0, 0}, {2, 5, 0, 0}, {0, 256, 0, 0}, {1, 256, 0, 0}, {3, 12, 0, 0}, {3, 256, 0, 0}, {3, TOP, 0, 0}, {0, 0, 5, 0}, {3, 8, 5, 0}, {0, 0, TOP, 0}, {0, 0, 0, 65536}};
+    static const sgh_encoder wrong[] = {{0}, {0, 0, 0, 65535}, {5, 0, 0, 0}, {256, 0, 0, 0}, {257, 0, 0, 0}, {TOP, 0, 0, 0}, {1, 9, 0, 0}, {2, 5, 0, 0}, {3, 5, 0, 0}, {1, 256, 0, 0}, {2, 256, 0, 0}, {4, 12, 0, 0}, {4, 256, 0, 0}, {4, TOP, 0, 0}, {1, 0, 5, 0}, {4, 8, 5, 0}, {1, 0, TOP, 0}, {1, 0, 0, 65536}, {1, 0, 0, TOP}};
     sgh_encoder e = {TOP, TOP, TOP, TOP}, before;
     uint8_t byte = 0x77;
 
     HELD(gives(FRAME + START_LEN, 4, FRAME, sizeof FRAME));
     sgh_encoder_new(&e);
-    HELD(e.kind == 0 && e.count == 0 && e.place == 0 && e.crc <= UINT16_MAX);
+    HELD(e.kind == 1 && e.count == 0 && e.place == 0 && e.crc <= UINT16_MAX);
     before = e;
     HELD(sgh_encoder_next(&e, bytes, SGH_LIMIT + 1, &byte) == SGH_PAYLOAD_TOO_LONG && byte == 0x77 && memcmp(&e, &before, sizeof e) == 0);
     HELD(sgh_encoder_next(&e, bytes, SGH_LIMIT, &byte) == SGH_GOOD && byte == 0x1b);
@@ -291,6 +314,22 @@ static void encoders(void)
         HELD(sgh_encoder_next(&e, FRAME + START_LEN, 4, &byte) == SGH_BAD_STATE && byte == 0x77 && memcmp(&e, &wrong[k], sizeof e) == 0);
         HELD(sgh_encoder_next(&e, bytes, SGH_LIMIT + 1, &byte) == SGH_PAYLOAD_TOO_LONG && byte == 0x77 && memcmp(&e, &wrong[k], sizeof e) == 0);
     }
+}
+
+/* An Encoder begins with kind 1, and goes through no kinds but 1 to 4, no counts over 11 and no CRC over 16 bits. */
+static void encoder_words(void)
+{
+    static const uint8_t escaped[] = {0x1b, 0x1b, 0x1b, 0x1b, 7};
+    unsigned found = 0;
+    sgh_encoder e;
+    uint8_t byte;
+
+    sgh_encoder_new(&e);
+    do {
+        HELD(e.kind >= 1 && e.kind <= 4 && e.count <= 11 && e.place <= sizeof escaped && e.crc <= UINT16_MAX);
+        found |= 1u << (e.kind & 7);
+    } while (sgh_encoder_next(&e, escaped, sizeof escaped, &byte) == SGH_GOOD);
+    HELD(found == (1u << 1 | 1u << 2 | 1u << 3 | 1u << 4));
 }
 
 /* ---- messages */
@@ -401,8 +440,10 @@ static int calls(void)
     payloads();
     ends();
     moved();
+    longest();
     encoding();
     encoders();
+    encoder_words();
     reading();
     readers();
     nulls();

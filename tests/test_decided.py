@@ -13,16 +13,23 @@ def plain(text):
     return " ".join(text.split())
 
 
-def gathered(takes, ensures):
-    """An export's equation: its number with all that it may write, in the order of its parameters and a single number as a list of one, is one outcome `r`. None where something is left out."""
-    lent = re.findall(r"(\w+): &mut", takes)
-    at = {n: f"(now ({n} .exit) ∷ [])" if re.search(rf"\b{n}: &mut (?:usize|u8)\b", takes) else f"now ({n} .exit)" for n in lent}
-    whole = [f"reply r ({' ∷ '.join([at[n] for n in lent] + ['[]'])}) ≡ ", f"now ({lent[0]} .exit) ≡ " if len(lent) == 1 else ""]
-    return next(("r ≡ " + ensures[len(w) :] for w in whole if w and ensures.startswith(w)), None)
+def outcome(takes, gives, ensures):
+    """An export's outcome: its number with all that it may write beside it, the last outermost; the type, and the equation over it."""
+    lent = re.findall(r"(\w+): &(?:'\w+ )?mut (\[[^]]*\]|\w+)", " ".join(takes.split()))
+    if not gives:  # a call without a number has one thing to write
+        return "List ℕ", ensures.replace(f"now ({lent[0][0]} .exit)", "r")
+    kind, said = "ℕ", ensures.replace("reply r ", f"reply (r{' .answer' * len(lent)}) ")
+    for i, (name, of) in enumerate(lent):
+        kind = f"Beside {kind if i == 0 else f'({kind})'} {'ℕ' if of in ('usize', 'u8') else '(List ℕ)'}"
+        said = said.replace(f"now ({name} .exit)", f"r{' .answer' * (len(lent) - 1 - i)} .lent")
+    return kind, re.sub(r"\(now \((\w+) \.entry\)\)", r"\1", said)
 
 
 bad, seen = [], 0
 FN = re.compile(r'^\s*pub (?:extern "C" )?fn (\w+)(?:<.*?>)?\((.*?)\)(?: -> \S.*?)?\n\s*ensures \{ λ r\. ⌜ (.*?) ⌝ \}', re.M | re.S)
+
+
+raw = {}  # the equations of the lines as they are written
 
 
 def lines(crate):
@@ -34,6 +41,7 @@ def lines(crate):
     found = re.findall(r"^  pub ([\w-]+) : (.*?)One \(λ \(r : (.*?)\)\. (.*)\)$", text, re.M)
     if len(found) != len(re.findall(r"^  pub ", text, re.M)):
         bad.append(f"{path}: a line of another form")
+    raw.update({name: said for name, _, _, said in found})
     return {name: (set(" ".join(re.findall(r"\((\w[\w ]*) :", over)).split()), answer, plain(said)) for name, over, answer, said in found}
 
 
@@ -53,14 +61,10 @@ def held(crate, paths):
             if over != set(re.findall(r"(\w+)(?=:)", takes)) | set(re.findall(r"\bself\b", takes)):
                 bad.append(f"{crate}: {key} is not over the parameters of {name}")
             # the bytes of a decoder are lent as a record is, beside the memory
-            if crate == "sartrogheo" and "&mut" in takes:
-                # all that an export may write stands in its equation
-                if gathered(takes, ensures) is None or answer != ("Reply" if "reply r" in ensures else "List ℕ"):
-                    bad.append(f"{crate}: what {name} changes is not beside its answer")
-                    continue
-                ensures = gathered(takes, ensures)
-                if said != plain(ensures):
-                    bad.append(f"{crate}: {key} says `{said}`, and the contract `{plain(ensures)}`")
+            if crate == "sartrogheo" and "mut " in takes:
+                wanted = outcome(takes, re.search(r"fn %s\b[^{]*? -> " % name, text), ensures)
+                if (answer, " ".join(raw[key].split())) != (wanted[0], wanted[1]):
+                    bad.append(f"{crate}: {key} says `{answer}`: `{raw[key]}`, and the contract `{wanted[0]}`: `{wanted[1]}`")
                 yield name
                 continue
             memory, kept = "&mut [u8]" in takes.replace("bytes: &mut [u8]", ""), re.search(r"&mut (?:Decoder|Encoder|self)|bytes: &mut", takes)
@@ -119,8 +123,7 @@ def contracts():
         names = imported(text)
         for m in FN.finditer(text):
             of = re.findall(r"^(?:impl(?:<.*?>)? (\w+)|\})", text[: m.start()], re.M)[-1:]
-            said = "&mut" in m.group(2) and gathered(m.group(2), m.group(3)) or m.group(3)
-            yield path.split(os.sep)[1], (of[0] if of else "") or None, m.group(1), meant(names, said), said
+            yield path.split(os.sep)[1], (of[0] if of else "") or None, m.group(1), meant(names, m.group(3)), m.group(3)
 
 
 CONTRACTS = list(contracts())

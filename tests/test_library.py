@@ -2,7 +2,8 @@
 
 The header says what the crate exports: each constant is the number that the definitions have, each prototype that of one export, each word of an event that of `eventWords`; C++ takes it too. The archive is for x86-64, defines the exports and nothing else, has nothing that can be
 written, and asks for nothing but what a compiler asks for by itself. tests/library.c makes every call with good and bad input, and answers random commands, each as tests/push_rules.py, tests/places_reading.py and oracle/sml.py do, which were written from the documents alone.
-The examples are built with the toolchain, and print of the captures and of a recording with noise and damaged frames what is stored in tests/expected, and what those readings say. An installed folder is moved, and is all that the program of docs/LIBRARY.md is built with.
+The examples are built with the toolchain, and print of the captures and of a recording with noise and damaged frames what is stored in tests/expected, and what those readings say. An installed folder is moved, holds what docs/LIBRARY.md says, and is all that the program of that page
+is built with; a run of scripts/install that fails leaves a folder as it was.
 
 `python3 tests/test_library.py N` runs N random commands of each kind, with --all 20,000; --store writes the output of the examples to tests/expected.
 """
@@ -393,6 +394,32 @@ def as_it_comes(program, meter):
     held("collector, a live pipe: its end", (run.stdout.read(), run.wait()), (b"", 0))
 
 
+# the collector over a read that a signal cuts every other time, and that else gives few bytes
+CUT = """#include <errno.h>
+#include <unistd.h>
+
+static ssize_t cut_read(int in, void *to, size_t n)
+{
+    static unsigned calls;
+
+    errno = EINTR;
+    return calls++ %% 2 == 0 ? -1 : read(in, to, n < 700 ? n : 700);
+}
+
+#define read cut_read
+#include "%s"
+"""
+
+
+def cut(folder, path):
+    """A signal in the middle of a read changes nothing."""
+    source = os.path.join(folder, "cut.c")
+    open(source, "w").write(CUT % os.path.abspath("examples/collector.c"))
+    status, output = ran([*clink.built(source, os.path.join(folder, "cut")), path])
+    held("collector with signals: status", status, 1)
+    held_lines("collector with signals", output, text("tests/expected/collector-damaged.txt"))
+
+
 def used(name, program, folder):
     """Options and files."""
     status, output = ran([*program, "-h"])
@@ -427,6 +454,7 @@ def examples(folder):
     held("host, nothing", ran(programs["host"])[1].split("\n")[LINES], "all: payloads 0, refused 0, lost 0")
     held("host, too long", ran(programs["host"], bytes(LIMIT)), (2, "host: -: a recording of a megabyte or more\n"))
     as_it_comes(programs["collector"], open("captures/two-byte-length.bin", "rb").read())
+    cut(folder, path)
     for name, program in programs.items():
         used(name, program, folder)
 
@@ -452,34 +480,148 @@ def flags_of(folder):
     return words
 
 
-def installed(folder, exports):
-    """An installed folder, moved, is all that a program needs: here that of docs/LIBRARY.md."""
+def contents(folder):
+    return {name: open(os.path.join(folder, name), "rb").read() for name in below(folder)}
+
+
+def of_the_crate():
+    """The crate's files that are installed."""
+    found = subprocess.run(["git", "ls-files", "-co", "--exclude-standard", "rust"], capture_output=True, text=True).stdout.split()
+    return [name for name in found if os.path.exists(name) and not name.endswith(".gitignore") and not name.startswith("rust/compare/")]
+
+
+def sources():
+    """What is installed, by name, and the files that it is copied from; that for pkg-config is copied from none."""
+    share = "share/sartrogheo/"
+    wanted = {"include/sartrogheo.h": "include/sartrogheo.h", "lib/libsartrogheo.a": clink.archive(), "lib/pkgconfig/sartrogheo.pc": None}
+    wanted |= {share + name: name for name in ["NOTICE", *of_the_crate(), *glob.glob("examples/*.c")]}
+    return wanted | {f"{share}doc/{name}.md": f"docs/{name}.md" for name in ("LIBRARY", "MOVING", "PLACES")}
+
+
+def named(folder):
+    """The page and the command's help tell what the folder holds: all that is there stands at or below one of the names, and each of them is there."""
+    page, help = (re.findall(form, where, re.M) for form, where in ((r"^\| `([^`\s]+/[^`\s]*)` \|", text("docs/LIBRARY.md")), (r"^  (\S+/\S*)  ", text("scripts/install"))))
+    held("docs/LIBRARY.md and scripts/install -h on what is installed", page, help)
+    files = below(folder)
+    at = lambda name, file: file.startswith(name) if name.endswith("/") else file == name
+    held("installed, and not on the page", [f for f in files if not any(at(n, f) for n in page)], [])
+    held("on the page, and not installed", [n for n in page if not any(at(n, f) for f in files)], [])
+
+
+def installed(folder):
+    """An installed folder, moved: the files, as they are in the repository, and nothing of an earlier run. Gives where it is."""
     first, moved = os.path.join(folder, "first"), os.path.join(folder, "moved", "here")
+    for old in ("share/sartrogheo/rust/compare/compare.rs", "share/sartrogheo/doc/OLD.md", "lib/other.a"):
+        os.makedirs(os.path.dirname(os.path.join(first, old)), exist_ok=True)
+        open(os.path.join(first, old), "w").close()
     for _ in range(2):
         held("scripts/install", ran(["scripts/install", first]), (0, f"installed into {first}\n"))
+    held("scripts/install leaves what is another's", os.path.exists(os.path.join(first, "lib/other.a")), True)
+    os.remove(os.path.join(first, "lib/other.a"))
     os.makedirs(os.path.dirname(moved))
     os.rename(first, moved)
-    names = ["include/sartrogheo.h", "lib/libsartrogheo.a", "lib/pkgconfig/sartrogheo.pc", "share/sartrogheo/NOTICE"]
-    rust = subprocess.run(["git", "ls-files", "-co", "--exclude-standard", "rust"], capture_output=True, text=True).stdout.split() if os.path.isdir("rust") else []
-    held("installed files", below(moved), sorted(names + ["share/sartrogheo/" + f for f in rust if not f.endswith(".gitignore")]))
-    for name, source in zip(names, ["include/sartrogheo.h", clink.archive(), None, "NOTICE"]):
-        held(f"installed {name}", source is None or open(os.path.join(moved, name), "rb").read() == open(source, "rb").read(), True)
-    if rust:
-        version = re.search(r'^version = "(.*)"', text("rust/Cargo.toml"), re.M).group(1)
-        held("the version that pkg-config knows", re.search("^Version: (.*)", text(os.path.join(moved, names[2])), re.M).group(1), version)
-    page = text("docs/LIBRARY.md")
+    found, wanted = contents(moved), sources()
+    held("installed files", sorted(found), sorted(wanted))
+    held("installed, and not as it is here", [n for n, path in wanted.items() if path and found.get(n) != open(path, "rb").read()], [])
+    named(moved)
+    version = re.search(r'^version = "(.*)"', text("rust/Cargo.toml"), re.M).group(1)
+    held("the version that pkg-config knows", re.search("^Version: (.*)", found["lib/pkgconfig/sartrogheo.pc"].decode(), re.M).group(1), version)
+    return moved
+
+
+def repository(folder, rt=None, age=None):
+    """All that scripts/install needs, with an rt of these lines and an archive that is so many seconds younger than its proof; the command's words."""
+    shutil.rmtree(folder, ignore_errors=True)
+    for name in ("scripts", "include", "docs", "examples", "rust"):
+        shutil.copytree(name, os.path.join(folder, name), ignore=shutil.ignore_patterns("target", "__pycache__"))
+    shutil.copy("NOTICE", folder)
+    for name in ("bin", "target/staticlib", "target/stamp"):
+        os.makedirs(os.path.join(folder, name))
+    if rt is not None:
+        open(os.path.join(folder, "bin/rt"), "w").write("#!/bin/sh\n" + rt)
+        os.chmod(os.path.join(folder, "bin/rt"), 0o755)
+    for name, at in (("staticlib/libsartrogheo.a", age), ("stamp/sartrogheo", 0)):
+        if at is not None:
+            open(os.path.join(folder, "target", name), "w").write("an archive")
+            os.utime(os.path.join(folder, "target", name), (1700000000 + at,) * 2)
+    return ["/usr/bin/env", f"PATH={folder}/bin", sys.executable, os.path.join(folder, "scripts/install")]
+
+
+def untouched(what, words, to, status, said):
+    """A run that fails: what it says, and a folder with files and one that isn't there yet, both as they were."""
+    before = contents(to)
+    for one in (to, to + "-none"):
+        found, output = ran([*words, one])
+        held(f"scripts/install, {what}", (found, re.search(said.format(folder=one), output) is not None or output), (status, True))
+    held(f"scripts/install, {what}: the folder", sorted(n for n, data in contents(to).items() if before.get(n) != data) or sorted(before), sorted(before))
+    held(f"scripts/install, {what}: a new folder", os.path.exists(to + "-none"), False)
+
+
+def failing(folder):
+    """Without a proof, without rt, without room, and with something in the way."""
+    own, to = os.path.join(folder, "own"), os.path.join(folder, "to")
+    for name in ("lib/libsartrogheo.a", "include/sartrogheo.h", "share/sartrogheo/rust/src/lib.rs"):
+        os.makedirs(os.path.dirname(os.path.join(to, name)))
+        open(os.path.join(to, name), "w").write("an earlier one")
+    untouched("no proof", repository(own, "echo no proof of it\nexit 1\n", 1), to, 1, "^no proof of it$")
+    for age in (None, -1):
+        untouched(f"no rt, archive {age}", repository(own, None, age), to, 2, "^rt, .* is not at hand, and .*/libsartrogheo.a is missing or older than its proof$")
+    words = repository(own, "", 1)
+    untouched("no room", ["/bin/sh", "-c", 'ulimit -f 8; exec "$@"', "sh", *words], to, 2, "File too large$")
+    held("scripts/install, a file for a folder", ran([*words, os.path.join(to, "lib/libsartrogheo.a")]), (2, f"install: {to}/lib/libsartrogheo.a: Not a directory\n"))
+    os.makedirs(os.path.join(to, "share/sartrogheo/examples/host.c"))
+    before = contents(to)
+    held("scripts/install, a folder for a file", ran([*words, to]), (2, f"install: {to}/share/sartrogheo/examples/host.c: Is a directory\n"))
+    held("scripts/install, a folder for a file: the folder", contents(to), before)
+    os.rmdir(os.path.join(to, "share/sartrogheo/examples/host.c"))
+    status, output = ran([*repository(own, None, 0), to])
+    held("scripts/install, no rt, an archive", (status, re.sub("rt is not at hand: .*/libsartrogheo.a is taken, .*\n", "TOLD ", output)), (0, f"TOLD installed into {to}\n"))
+    held("scripts/install, no rt, an archive: which", contents(to)["lib/libsartrogheo.a"], b"an archive")
+
+
+def paged(data):
+    """What the program of docs/LIBRARY.md prints, by the readings."""
+    lines = []
+    for event in push_rules.events(CAPACITY, data, 2):
+        word, _, rest = event.partition(" ")
+        found = Reading(bytes.fromhex(rest)) if word == "payload" else None
+        if not found:
+            lines.append(f"lost {rest} bytes" if word == "discarded" else "refused " + REFUSED[word].split(" ")[0])
+            continue
+        for one in found.events:
+            field = dict(w.split("=", 1) for w in one.split(" ")[1:])
+            kind, _, value = field.get("value", "").partition(":")
+            if one.startswith("entry"):
+                lines.append(field["name"][1:] + (f" {value} e{0 if field['scaler'] == '-' else field['scaler']}" if kind[:1] in ("i", "u") else ""))
+        if found.refusal:
+            lines.append(f"refused {found.refusal.number}, at byte {found.refusal.place} of the payload")
+    return "".join(line + "\n" for line in lines)
+
+
+def page_is(folder, moved, exports):
+    """docs/LIBRARY.md: each call, each number, and its program, built with what is installed alone."""
+    page, path = text("docs/LIBRARY.md"), os.path.join(folder, "page.c")
     held("docs/LIBRARY.md: calls", sorted(re.findall(r"^\| `(sgh_\w+)` \|", page, re.M)), sorted(exports))
     held("docs/LIBRARY.md: numbers", re.findall(r"^\| (\d+)(?: to \d+)? \| `SGH_(\w+)`", page, re.M), [(str(k), REFUSALS[k]) for k in (*range(1, 11), 16)])
-    source, wanted = re.search(r"^```c\n(.*?)^```", page, re.M | re.S).group(1), re.search(r"^```text\n(.*?)^```", page, re.M | re.S).group(1)
-    path = os.path.join(folder, "page.c")
+    source, wanted = (re.search(rf"^```{kind}\n(.*?)^```", page, re.M | re.S).group(1) for kind in ("c", "text"))
     open(path, "w").write(source)
     include, library = flags_of(moved)
     program = clink.built(path, os.path.join(folder, "page"), include, library)
-    held("the program of docs/LIBRARY.md", ran(program, open("captures/two-byte-length.bin", "rb").read()), (0, wanted))
-    held("scripts/install -h", (ran(["scripts/install", "-h"])[0], ran(["scripts/install", "-h"])[1][:8]), (0, "install "))
-    held("scripts/install, no folder", ran(["scripts/install"]), (2, "usage: scripts/install [-h] FOLDER\n"))
-    held("scripts/install, a file", ran(["scripts/install", path]), (2, f"install: {path}/lib: Not a directory\n"))
+    meter = open("captures/two-byte-length.bin", "rb").read()
+    held("the program of docs/LIBRARY.md", ran(program, meter), (0, wanted))
+    for what, data in (("the capture", meter), ("values", frame(values())), ("the recording", recording()), ("a cut frame", meter[:99]), ("nothing", b"")):
+        status, output = ran(program, data)
+        held(f"the program of docs/LIBRARY.md, {what}: status", status, 0)
+        held_lines(f"the program of docs/LIBRARY.md, {what}", output, paged(data))
+    held("the largest number and the lost bytes", [line in paged(recording() + meter[:99]).split("\n") for line in ("0100010800ff 18446744073709551615 e0", "0100010800ff -1 e0", "lost 99 bytes")], [True] * 3)
     return include, library
+
+
+def asked_wrongly():
+    status, output = ran(["scripts/install", "-h"])
+    held("scripts/install -h", (status, output[:8]), (0, "install "))
+    for words in ([], ["-x"], ["a", "b"]):
+        held(f"scripts/install {words}", ran(["scripts/install", *words]), (2, "usage: scripts/install [-h] FOLDER\n"))
 
 
 def own_compiler(folder, include, library):
@@ -514,7 +656,9 @@ def main(folder):
     held("library calls: the last line", re.fullmatch(r"\d{3,} facts, 0 failed", facts.strip()) is None and facts, False)
     asked = answers(library, ALL if "--all" in sys.argv else (numbers + [GATE])[0])
     examples(folder)
-    own_compiler(folder, *installed(folder, exports))
+    asked_wrongly()
+    failing(folder)
+    own_compiler(folder, *page_is(folder, installed(folder), exports))
     end_at_faults()
     print(f"library: {found} constants, {len(exports)} prototypes and {fields} fields of an event as the definitions have them; an archive of {size:,} bytes with these functions alone; {facts.split(' ')[0]} facts of the calls; {asked:,} random commands; two examples, an installed folder and the page's program")
 

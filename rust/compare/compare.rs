@@ -128,8 +128,21 @@ fn same<T: PartialEq + std::fmt::Debug>(what: &str, on: &[u8], theirs: T, ours: 
 #[derive(Default)]
 struct Count {
     bytes: usize,
-    answers: usize,
-    payloads: usize,
+    /// Payloads, or events.
+    good: usize,
+    refused: usize,
+}
+
+impl Count {
+    fn add(&mut self, good: bool) {
+        self.good += usize::from(good);
+        self.refused += usize::from(!good);
+    }
+
+    /// Where nothing is compared nothing differs, which says nothing.
+    fn enough(&self, what: &str) {
+        assert!(self.bytes > 0 && self.good > 0 && self.refused > 0, "{what}: nothing is compared");
+    }
 }
 
 type Ours<const N: usize> = sartrogheo::transport::Decoder<sartrogheo::util::ArrayBuf<N>>;
@@ -171,12 +184,13 @@ impl<const N: usize> Decoders<N> {
         for (at, b) in piece.iter().enumerate() {
             let answer = theirs::pushed(self.theirs.push_byte(*b));
             same("push_byte", piece, &answer, &ours::pushed(self.single.push_byte(*b)));
-            count.payloads += self.single.payload().is_some() as usize;
+            if answer.is_some() {
+                count.add(self.single.payload().is_some());
+            }
             said.extend(answer.map(|a| (at, a)));
             second.extend(ours::pushed(self.second[0].push_byte(*b)).map(|a| (at, a)));
         }
         count.bytes += piece.len();
-        count.answers += said.len();
         same("push", piece, said, slices(&mut self.sliced, r, piece));
         same("push, the second way", piece, second, slices(&mut self.second[1], r, piece));
     }
@@ -287,12 +301,14 @@ fn stream<const N: usize>(bytes: &[u8]) {
     }
 }
 
-fn decodes(r: &mut Random, times: usize) {
+fn decodes(r: &mut Random, times: usize, count: &mut Count) {
     for _ in 0..times {
         let bytes: Vec<u8> = (0..r.below(6)).flat_map(|_| r.piece()).collect();
         stream::<0>(&bytes);
         stream::<20>(&bytes);
         stream::<512>(&bytes);
+        count.bytes += bytes.len();
+        sartrogheo::transport::decode(&bytes).iter().for_each(|a| count.add(a.is_ok()));
         let theirs: Vec<_> =
             transport::decode(&bytes).into_iter().map(|a| theirs::pushed(a.as_deref().map(Some).map_err(Clone::clone))).collect();
         let ours: Vec<_> =
@@ -328,7 +344,7 @@ fn events(input: &[u8], count: &mut Count) {
             assert!(e.place().is_some_and(|p| p <= input.len()));
         }
         same("events", input, &said, &next.map(|x| x.map(|e| ours::event(&e)).map_err(|e| our_error(&e))));
-        count.answers += 1;
+        said.iter().for_each(|x| count.add(x.is_ok()));
         if !matches!(said, Some(Ok(_))) || left < 4 {
             left -= 1;
         }
@@ -336,22 +352,22 @@ fn events(input: &[u8], count: &mut Count) {
     count.bytes += input.len();
 }
 
-/// All inputs of the file, and each again with bytes that are other, missing or more: how many were outside of the domain.
-fn messages(r: &mut Random, inputs: &[Vec<u8>], times: usize, count: &mut Count) -> usize {
-    let mut outside = 0;
+/// All inputs of the file, and each again with bytes that are other, missing or more: how many of these were in the domain, and how many outside of it.
+fn messages(r: &mut Random, inputs: &[Vec<u8>], times: usize, count: &mut Count) -> (usize, usize) {
+    let (mut changed, mut outside) = (0, 0);
     for input in inputs {
         events(input, count);
         for _ in 0..times {
             let other = r.mutated(input);
             if in_domain(&other) {
                 events(&other, count);
-                count.payloads += 1;
+                changed += 1;
             } else {
                 outside += 1;
             }
         }
     }
-    outside
+    (changed, outside)
 }
 
 fn unhexed(line: &str) -> Vec<u8> {
@@ -364,21 +380,28 @@ fn main() {
     let mut r = Random::new(words[2].parse().unwrap());
     let mut count = Count::default();
     all_pushes(&mut r, 100_000, &mut count);
+    count.enough("pushes");
     println!(
-        "push_byte, push, finalize, reset: {} bytes at 12 capacities, {} answers, {} of them payloads, no difference",
-        count.bytes, count.answers, count.payloads
+        "push_byte, push, finalize, reset: {} bytes at 12 capacities, {} payloads, {} refusals, no difference",
+        count.bytes, count.good, count.refused
     );
     r.sizes = [9, 9, 40, 40, 300, 1500];
-    encodes(&mut r, 4000);
-    decodes(&mut r, 4000);
-    println!("encode, encode_into, Encoder: 4000 payloads; decode, decode_streaming: 4000 streams, no difference");
     let mut count = Count::default();
-    let outside = messages(&mut r, &inputs, 4, &mut count);
+    encodes(&mut r, 4000);
+    decodes(&mut r, 4000, &mut count);
+    count.enough("streams");
     println!(
-        "events: {} inputs and {} with changed bytes, {} bytes, {} answers, no difference; {outside} more were outside of the domain",
+        "encode, encode_into, Encoder: 4000 payloads; decode, decode_streaming: 4000 streams, {} payloads, {} refusals, no difference",
+        count.good, count.refused
+    );
+    let mut count = Count::default();
+    let (changed, outside) = messages(&mut r, &inputs, 4, &mut count);
+    count.enough("events");
+    println!(
+        "messages: {} inputs and {changed} with changed bytes, {} bytes, {} events, {} refusals, no difference; {outside} more were outside of the domain",
         inputs.len(),
-        count.payloads,
         count.bytes,
-        count.answers
+        count.good,
+        count.refused
     );
 }

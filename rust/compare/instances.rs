@@ -2,7 +2,7 @@
 #![no_std]
 extern crate sartrogheo;
 
-use sartrogheo::parser::streaming::{ParseEvent, Parser};
+use sartrogheo::parser::streaming::{ParseEvent, Parser, UntilRefused};
 use sartrogheo::transport::{decode_streaming, encode, encode_into, encode_streaming, DecodeErr, DecodeIterator, Decoder, Encoder};
 use sartrogheo::util::{ArrayBuf, Buffer, OutOfMemory};
 
@@ -62,6 +62,12 @@ pub fn decoded_all(bytes: &[u8]) -> usize {
 #[no_mangle]
 pub fn parsed<'i>(parser: &mut Parser<'i>) -> Option<ParseEvent<'i>> {
     parser.next().and_then(Result::ok)
+}
+
+#[no_mangle]
+pub fn parsed_until<'i>(events: &mut UntilRefused<'i>, input: &'i [u8]) -> Option<ParseEvent<'i>> {
+    *events = Parser::new(input).until_refused();
+    events.next().and_then(Result::ok)
 }
 
 #[no_mangle]

@@ -128,14 +128,14 @@ impl<W: Write> Line<W> {
         writeln!(self.out, "{line}")
     }
 
-    /// A refusal drops the rest of the payload, so the loop ends there too.
+    /// A refusal drops the rest of the payload.
     fn print(&mut self, payload: &[u8]) -> io::Result<()> {
         self.payloads += 1;
-        for event in Parser::new(payload) {
+        for event in Parser::new(payload).until_refused() {
             match event {
                 Ok(ParseEvent::ListEntry(e)) => writeln!(self.out, "{}", entry(&e))?,
                 Ok(_) => {}
-                Err(e) => return self.refuse(message_refusal(&e, self.payloads)),
+                Err(e) => self.refuse(message_refusal(&e, self.payloads))?,
             }
         }
         Ok(())

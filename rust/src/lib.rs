@@ -1,7 +1,10 @@
 //! SML meter frames (transport version 1) and messages: the names of crate sml-rs 0.4.0 over libsartrogheo.a, in which every function is proved.
 //!
-//! Any bytes may come in: nothing here panics or stops because of what was read. [`transport`] takes frames apart and makes them, [`parser`] reads the messages in a
-//! payload. docs/MOVING.md goes from sml-rs to this crate call by call.
+//! Any bytes may come in: no call here panics because of what was read, and every call ends, if an iterator that it is given does. The events of a
+//! [`Parser`](parser::streaming::Parser) need not end, as in sml-rs: behind a refusal inside a message it gives `UnexpectedEOF` for ever, and
+//! [`until_refused`](parser::streaming::Parser::until_refused) is the form that ends. `transport::decode` alone, of feature `alloc`, ends the program where memory runs out.
+//!
+//! [`transport`] takes frames apart and makes them, [`parser`] reads the messages in a payload. docs/MOVING.md goes from sml-rs to this crate call by call.
 //!
 //! What is proved is the library. This crate is thin over it and is tested, against sml-rs too.
 //!
@@ -16,14 +19,11 @@
 //!         match said {
 //!             Ok(None) => {}
 //!             Ok(Some(payload)) => {
-//!                 for event in Parser::new(payload) {
+//!                 for event in Parser::new(payload).until_refused() {
 //!                     match event {
 //!                         Ok(ParseEvent::ListEntry(entry)) => println!("{:?}", entry),
 //!                         Ok(_) => {}
-//!                         Err(e) => {
-//!                             println!("{e}");
-//!                             break;
-//!                         }
+//!                         Err(e) => println!("{e}"),
 //!                     }
 //!                 }
 //!             }
@@ -48,7 +48,7 @@ pub mod parser;
 pub mod transport;
 pub mod util;
 
-/// The longest payload, buffer and message input, in bytes.
+/// The longest payload to encode, buffer and message input, in bytes; a decoder hands out at most `LIMIT - 4` bytes.
 pub const LIMIT: usize = ffi::LIMIT;
 
 /// The CRC of frames and messages: X25. In a frame its low byte comes first.

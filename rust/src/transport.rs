@@ -3,11 +3,13 @@
 //! A frame is `1b1b1b1b 01010101`, the payload with four more `1b` behind every four of them, zeros up to a multiple of 4, `1b1b1b1b 1a`, their number and the CRC.
 use core::borrow::Borrow;
 use core::fmt;
+use core::iter::FusedIterator;
 
 #[cfg(feature = "alloc")]
 use alloc::vec::Vec;
 
 use crate::ffi;
+use crate::util::private::Own;
 use crate::util::{Buffer, OutOfMemory};
 use crate::LIMIT;
 
@@ -133,8 +135,8 @@ impl<B: Buffer> Decoder<B> {
     }
 
     fn with(mut buf: B, way: u8) -> Self {
-        buf.grow(LIMIT);
-        let capacity = buf.all().len().min(LIMIT);
+        buf.grow(LIMIT, Own(()));
+        let capacity = buf.all(Own(())).len().min(LIMIT);
         let mut state = [0; ffi::DECODER_LEN];
         // it refuses nothing: both ways are known, and the capacity is within the limit
         ffi::decoder_new(&mut state, capacity, way);
@@ -152,7 +154,7 @@ impl<B: Buffer> Decoder<B> {
     /// That is what single pushes of the same bytes say, and faster.
     pub fn push(&mut self, bytes: &[u8]) -> (usize, Result<Option<&[u8]>, DecodeErr>) {
         let (mut taken, mut values) = (0, [0; ffi::VALUES]);
-        let buf = self.buf.all_mut().get_mut(..self.capacity).unwrap_or_default();
+        let buf = self.buf.all_mut(Own(())).get_mut(..self.capacity).unwrap_or_default();
         let answer = ffi::push_slice(&mut self.state, buf, bytes, &mut taken, &mut values);
         if taken == 0 {
             // of no bytes, or by 4 or 5, behind which a loop over the rest must end all the same
@@ -192,13 +194,13 @@ impl<B: Buffer> Decoder<B> {
     /// Pushes a byte; a payload is told by its length.
     fn step(&mut self, b: u8) -> Result<Option<usize>, DecodeErr> {
         let mut values = [0; ffi::VALUES];
-        let buf = self.buf.all_mut().get_mut(..self.capacity).unwrap_or_default();
+        let buf = self.buf.all_mut(Own(())).get_mut(..self.capacity).unwrap_or_default();
         let answer = ffi::push_byte(&mut self.state, buf, b, &mut values);
         said(answer, &values)
     }
 
     fn front(&self, len: usize) -> &[u8] {
-        self.buf.all().get(..len).unwrap_or_default()
+        self.buf.all(Own(())).get(..len).unwrap_or_default()
     }
 }
 
@@ -252,26 +254,30 @@ pub fn encode<B: Buffer>(iter: impl IntoIterator<Item = impl Borrow<u8>>) -> Res
         payload.push(*b.borrow())?;
     }
     let mut frame = B::default();
-    frame.grow(2 * payload.len() + 19);
-    let len = encode_into(&payload, frame.all_mut()).map_err(|_| OutOfMemory)?;
-    frame.keep(len);
+    frame.grow(2 * payload.len() + 19, Own(()));
+    let len = encode_into(&payload, frame.all_mut(Own(()))).map_err(|_| OutOfMemory)?;
+    frame.keep(len, Own(()));
     Ok(frame)
 }
 
 /// An iterator over the bytes of a payload's frame.
 ///
-/// The payload is owned or borrowed, and read at each byte: an array, a slice, a `Vec`, all that is `AsRef<[u8]>`. It must stay the same, as all that is owned or borrowed does;
-/// behind an `AsRef` that gives another slice the iterator may end early. A payload over [`LIMIT`] bytes has no frame, and no byte comes.
+/// The payload is owned or borrowed, and read at each byte: an array, a slice, a `Vec`, all that is `AsRef<[u8]>`. It must stay the same, as all that is owned or borrowed does.
+/// A payload over [`LIMIT`] bytes has no frame, and no byte comes.
+///
+/// An `AsRef` that gives one slice now and another later gets bytes of either, which need not be a frame, and the end as soon as a slice can't follow those before it.
+/// The first end is the end, whatever slice is given behind it.
 #[derive(Clone)]
 pub struct Encoder<P: AsRef<[u8]>> {
     state: ffi::Encoder,
     payload: P,
+    ended: bool,
 }
 
 impl<P: AsRef<[u8]>> Encoder<P> {
     /// An Encoder that gave nothing yet.
     pub fn new(payload: P) -> Self {
-        Encoder { state: ffi::encoder_new(), payload }
+        Encoder { state: ffi::encoder_new(), payload, ended: false }
     }
 }
 
@@ -280,12 +286,13 @@ impl<P: AsRef<[u8]>> Iterator for Encoder<P> {
 
     fn next(&mut self) -> Option<u8> {
         let mut byte = 0;
-        match ffi::encoder_next(&mut self.state, self.payload.as_ref(), &mut byte) {
-            ffi::GOOD => Some(byte),
-            _ => None,
-        }
+        // a refusal is an end, too
+        self.ended = self.ended || ffi::encoder_next(&mut self.state, self.payload.as_ref(), &mut byte) != ffi::GOOD;
+        (!self.ended).then_some(byte)
     }
 }
+
+impl<P: AsRef<[u8]>> FusedIterator for Encoder<P> {}
 
 /// The bytes of a payload's frame, one after the other.
 ///
@@ -300,6 +307,8 @@ pub fn encode_streaming<P: AsRef<[u8]>>(payload: P) -> Encoder<P> {
 }
 
 /// All that the decoding of these bytes says.
+///
+/// Here alone the program ends where memory runs out, as it does in every `Vec` that grows; [`decode_streaming`] keeps one payload at a time, and asks for memory once.
 #[cfg(feature = "alloc")]
 #[must_use]
 pub fn decode(iter: impl IntoIterator<Item = impl Borrow<u8>>) -> Vec<Result<Vec<u8>, DecodeErr>> {

@@ -6,20 +6,33 @@ use core::ops::Deref;
 use alloc::vec::Vec;
 
 pub(crate) mod private {
-    /// What a decoder and `encode` want of a buffer: its whole memory. Nobody else can implement it, so that every [`super::Buffer`] is one of this module's.
+    /// Nobody but this crate can make one.
+    pub struct Own(pub(crate) ());
+
+    /// What a decoder and `encode` want of a buffer: its whole memory. Nobody else can implement it, so that every [`super::Buffer`] is one of this module's, or call it.
+    ///
+    /// ```
+    /// fn f<B: sartrogheo::util::Buffer>(b: &B) -> usize { b.len() }
+    /// ```
+    /// ```compile_fail
+    /// fn f<B: sartrogheo::util::Buffer>(b: &B) -> usize { b.all().len() }
+    /// ```
+    /// ```compile_fail
+    /// fn f<B: sartrogheo::util::Buffer>(b: &B) -> usize { b.all(sartrogheo::util::private::Own(())).len() }
+    /// ```
     pub trait Memory {
         /// Makes the memory `len` bytes long, if it can grow and that many can be had.
-        fn grow(&mut self, len: usize);
+        fn grow(&mut self, len: usize, own: Own);
         /// The whole memory. It has the same length each time, but behind `grow` and what changes a growing buffer's content.
-        fn all(&self) -> &[u8];
+        fn all(&self, own: Own) -> &[u8];
         /// The same, to be written.
-        fn all_mut(&mut self) -> &mut [u8];
+        fn all_mut(&mut self, own: Own) -> &mut [u8];
         /// Makes the first `len` bytes of the memory the content.
-        fn keep(&mut self, len: usize);
+        fn keep(&mut self, len: usize, own: Own);
     }
 }
 
-use private::Memory;
+use private::{Memory, Own};
 
 /// A vector of bytes that a decoder, or `encode`, can own.
 ///
@@ -75,17 +88,17 @@ impl<const N: usize> PartialEq for ArrayBuf<N> {
 }
 
 impl<const N: usize> Memory for ArrayBuf<N> {
-    fn grow(&mut self, _len: usize) {}
+    fn grow(&mut self, _len: usize, _: Own) {}
 
-    fn all(&self) -> &[u8] {
+    fn all(&self, _: Own) -> &[u8] {
         &self.bytes
     }
 
-    fn all_mut(&mut self) -> &mut [u8] {
+    fn all_mut(&mut self, _: Own) -> &mut [u8] {
         &mut self.bytes
     }
 
-    fn keep(&mut self, len: usize) {
+    fn keep(&mut self, len: usize, _: Own) {
         self.len = len.min(N);
     }
 }
@@ -117,21 +130,21 @@ pub type VecBuf = Vec<u8>;
 
 #[cfg(feature = "alloc")]
 impl Memory for Vec<u8> {
-    fn grow(&mut self, len: usize) {
+    fn grow(&mut self, len: usize, _: Own) {
         if len > self.len() && self.try_reserve_exact(len - self.len()).is_ok() {
             self.resize(len, 0);
         }
     }
 
-    fn all(&self) -> &[u8] {
+    fn all(&self, _: Own) -> &[u8] {
         self
     }
 
-    fn all_mut(&mut self) -> &mut [u8] {
+    fn all_mut(&mut self, _: Own) -> &mut [u8] {
         self
     }
 
-    fn keep(&mut self, len: usize) {
+    fn keep(&mut self, len: usize, _: Own) {
         Vec::truncate(self, len);
     }
 }

@@ -1,6 +1,10 @@
-//! What this crate has beyond sml-rs, at its limits too. The rest is held against sml-rs itself, by compare/.
-use sartrogheo::parser::common::{ListEntry, Status, Time, Value};
-use sartrogheo::parser::streaming::{MessageBody, ParseEvent, Parser};
+//! What this crate has beyond sml-rs, at its limits too, and every field of every event. The rest is held against sml-rs itself, by compare/.
+use std::cell::Cell;
+
+use sartrogheo::parser::common::{CloseResponse, ListEntry, ListType, OpenResponse, Status, Time, Value};
+use sartrogheo::parser::streaming::{
+    GetListResponseEnd, GetListResponseStart, MessageBody, MessageStart, ParseEvent, Parser, UntilRefused,
+};
 use sartrogheo::parser::{ParseErrorKind, TlfParseError};
 use sartrogheo::transport::{decode_streaming, encode_into, encode_streaming, DecodeErr, Decoder, EncodeErr, Encoder};
 use sartrogheo::util::{ArrayBuf, Buffer, OutOfMemory};
@@ -121,6 +125,7 @@ fn decoders_and_readers_can_be_sent_and_shared() {
     both::<Decoder<Small>>();
     both::<Encoder<&[u8]>>();
     both::<Parser>();
+    both::<UntilRefused>();
 }
 
 #[test]
@@ -159,6 +164,38 @@ fn an_encoder_takes_what_can_be_read_as_a_slice() {
     assert_eq!((said.next().map(|x| x.map(<[u8]>::to_vec)), said.next()), (Some(Ok(PAYLOAD.to_vec())), None));
 }
 
+/// Gives each slice up to its call, and PAYLOAD behind them.
+struct Changing<'p>(&'p [(usize, &'p [u8])], Cell<usize>);
+
+impl AsRef<[u8]> for Changing<'_> {
+    fn as_ref(&self) -> &[u8] {
+        let call = self.1.replace(self.1.get() + 1);
+        self.0.iter().find(|(until, _)| call < *until).map_or(&PAYLOAD, |(_, slice)| slice)
+    }
+}
+
+#[test]
+fn the_first_end_of_an_encoder_is_the_end() {
+    let long = vec![0; LIMIT + 1];
+    let given = |slices: &[(usize, &[u8])]| {
+        let mut encoder = Encoder::new(Changing(slices, Cell::new(0)));
+        let before = encoder.by_ref().collect::<Vec<u8>>();
+        assert!((0..100).all(|_| encoder.next().is_none()));
+        before
+    };
+    assert_eq!(given(&[]), FRAME);
+    // for one call it can't be followed, and behind it, it could be again
+    for at in 0..FRAME.len() {
+        assert_eq!(given(&[(at, &PAYLOAD), (at + 1, &long)]), FRAME[..at]);
+    }
+    assert_eq!(given(&[(11, &PAYLOAD), (12, &[])]), FRAME[..11]);
+    // any slices at all: the end comes
+    for step in 1..40 {
+        let any: Vec<(usize, &[u8])> = (0..200).map(|k| (k + 1, &long[..k * step % 37])).collect();
+        assert!(given(&any).len() < 200);
+    }
+}
+
 #[test]
 fn the_first_end_of_an_iterator_is_the_end() {
     let mut calls = 0;
@@ -184,6 +221,167 @@ fn a_buffer_takes_what_fits() {
 }
 
 // ---- messages
+
+fn octets(bytes: &[u8]) -> Vec<u8> {
+    [&[bytes.len() as u8 + 1], bytes].concat()
+}
+
+/// A time; the seconds are a number of four bytes.
+fn time(seconds: u32) -> Vec<u8> {
+    [&[0x72, 0x62, 1, 0x65][..], &seconds.to_be_bytes()].concat()
+}
+
+/// A message with that tag; the fields stand in the order of the wire, and the lists around them are theirs.
+fn message(transaction: &[u8], numbers: [u8; 2], tag: u8, body: &[Vec<u8>]) -> Vec<u8> {
+    let [group, abort] = numbers;
+    let mut out = [&[0x76][..], &octets(transaction), &[0x62, group, 0x62, abort, 0x72, 0x63, tag, 1], &body.concat()].concat();
+    let sum = crc(&out).to_le_bytes();
+    out.extend([0x63, sum[0], sum[1], 0]);
+    out
+}
+
+/// The fields of an entry, in the order of the wire.
+fn entry(fields: [Vec<u8>; 7]) -> Vec<u8> {
+    [vec![0x77], fields.concat()].concat()
+}
+
+fn list(entries: &[Vec<u8>]) -> Vec<u8> {
+    let (before, behind) =
+        ([octets(b"client"), octets(b"meter"), octets(b"name"), time(0x0102_0304)].concat(), [octets(b"seal"), time(0x0506_0708)].concat());
+    let body = [vec![0x77], before, vec![0x70 | entries.len() as u8], entries.concat(), behind];
+    message(b"list", [0x31, 0x32], 7, &body)
+}
+
+fn events(bytes: &[u8]) -> Vec<ParseEvent<'_>> {
+    Parser::new(bytes).until_refused().map(Result::unwrap).collect()
+}
+
+fn start<'i>(transaction_id: &'i [u8], numbers: [u8; 2], message_body: MessageBody<'i>) -> ParseEvent<'i> {
+    let [group_no, abort_on_error] = numbers;
+    ParseEvent::MessageStart(MessageStart { transaction_id, group_no, abort_on_error, message_body })
+}
+
+#[test]
+fn every_field_of_open_and_close_is_its_own() {
+    let ids = [octets(b"page"), octets(b"client"), octets(b"request"), octets(b"meter")].concat();
+    let open = message(b"open", [0x11, 0x12], 1, &[vec![0x76], ids, time(0x0a0b_0c0d), vec![0x62, 0x13]]);
+    let wanted = OpenResponse {
+        codepage: Some(b"page"),
+        client_id: Some(b"client"),
+        req_file_id: b"request",
+        server_id: b"meter",
+        ref_time: Some(Time::SecIndex(0x0a0b_0c0d)),
+        sml_version: Some(0x13),
+    };
+    assert_eq!(events(&open), [start(b"open", [0x11, 0x12], MessageBody::OpenResponse(wanted))]);
+    let close = message(b"close", [0x21, 0x22], 2, &[vec![0x71], octets(b"seal")]);
+    let wanted = CloseResponse { global_signature: Some(b"seal") };
+    assert_eq!(events(&close), [start(b"close", [0x21, 0x22], MessageBody::CloseResponse(wanted))]);
+}
+
+#[test]
+fn every_field_of_a_list_is_its_own() {
+    let one = entry([
+        octets(b"object"),
+        vec![0x62, 0x41],
+        time(0x4243_4445),
+        vec![0x62, 0x46],
+        vec![0x52, 0xb9],
+        vec![0x62, 0x48],
+        octets(b"sign"),
+    ]);
+    let bytes = list(&[one]);
+    let before = GetListResponseStart {
+        client_id: Some(b"client"),
+        server_id: b"meter",
+        list_name: Some(b"name"),
+        act_sensor_time: Some(Time::SecIndex(0x0102_0304)),
+        num_vals: 1,
+    };
+    let between = ListEntry {
+        obj_name: b"object",
+        status: Some(Status::Status8(0x41)),
+        val_time: Some(Time::SecIndex(0x4243_4445)),
+        unit: Some(0x46),
+        scaler: Some(-0x47),
+        value: Value::U8(0x48),
+        value_signature: Some(b"sign"),
+    };
+    let behind = GetListResponseEnd { list_signature: Some(b"seal"), act_gateway_time: Some(Time::SecIndex(0x0506_0708)) };
+    let wanted = [
+        start(b"list", [0x31, 0x32], MessageBody::GetListResponse(before)),
+        ParseEvent::ListEntry(between),
+        ParseEvent::GetListResponseEnd(behind),
+    ];
+    assert_eq!(events(&bytes), wanted);
+}
+
+#[test]
+fn what_is_absent_is_none() {
+    let none = || vec![1];
+    let open = message(b"", [0, 0], 1, &[vec![0x76], none(), none(), octets(b"r"), octets(b"s"), none(), none()]);
+    let wanted = OpenResponse { codepage: None, client_id: None, req_file_id: b"r", server_id: b"s", ref_time: None, sml_version: None };
+    assert_eq!(events(&open), [start(b"", [0, 0], MessageBody::OpenResponse(wanted))]);
+    let close = message(b"", [0, 0], 2, &[vec![0x71], none()]);
+    assert_eq!(events(&close), [start(b"", [0, 0], MessageBody::CloseResponse(CloseResponse { global_signature: None }))]);
+    let only = entry([octets(b"o"), none(), none(), none(), none(), vec![0x42, 1], none()]);
+    let bytes = message(b"", [0, 0], 7, &[vec![0x77], none(), octets(b"s"), none(), none(), vec![0x71], only, none(), none()]);
+    let before = GetListResponseStart { client_id: None, server_id: b"s", list_name: None, act_sensor_time: None, num_vals: 1 };
+    let between = ListEntry {
+        obj_name: b"o",
+        status: None,
+        val_time: None,
+        unit: None,
+        scaler: None,
+        value: Value::Bool(true),
+        value_signature: None,
+    };
+    let behind = GetListResponseEnd { list_signature: None, act_gateway_time: None };
+    let wanted =
+        [start(b"", [0, 0], MessageBody::GetListResponse(before)), ParseEvent::ListEntry(between), ParseEvent::GetListResponseEnd(behind)];
+    assert_eq!(events(&bytes), wanted);
+}
+
+/// The statuses and values of a list's entries.
+fn values(entries: &[Vec<u8>]) -> Vec<(Option<Status>, String)> {
+    let bytes = list(entries);
+    let of = |e| if let ParseEvent::ListEntry(e) = e { Some((e.status, format!("{:?}", e.value))) } else { None };
+    events(&bytes).into_iter().filter_map(of).collect()
+}
+
+#[test]
+fn statuses_and_values_have_their_width() {
+    let number = |ty: u8, n: usize| [vec![ty + n as u8 + 1, 0x81], vec![0x82; n - 1]].concat();
+    let all = [
+        (vec![0x62, 3], Status::Status8(3), vec![0x42, 0], Value::Bool(false)),
+        (number(0x60, 1), Status::Status8(0x81), octets(b"text"), Value::Bytes(b"text")),
+        (number(0x60, 2), Status::Status16(0x8182), number(0x50, 1), Value::I8(-0x7f)),
+        (number(0x60, 3), Status::Status32(0x81_8282), number(0x50, 2), Value::I16(-0x7e7e)),
+        (number(0x60, 4), Status::Status32(0x8182_8282), number(0x50, 3), Value::I32(-0x7e_7d7e)),
+        (number(0x60, 5), Status::Status64(0x81_8282_8282), number(0x50, 5), Value::I64(-0x7e_7d7d_7d7e)),
+        (number(0x60, 8), Status::Status64(0x8182_8282_8282_8282), number(0x60, 1), Value::U8(0x81)),
+        (vec![0x62, 4], Status::Status8(4), number(0x60, 2), Value::U16(0x8182)),
+        (vec![0x62, 5], Status::Status8(5), number(0x60, 4), Value::U32(0x8182_8282)),
+        (vec![0x62, 6], Status::Status8(6), number(0x60, 7), Value::U64(0x81_8282_8282_8282)),
+        (vec![0x62, 7], Status::Status8(7), time(0x5152_5354), Value::List(ListType::Time(Time::SecIndex(0x5152_5354)))),
+    ];
+    let entries: Vec<_> =
+        all.iter().map(|(s, _, v, _)| entry([octets(b"o"), s.clone(), vec![1], vec![1], vec![1], v.clone(), vec![1]])).collect();
+    let wanted: Vec<_> = all.into_iter().map(|(_, s, _, v)| (Some(s), format!("{v:?}"))).collect();
+    assert_eq!(values(&entries), wanted);
+}
+
+#[test]
+fn until_refused_ends_behind_the_first_refusal() {
+    assert_eq!(events(&CLOSE).len(), 1);
+    for len in 1..CLOSE.len() {
+        let twice = [&CLOSE[..], &CLOSE[..len]].concat();
+        let mut said = Parser::new(&twice).until_refused();
+        let ends: Vec<bool> = said.by_ref().map(|one| one.is_err()).collect();
+        assert_eq!(ends.iter().position(|refused| *refused), Some(ends.len() - 1), "{ends:?}");
+        assert!((0..9).all(|_| said.next().is_none()));
+    }
+}
 
 /// The refusal's number and place, its words, and what the next call gives.
 fn refused(bytes: &[u8]) -> (u32, Option<usize>, String, Option<ParseErrorKind>) {

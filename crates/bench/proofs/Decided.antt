@@ -24,8 +24,8 @@ pub decided : Decided
 decided =
     record {
       bench-push = λ src buf. injective (λ (r : With ℕ). counted (r .answer) (r .memory)) (views .number) _;
-      bench-push-slice = λ src buf. injective (λ (r : With ℕ). counted (r .answer) (r .memory)) (views .number) _;
-      bench-push-slice-second = λ src buf. injective (λ (r : With ℕ). counted (r .answer) (r .memory)) (views .number) _;
+      bench-push-slice = λ src buf step. injective (λ (r : With ℕ). counted (r .answer) (r .memory)) (views .number) _;
+      bench-push-slice-second = λ src buf step. injective (λ (r : With ℕ). counted (r .answer) (r .memory)) (views .number) _;
       bench-pack = λ bytes capacity r r′ h h′ i. record { answer = tt; lent = (h ∙ sym h′) i };
       bench-packed = λ bytes buf chunk. injective (λ (r : With (Beside ℕ (List ℕ))). tookIn (r .answer .answer) (r .answer .lent) (r .memory)) (views .took) _;
       bench-encode = λ payload out. injective (λ (r : With ℕ). counted (r .answer) (r .memory)) (views .number) _;

@@ -17,8 +17,8 @@ pub record Views : Type 0 where
 -- every public function: over its parameters, what its `ensures` allows
 pub record Decided : Type 0 where
   pub bench-push : (src buf : List ℕ) → One (λ (r : With ℕ). counted (r .answer) (r .memory) ≡ payloads firstWay src buf)
-  pub bench-push-slice : (src buf : List ℕ) → One (λ (r : With ℕ). counted (r .answer) (r .memory) ≡ payloads firstWay src buf)
-  pub bench-push-slice-second : (src buf : List ℕ) → One (λ (r : With ℕ). counted (r .answer) (r .memory) ≡ payloads secondWay src buf)
+  pub bench-push-slice : (src buf : List ℕ) (step : ℕ) → One (λ (r : With ℕ). counted (r .answer) (r .memory) ≡ payloads firstWay src buf)
+  pub bench-push-slice-second : (src buf : List ℕ) (step : ℕ) → One (λ (r : With ℕ). counted (r .answer) (r .memory) ≡ payloads secondWay src buf)
   pub bench-pack : (bytes : List ℕ) (capacity : ℕ) → One (λ (r : Beside (Unit {0}) (List ℕ)). r .lent ≡ packInto (newRecord (sized capacity)) bytes .output)
   pub bench-packed : (bytes buf chunk : List ℕ) → One (λ (r : With (Beside ℕ (List ℕ))). tookIn (r .answer .answer) (r .answer .lent) (r .memory) ≡ tookOver bytes buf chunk)
   pub bench-encode : (payload out : List ℕ) → One (λ (r : With ℕ). counted (r .answer) (r .memory) ≡ encoded payload out)

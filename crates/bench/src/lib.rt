@@ -61,15 +61,27 @@ pub extern "C" fn bench_push(src: &[u8], buf: &mut [u8]) -> u64
     n
 }
 
+// Where the slice that begins at `i` ends: `step` bytes on, or at the end where fewer are left or `step` is 0.
+fn lent_to(i: usize, end: usize, step: usize) -> usize
+    requires { ⌜ i < end ⌝ }
+    ensures { λ r. ⌜ (i < r) × (r ≤ end) ⌝ }
+{
+    if step == 0 {
+        return end;
+    }
+    if end - i < step { end } else { i + step }
+}
+
 // The payloads in `src` for this decoder, by pushes of slices. A refused push takes no byte, and nor would the next.
-fn push_slices(d: Decoder, src: &[u8], buf: &mut [u8]) -> u64
+fn push_slices(d: Decoder, src: &[u8], buf: &mut [u8], step: usize) -> u64
     ensures { λ r. ⌜ counted r (now (buf .exit)) ≡ payloadsFrom 0 d (now (buf .entry)) (now (src .entry)) ⌝ }
 {
     let mut at = d;
     let mut n: u64 = 0;
     let mut i = 0;
     while i < src.len() {
-        let p = decoder_slice::push_slice(at, buf, &src[i..]);
+        let to = lent_to(i, src.len(), step);
+        let p = decoder_slice::push_slice(at, buf, &src[i..to]);
         let e = p.event;
         let taken = p.taken;
         at = p.decoder;
@@ -82,22 +94,22 @@ fn push_slices(d: Decoder, src: &[u8], buf: &mut [u8]) -> u64
     n
 }
 
-// The payloads in `src`, by pushes of slices.
+// The payloads in `src`, by pushes of slices of `step` bytes at most, or of all that are left for 0: how they are cut changes nothing.
 #[no_mangle]
-pub extern "C" fn bench_push_slice(src: &[u8], buf: &mut [u8]) -> u64
+pub extern "C" fn bench_push_slice(src: &[u8], buf: &mut [u8], step: usize) -> u64
     ensures { λ r. ⌜ counted r (now (buf .exit)) ≡ payloads firstWay (now (src .entry)) (now (buf .entry)) ⌝ }
 {
     let d = Decoder::new(buf.len());
-    push_slices(d, src, buf)
+    push_slices(d, src, buf, step)
 }
 
 // The same in the second way of searching.
 #[no_mangle]
-pub extern "C" fn bench_push_slice_second(src: &[u8], buf: &mut [u8]) -> u64
+pub extern "C" fn bench_push_slice_second(src: &[u8], buf: &mut [u8], step: usize) -> u64
     ensures { λ r. ⌜ counted r (now (buf .exit)) ≡ payloads secondWay (now (src .entry)) (now (buf .entry)) ⌝ }
 {
     let d = Decoder::with_way(buf.len(), Decoder::SECOND_WAY);
-    push_slices(d, src, buf)
+    push_slices(d, src, buf, step)
 }
 
 // A new decoder of this capacity, packed into `bytes`, for bench_packed.

@@ -93,15 +93,16 @@ less-three (suc (suc (suc (suc (suc (suc (suc (suc (suc (suc zero)))))))))) h = 
 less-three (suc (suc (suc (suc (suc (suc (suc (suc (suc (suc (suc zero))))))))))) h = (record { sfits = omega arith }, refl)
 less-three (suc (suc (suc (suc (suc (suc (suc (suc (suc (suc (suc (suc n)))))))))))) h = absurd (omega arith)
 
-pub end-of-kind : (kind n : ℕ) → n ≤ 11 → kind ≡ 3 → End (toZ w8 (ofZ w8 (toZ w8 n -ℤ pos 3))) ≡ stateOfKind kind n
+pub end-of-kind : (kind n : ℕ) → n ≤ 11 → kind ≡ 4 → End (toZ w8 (ofZ w8 (toZ w8 n -ℤ pos 3))) ≡ stateOfKind kind n
 end-of-kind kind n h is = ap End (less-three n h .1) ∙ ap (λ (k : ℕ). stateOfKind k n) (sym is)
 
-pub no-kind : (kind n : ℕ) → (kind ≡ 0 → ⊥) → (kind ≡ 1 → ⊥) → (kind ≡ 2 → ⊥) → (kind ≡ 3 → ⊥) → Init 9 ≡ stateOfKind kind n
-no-kind zero n a b c d = absurd (a refl)
-no-kind (suc zero) n a b c d = absurd (b refl)
-no-kind (suc (suc zero)) n a b c d = absurd (c refl)
-no-kind (suc (suc (suc zero))) n a b c d = absurd (d refl)
-no-kind (suc (suc (suc (suc k)))) n a b c d = refl
+pub no-kind : (kind n : ℕ) → (kind ≡ 1 → ⊥) → (kind ≡ 2 → ⊥) → (kind ≡ 3 → ⊥) → (kind ≡ 4 → ⊥) → Init 9 ≡ stateOfKind kind n
+no-kind zero n a b c d = refl
+no-kind (suc zero) n a b c d = absurd (a refl)
+no-kind (suc (suc zero)) n a b c d = absurd (b refl)
+no-kind (suc (suc (suc zero))) n a b c d = absurd (c refl)
+no-kind (suc (suc (suc (suc zero)))) n a b c d = absurd (d refl)
+no-kind (suc (suc (suc (suc (suc k))))) n a b c d = refl
 
 -- ---- the calls
 

@@ -53,7 +53,7 @@ oneFurther = 0 ∷ 1 ∷ 1 ∷ 0 ∷ 0xff ∷ 0xff ∷ replicate 10 0 ++ 1 ∷ r
 
 -- an Encoder that has given all of an empty payload's frame, and a reader at its beginning
 abbrev allGiven : List ℕ
-allGiven = 3 ∷ 11 ∷ 0 ∷ 0 ∷ []
+allGiven = 4 ∷ 11 ∷ 0 ∷ 0 ∷ []
 
 abbrev newReader : List ℕ
 newReader = 0 ∷ 0 ∷ 0 ∷ []
@@ -145,10 +145,10 @@ no-room-is-three-everywhere out n h = let k : _≡_ {A = ℕ} 3 2 = ap (λ (a : 
 -- ---- an Encoder
 
 zeroed-encoder-is-new : replicate 4 0 ≡ sghEncoderNew → ⊥
-unfolding sghEncoderNew freshEncoder reflect polynomial bitStep bitSteps byteStep register
-zeroed-encoder-is-new h = let n : _≡_ {A = ℕ} 0 0x91dc = ap (λ (w : List ℕ). getD w 3 0) h in omega (arith, n)
+unfolding sghEncoderNew freshEncoder
+zeroed-encoder-is-new h = let n : _≡_ {A = ℕ} 0 1 = ap (λ (w : List ℕ). getD w 0 0) h in omega (arith, n)
 
-new-encoder-has-the-crc-s-start : 0 ∷ 0 ∷ 0 ∷ 0xffff ∷ [] ≡ sghEncoderNew → ⊥
+new-encoder-has-the-crc-s-start : 1 ∷ 0 ∷ 0 ∷ 0xffff ∷ [] ≡ sghEncoderNew → ⊥
 unfolding sghEncoderNew freshEncoder reflect polynomial bitStep bitSteps byteStep register
 new-encoder-has-the-crc-s-start h = let n : _≡_ {A = ℕ} 0xffff 0x91dc = ap (λ (w : List ℕ). getD w 3 0) h in omega (arith, n)
 
@@ -156,9 +156,9 @@ finished-gives-a-zero-byte : (w : List ℕ) → reply 0 (w ∷ (0 ∷ []) ∷ []
 unfolding sghEncoderNext encoderIn nextStep badEncoder stepFrom
 finished-gives-a-zero-byte w h = let n : _≡_ {A = ℕ} 0 101 = ap (λ (a : Reply). a .number) h in omega (arith, n)
 
-finished-begins-anew : (w : List ℕ) (b : ℕ) → getD w 0 0 ≡ 0 → reply 101 (w ∷ (b ∷ []) ∷ []) ≡ sghEncoderNext allGiven [] 0x77 → ⊥
+finished-begins-anew : (w : List ℕ) (b : ℕ) → getD w 0 0 ≡ 1 → reply 101 (w ∷ (b ∷ []) ∷ []) ≡ sghEncoderNext allGiven [] 0x77 → ⊥
 unfolding sghEncoderNext encoderIn nextStep badEncoder stepFrom
-finished-begins-anew w b wrong h = let n : _≡_ {A = ℕ} 0 3 = sym wrong ∙ ap (λ (a : Reply). getD (getD (a .lent) 0 []) 0 0) h in omega (arith, n)
+finished-begins-anew w b wrong h = let n : _≡_ {A = ℕ} 1 4 = sym wrong ∙ ap (λ (a : Reply). getD (getD (a .lent) 0 []) 0 0) h in omega (arith, n)
 
 -- ---- the CRC
 

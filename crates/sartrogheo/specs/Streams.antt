@@ -13,13 +13,13 @@ use Rattle.streaming.specs.Next.{Said, event, noEvent, failed, alone, ReaderAft
 use Rattle.words.specs.Words.{eventWords}
 use Rattle.sartrogheo.specs.Calls.{goodNo, finishedNo, Reply, reply}
 
--- ---- an Encoder in four numbers: its kind, its count, its place in the payload, the CRC register
+-- ---- an Encoder in four numbers: its kind, its count, its place in the payload, the CRC register. Kinds begin at 1, so that four zeros are no Encoder
 
 abbrev pub encoderKind : EncoderState → ℕ
-encoderKind (Init n) = 0
-encoderKind (LookingForEscape n) = 1
-encoderKind (HandlingEscape n) = 2
-encoderKind (End z) = 3
+encoderKind (Init n) = 1
+encoderKind (LookingForEscape n) = 2
+encoderKind (HandlingEscape n) = 3
+encoderKind (End z) = 4
 
 -- End runs from -3 on: 0 stands for that
 abbrev pub endCount : ℤ → ℕ
@@ -37,11 +37,12 @@ encoderWords e = encoderKind (e .state) ∷ encoderCount (e .state) ∷ e .place
 
 -- numbers that no Encoder has stand for one that every call refuses: Init 9
 abbrev pub stateOfKind : ℕ → ℕ → EncoderState
-stateOfKind zero n = Init n
-stateOfKind (suc zero) n = LookingForEscape n
-stateOfKind (suc (suc zero)) n = HandlingEscape n
-stateOfKind (suc (suc (suc zero))) n = End (pos n -ℤ pos 3)
-stateOfKind (suc (suc (suc (suc k)))) n = Init 9
+stateOfKind zero n = Init 9
+stateOfKind (suc zero) n = Init n
+stateOfKind (suc (suc zero)) n = LookingForEscape n
+stateOfKind (suc (suc (suc zero))) n = HandlingEscape n
+stateOfKind (suc (suc (suc (suc zero)))) n = End (pos n -ℤ pos 3)
+stateOfKind (suc (suc (suc (suc (suc k))))) n = Init 9
 
 abbrev pub encoderOf : ℕ → ℕ → ℕ → ℕ → Encoder
 encoderOf kind count place crc = cond (ltb 65535 crc) (encoderAt (Init 9) place 0) (encoderAt (cond (ltb 11 count) (Init 9) (stateOfKind kind count)) place crc)

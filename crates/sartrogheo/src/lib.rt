@@ -274,10 +274,10 @@ fn encoder_kind(state: EncoderState) -> u64
     ensures { λ r. ⌜ r ≡ encoderKind state ⌝ }
 {
     match state {
-        EncoderState::Init(_) => 0,
-        EncoderState::LookingForEscape(_) => 1,
-        EncoderState::HandlingEscape(_) => 2,
-        EncoderState::End(_) => 3,
+        EncoderState::Init(_) => 1,
+        EncoderState::LookingForEscape(_) => 2,
+        EncoderState::HandlingEscape(_) => 3,
+        EncoderState::End(_) => 4,
     }
 }
 
@@ -324,16 +324,16 @@ fn state_of_kind(kind: u64, count: u8) -> EncoderState
     requires { ⌜ count ≤ 11 ⌝ }
     ensures { λ r. ⌜ r ≡ stateOfKind kind count ⌝ }
 {
-    if kind == 0 {
+    if kind == 1 {
         return EncoderState::Init(count);
     }
-    if kind == 1 {
+    if kind == 2 {
         return EncoderState::LookingForEscape(count);
     }
-    if kind == 2 {
+    if kind == 3 {
         return EncoderState::HandlingEscape(count);
     }
-    if kind == 3 {
+    if kind == 4 {
         return EncoderState::End(count as i8 - 3);
     }
     EncoderState::Init(9)

@@ -1,4 +1,6 @@
 //! Messages event by event, without a heap.
+use core::iter::FusedIterator;
+
 use super::common::{CloseResponse, ListEntry, OctetStr, OpenResponse, Signature, Time};
 use super::words::{event, refusal};
 use super::{ParseError, ParseErrorKind};
@@ -6,7 +8,8 @@ use crate::ffi;
 
 /// Reads the messages of an input, an event a call.
 ///
-/// Stop at the first refusal: the rest of the input is dropped with it, and behind one inside a message every later call gives `UnexpectedEOF`, as in sml-rs. Behind one at a message's start, and behind `InputTooLong`, nothing more comes.
+/// A refusal drops the rest of the input. Behind one inside a message every later call gives `UnexpectedEOF`, without end, as in sml-rs; behind one at a message's start, and behind `InputTooLong`,
+/// nothing more comes. [`until_refused`](Self::until_refused) ends behind every refusal: a loop is best written over that.
 ///
 /// Input and reader are private: the input is borrowed for as long as the reader and its events live, so that it is the same at every call.
 #[derive(Clone)]
@@ -19,6 +22,19 @@ impl<'i> Parser<'i> {
     /// A reader of the whole input: a payload, as a decoder hands it out.
     pub fn new(input: &'i [u8]) -> Self {
         Parser { input, reader: [0; 3] }
+    }
+
+    /// The events up to the first refusal, and that one.
+    ///
+    /// ```
+    /// use sartrogheo::parser::streaming::Parser;
+    ///
+    /// let mut cut = Parser::new(&[0x76, 0x01, 0x62]).until_refused();
+    /// assert_eq!(cut.next().unwrap().unwrap_err().place(), Some(3));
+    /// assert_eq!(cut.next(), None);
+    /// ```
+    pub fn until_refused(self) -> UntilRefused<'i> {
+        UntilRefused { parser: self, ended: false }
     }
 }
 
@@ -39,6 +55,28 @@ impl<'i> Iterator for Parser<'i> {
         event(self.input, words).map(Ok)
     }
 }
+
+/// The events of an input up to and with the first refusal: [`Parser::until_refused`].
+#[derive(Clone)]
+pub struct UntilRefused<'i> {
+    parser: Parser<'i>,
+    ended: bool,
+}
+
+impl<'i> Iterator for UntilRefused<'i> {
+    type Item = Result<ParseEvent<'i>, ParseError>;
+
+    fn next(&mut self) -> Option<Self::Item> {
+        if self.ended {
+            return None;
+        }
+        let said = self.parser.next();
+        self.ended = !matches!(said, Some(Ok(_)));
+        said
+    }
+}
+
+impl FusedIterator for UntilRefused<'_> {}
 
 /// An event.
 #[derive(Debug, Clone, PartialEq, Eq)]

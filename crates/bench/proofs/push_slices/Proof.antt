@@ -2,7 +2,6 @@ use mathlib.Core.Path.{_≡_, sym, _∙_}
 use denote.Ref.{now}
 use Prim.Native.Nat.{_≤_, _<_, _-_, _+_, _^_}
 use lib.ListN.{length, drop}
-use Rattle.decoder_slice.proofs.Taken.{part-room}
 use Rattle.bench.specs.Bench.{payloadsFrom}
 use Rattle.bench.proofs.Pushes as pushes
 use borrow.Author.Needs.{needs}
@@ -10,13 +9,16 @@ use Rattle.bench.proofs.push_slices.Statement.{statement}
 use Rattle.bench.proofs.push_slices.Tie as tie
 
 abbrev Inv-loop : tie.InvT-loop
-Inv-loop src buf₀ at₀ n₀ i₀ buf at n i = (i ≤ length src) × (n ≤ i) × (length buf ≡ length buf₀) × (payloadsFrom n at buf (drop i src) ≡ payloadsFrom n₀ at₀ buf₀ src)
+Inv-loop src buf₀ step at₀ n₀ i₀ buf at n i = (i ≤ length src) × (n ≤ i) × (length buf ≡ length buf₀) × (payloadsFrom n at buf (drop i src) ≡ payloadsFrom n₀ at₀ buf₀ src)
 
 abbrev μ-loop : tie.MeasureT-loop
-μ-loop src buf₀ at₀ n₀ i₀ buf at n i = length src - i
+μ-loop src buf₀ step at₀ n₀ i₀ buf at n i = length src - i
 
 loop-holds : tie.Need-loop-holds Inv-loop μ-loop
 loop-holds c = search needs
+
+lent-to-requires : tie.Need-lent-to-requires Inv-loop μ-loop
+lent-to-requires c κs = search needs
 
 sub-push-slice : tie.Need-sub-push-slice Inv-loop μ-loop
 sub-push-slice c = search needs
@@ -35,54 +37,59 @@ same-length c = search needs
 
 returns : tie.Need-returns Inv-loop μ-loop
 returns c =
-    let l = c .before .before .before .before .before .before .before .before .loop in
-    let a = c .before .before .before .before .before .before .before .before .before .before .before .args in
+    let l = c .before .before .before .before .before .before .before .before .before .loop in
+    let a = c .before .before .before .before .before .before .before .before .before .before .before .before .args in
     let p = c .before .before .before .before .push-slice in
-    pushes.slice-stop (l .n) (l .at) (l .buf) (now (a .src)) (l .i) (p .result) _ (p .ensures) (c .before .before .before .before .before .before .before .loop-test .taken) (c .if1 .taken) ∙ l .inv .3
+    let e = c .before .before .before .before .before .before .before .lent-to in
+    pushes.slice-stop (l .n) (l .at) (l .buf) (now (a .src)) (l .i) (e .result) (p .result) _ (p .ensures) (e .ensures .0) (e .ensures .1) (c .if1 .taken) ∙ l .inv .3
 
 one-payload-requires : tie.Need-one-payload-requires Inv-loop μ-loop
 one-payload-requires c κs = search needs
 
 add-n : tie.Need-add-n Inv-loop μ-loop
 add-n c =
-    let l = c .before .before .before .before .before .before .before .before .before .loop in
-    let a = c .before .before .before .before .before .before .before .before .before .before .before .before .args in
+    let l = c .before .before .before .before .before .before .before .before .before .before .loop in
+    let a = c .before .before .before .before .before .before .before .before .before .before .before .before .before .args in
     let p = c .before .before .before .before .before .push-slice in
-    let good = c .before .before .before .before .before .before .before .before .before .before .before .before .good in
-    let h : l .i + p .result .taken ≤ length (now (a .src)) = part-room (l .at) (l .buf) (now (a .src)) (l .i) (p .result) _ (p .ensures) (c .before .before .before .before .before .before .before .before .loop-test .taken) in
+    let e = c .before .before .before .before .before .before .before .before .lent-to in
+    let good = c .before .before .before .before .before .before .before .before .before .before .before .before .before .good in
+    let h : l .i + p .result .taken ≤ length (now (a .src)) = pushes.taken-room (l .n) (l .at) (l .buf) (now (a .src)) (l .i) (e .result) (p .result) _ (p .ensures) (e .ensures .0) (e .ensures .1) in
     let z : length (now (a .src)) < 2 ^ 64 = search needs in
     let f : l .n + c .one-payload .result < 2 ^ 64 = search needs in
     record { fits = f }
 
 add-i : tie.Need-add-i Inv-loop μ-loop
 add-i c =
-    let l = c .before .before .before .before .before .before .before .before .before .loop in
-    let a = c .before .before .before .before .before .before .before .before .before .before .before .before .args in
+    let l = c .before .before .before .before .before .before .before .before .before .before .loop in
+    let a = c .before .before .before .before .before .before .before .before .before .before .before .before .before .args in
     let p = c .before .before .before .before .before .push-slice in
-    let good = c .before .before .before .before .before .before .before .before .before .before .before .before .good in
-    let h : l .i + p .result .taken ≤ length (now (a .src)) = part-room (l .at) (l .buf) (now (a .src)) (l .i) (p .result) _ (p .ensures) (c .before .before .before .before .before .before .before .before .loop-test .taken) in
+    let e = c .before .before .before .before .before .before .before .before .lent-to in
+    let good = c .before .before .before .before .before .before .before .before .before .before .before .before .before .good in
+    let h : l .i + p .result .taken ≤ length (now (a .src)) = pushes.taken-room (l .n) (l .at) (l .buf) (now (a .src)) (l .i) (e .result) (p .result) _ (p .ensures) (e .ensures .0) (e .ensures .1) in
     let z : length (now (a .src)) < 2 ^ 64 = search needs in
     let f : l .i + p .result .taken < 2 ^ 64 = search needs in
     record { fits = f }
 
 loop-less : tie.Need-loop-less Inv-loop μ-loop
 loop-less c =
-    let l = c .before .before .before .before .before .before .before .before .before .loop in
-    let a = c .before .before .before .before .before .before .before .before .before .before .before .before .args in
+    let l = c .before .before .before .before .before .before .before .before .before .before .loop in
+    let a = c .before .before .before .before .before .before .before .before .before .before .before .before .before .args in
     let p = c .before .before .before .before .before .push-slice in
-    let h : l .i + p .result .taken ≤ length (now (a .src)) = part-room (l .at) (l .buf) (now (a .src)) (l .i) (p .result) _ (p .ensures) (c .before .before .before .before .before .before .before .before .loop-test .taken) in
+    let e = c .before .before .before .before .before .before .before .before .lent-to in
+    let h : l .i + p .result .taken ≤ length (now (a .src)) = pushes.taken-room (l .n) (l .at) (l .buf) (now (a .src)) (l .i) (e .result) (p .result) _ (p .ensures) (e .ensures .0) (e .ensures .1) in
     search needs
 
 loop-again : tie.Need-loop-again Inv-loop μ-loop
 loop-again c =
-    let l = c .before .before .before .before .before .before .before .before .before .loop in
-    let a = c .before .before .before .before .before .before .before .before .before .before .before .before .args in
+    let l = c .before .before .before .before .before .before .before .before .before .before .loop in
+    let a = c .before .before .before .before .before .before .before .before .before .before .before .before .before .args in
     let p = c .before .before .before .before .before .push-slice in
+    let e = c .before .before .before .before .before .before .before .before .lent-to in
     let some = c .before .if1 .left in (
-      part-room (l .at) (l .buf) (now (a .src)) (l .i) (p .result) _ (p .ensures) (c .before .before .before .before .before .before .before .before .loop-test .taken),
+      pushes.taken-room (l .n) (l .at) (l .buf) (now (a .src)) (l .i) (e .result) (p .result) _ (p .ensures) (e .ensures .0) (e .ensures .1),
       search needs,
       search needs,
-      pushes.slice-next (l .n) (l .at) (l .buf) (now (a .src)) (l .i) (p .result) _ (p .ensures) (c .before .before .before .before .before .before .before .before .loop-test .taken) (c .one-payload .result) (c .one-payload .ensures .0) some ∙ l .inv .3,
+      pushes.slice-next (l .n) (l .at) (l .buf) (now (a .src)) (l .i) (e .result) (p .result) _ (p .ensures) (e .ensures .0) (e .ensures .1) (c .one-payload .result) (c .one-payload .ensures .0) some ∙ l .inv .3,
     )
 
 same-length-2 : tie.Need-same-length-2 Inv-loop μ-loop
@@ -101,6 +108,7 @@ push-slices-spec =
     Inv-loop
     μ-loop
     loop-holds
+    lent-to-requires
     sub-push-slice
     part-push-slice-start
     part-push-slice-end
