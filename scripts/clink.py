@@ -13,8 +13,8 @@ import programs
 
 ROOT = programs.ROOT
 LIBRARY, SECONDS = "sartrogheo", 400
-# C11 as any compiler takes it; the toolchain's has no headers of its own, must not find the machine's, and is told the one number that scripts/headers/errno.h lacks
-PLAIN = ["-Wall", "-Wextra", "-Werror", "-O2", "-nostdinc", "-isystem", os.path.join(ROOT, "scripts/headers"), "-DEINTR=4"]
+# C11 as any compiler takes it; the toolchain's has no headers of its own, and must not find the machine's
+PLAIN = ["-Wall", "-Wextra", "-Werror", "-O2", "-nostdinc", "-isystem", os.path.join(ROOT, "scripts/headers")]
 C11 = ["-std=c11", *PLAIN]
 INCLUDE = ["-I", os.path.join(ROOT, "include")]
 

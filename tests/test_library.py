@@ -484,6 +484,11 @@ def contents(folder):
     return {name: open(os.path.join(folder, name), "rb").read() for name in below(folder)}
 
 
+def whole(folder):
+    """Files and folders, the empty ones too."""
+    return contents(folder), sorted(at for at, _, _ in os.walk(folder))
+
+
 def of_the_crate():
     """The crate's files that are installed."""
     found = subprocess.run(["git", "ls-files", "-co", "--exclude-standard", "rust"], capture_output=True, text=True).stdout.split()
@@ -515,7 +520,9 @@ def installed(folder):
         os.makedirs(os.path.dirname(os.path.join(first, old)), exist_ok=True)
         open(os.path.join(first, old), "w").close()
     for _ in range(2):
-        held("scripts/install", ran(["scripts/install", first]), (0, f"installed into {first}\n"))
+        status, output = ran(["scripts/install", first])
+        # a line before it tells where another command proves
+        held("scripts/install", (status, output.split("\n")[-2:]), (0, [f"installed into {first}", ""]))
     held("scripts/install leaves what is another's", os.path.exists(os.path.join(first, "lib/other.a")), True)
     os.remove(os.path.join(first, "lib/other.a"))
     os.makedirs(os.path.dirname(moved))
@@ -549,11 +556,11 @@ def repository(folder, rt=None, age=None):
 
 def untouched(what, words, to, status, said):
     """A run that fails: what it says, and a folder with files and one that isn't there yet, both as they were."""
-    before = contents(to)
+    before = whole(to)
     for one in (to, to + "-none"):
         found, output = ran([*words, one])
-        held(f"scripts/install, {what}", (found, re.search(said.format(folder=one), output) is not None or output), (status, True))
-    held(f"scripts/install, {what}: the folder", sorted(n for n, data in contents(to).items() if before.get(n) != data) or sorted(before), sorted(before))
+        held(f"scripts/install, {what}", (found, re.search(said, output, re.M) is not None or output), (status, True))
+    held(f"scripts/install, {what}: the folder", whole(to), before)
     held(f"scripts/install, {what}: a new folder", os.path.exists(to + "-none"), False)
 
 
@@ -570,9 +577,9 @@ def failing(folder):
     untouched("no room", ["/bin/sh", "-c", 'ulimit -f 8; exec "$@"', "sh", *words], to, 2, "File too large$")
     held("scripts/install, a file for a folder", ran([*words, os.path.join(to, "lib/libsartrogheo.a")]), (2, f"install: {to}/lib/libsartrogheo.a: Not a directory\n"))
     os.makedirs(os.path.join(to, "share/sartrogheo/examples/host.c"))
-    before = contents(to)
+    before = whole(to)
     held("scripts/install, a folder for a file", ran([*words, to]), (2, f"install: {to}/share/sartrogheo/examples/host.c: Is a directory\n"))
-    held("scripts/install, a folder for a file: the folder", contents(to), before)
+    held("scripts/install, a folder for a file: the folder", whole(to), before)
     os.rmdir(os.path.join(to, "share/sartrogheo/examples/host.c"))
     status, output = ran([*repository(own, None, 0), to])
     held("scripts/install, no rt, an archive", (status, re.sub("rt is not at hand: .*/libsartrogheo.a is taken, .*\n", "TOLD ", output)), (0, f"TOLD installed into {to}\n"))

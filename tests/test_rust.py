@@ -1,8 +1,8 @@
-"""The Rust crate (rust/) over the library: its own tests and the examples in its comments; what it says beside the unchanged crate sml-rs on the same bytes; the collector's output, which is that of the C one; no call that panics in what is compiled; declarations as in the header.
+"""The Rust crate (rust/) over the library: its own tests and the examples in its comments; what it says beside the unchanged crate sml-rs on the same bytes; the collector's output, which is that of the C one; no call that panics in what is compiled; a build by cargo; declarations as in the header.
 
-It is built by rustc alone. Linked is what scripts/native gives: on x86-64 the library, on aarch64 the same proved module compiled for that. Where rustc or an archive is not at hand the test is skipped (status 77), and where sml-rs is not, the comparison.
+All else is built by rustc alone. Linked is what scripts/native gives: on x86-64 the library, on aarch64 the same proved module compiled for that. Where rustc or an archive is not at hand the test is skipped (status 77), and where sml-rs or cargo is not, the comparison or that build.
 """
-import glob, os, random, re, shutil, subprocess, sys
+import glob, os, platform, random, re, shutil, subprocess, sys
 
 os.chdir(os.path.join(os.path.dirname(os.path.abspath(__file__)), ".."))
 sys.dont_write_bytecode = True
@@ -73,13 +73,16 @@ def script():
     program, room = os.path.abspath(f"{OUT}/build_script"), os.path.abspath(f"{OUT}/rooms")
     rustc("rust/build.rs", "-o", program)
     repository, installed = f"{room}/repository/target/staticlib", f"{room}/installed/lib"
-    for folder in repository, installed:
-        os.makedirs(folder, exist_ok=True)
-        open(f"{folder}/libsartrogheo.a", "w").close()
-    cases = [("x86_64", "repository/rust", None, repository), ("x86_64", "installed/share/sartrogheo/rust", None, installed), ("aarch64", "repository/rust", installed, installed),
-             ("x86_64", "nowhere/rust", None, "scripts/install"), ("aarch64", "repository/rust", None, "this is aarch64 linux"), ("x86_64", "repository/rust", room, f"SARTROGHEO_LIB_DIR, {room}")]
-    for processor, own, told, wanted in cases:
-        given = {"CARGO_CFG_TARGET_ARCH": processor, "CARGO_CFG_TARGET_OS": "linux", "CARGO_MANIFEST_DIR": f"{room}/{own}", **({"SARTROGHEO_LIB_DIR": told} if told else {})}
+    for path in f"{repository}/libsartrogheo.a", f"{installed}/libsartrogheo.a", f"{room}/foreign/target/staticlib/libsartrogheo.a", f"{room}/repository/crates.txt", f"{room}/repository/include/sartrogheo.h":
+        os.makedirs(os.path.dirname(path), exist_ok=True)
+        open(path, "w").close()
+    x86, none = "x86_64 linux 64", "belongs to a crate at this place"
+    cases = [(x86, "repository/rust", None, repository), (x86, "installed/share/sartrogheo/rust", None, installed), ("aarch64 linux 64", "repository/rust", installed, installed),
+             ("x86_64 linux 32", "foreign/rust", installed, installed), (x86, "foreign/rust", None, none), (x86, "installed/share/other/rust", None, none), (x86, "installed/a/b/sartrogheo", None, none),
+             (x86, "nowhere/share/sartrogheo/rust", None, f"in {room}/nowhere/lib: build it"), (x86, "repository/rust", room, f"SARTROGHEO_LIB_DIR, {room}"),
+             *((other, "repository/rust", None, f"this is {other}: set") for other in ("aarch64 linux 64", "x86_64 windows 64", "x86_64 linux 32"))]
+    for target, own, told, wanted in cases:
+        given = {"CARGO_MANIFEST_DIR": f"{room}/{own}", **{f"CARGO_CFG_TARGET_{part}": word for part, word in zip(("ARCH", "OS", "POINTER_WIDTH"), target.split())}, **({"SARTROGHEO_LIB_DIR": told} if told else {})}
         done = subprocess.run([program], env=given, capture_output=True, text=True)
         linked = done.returncode == 0 and f"cargo:rustc-link-search=native={wanted}\ncargo:rustc-link-lib=static=sartrogheo\n" in done.stdout
         refused = done.returncode == 1 and wanted in done.stderr
@@ -108,12 +111,32 @@ def own_tests(folder):
 
 
 def panics():
-    """The crate without its feature, and its functions made for some types: no call that panics is left in either."""
-    rustc("--crate-type", "rlib", "--crate-name", "sartrogheo", "--emit", f"obj={OUT}/plain.o,link={OUT}/libplain.rlib", "rust/src/lib.rs")
-    rustc("--crate-type", "rlib", "--extern", f"sartrogheo={OUT}/libplain.rlib", "--emit", f"obj={OUT}/instances.o", "rust/compare/instances.rs")
-    for name in "plain.o", "instances.o":
-        calls = re.findall(rb"\w*(?:panic|_fail)\w*", open(f"{OUT}/{name}", "rb").read())
-        faults.extend(f"{name}: {call.decode()} is called" for call in sorted(set(calls)))
+    """The crate without its feature and with it, and its functions but `decode` made for some types: no call that panics, or ends the program, is left in any.
+
+    With the feature a Vec grows behind try_reserve, so that there is room: the compiler doesn't see that, and leaves raw_vec::handle_error in the crate."""
+    for feature, spared in ([], b""), (["--cfg", 'feature="alloc"'], b"raw_vec12handle_error"):
+        rustc("--crate-type", "rlib", "--crate-name", "sartrogheo", *feature, "--emit", f"obj={OUT}/plain.o,link={OUT}/libplain.rlib", "rust/src/lib.rs")
+        rustc("--crate-type", "rlib", *feature, "--extern", f"sartrogheo={OUT}/libplain.rlib", "--emit", f"obj={OUT}/instances.o", "rust/compare/instances.rs")
+        for name, spare in ("plain.o", spared), ("instances.o", b""):
+            calls = re.findall(rb"\w*(?:panic|_fail|handle_error|alloc_error|capacity_overflow)\w*", open(f"{OUT}/{name}", "rb").read())
+            faults.extend(f"{name}, {feature}: {call.decode()} is called" for call in sorted(set(calls)) if not spare or spare not in call)
+
+
+def by_cargo(folder):
+    """cargo, without the network, builds the collector in a folder as scripts/install makes it; the archive beside the crate is found on x86-64, and told on others."""
+    if not shutil.which("cargo"):
+        return print("skipped: the crate built by cargo, which is not at hand")
+    room, native = os.path.abspath(f"{OUT}/by_cargo"), os.path.abspath(folder[1].partition("=")[2])
+    shutil.rmtree(room, ignore_errors=True)
+    shutil.copytree("rust", f"{room}/share/sartrogheo/rust", ignore=shutil.ignore_patterns("target", "Cargo.lock", "compare"))
+    os.makedirs(f"{room}/lib")
+    shutil.copy(f"{native}/libsartrogheo.a", f"{room}/lib")
+    given = {name: value for name, value in os.environ.items() if name != "SARTROGHEO_LIB_DIR"}
+    told = {} if platform.machine() == "x86_64" else {"SARTROGHEO_LIB_DIR": native}
+    run("cargo", "build", "--offline", "--quiet", "--all-features", "--example", "collector", "--manifest-path", f"{room}/share/sartrogheo/rust/Cargo.toml", "--target-dir", f"{room}/target", env={**given, **told})
+    path = "captures/two-byte-length.bin"
+    if ended(f"{room}/target/debug/examples/collector", [path]) != ended(f"{OUT}/collector", [path]):
+        faults.append("the collector that cargo builds prints something else")
 
 
 def recordings(r):
@@ -176,7 +199,7 @@ def main():
     folder = archive(started)
     built = build(folder)
     tests, lines = own_tests(folder), collector(folder)
-    panics(), script()
+    panics(), script(), by_cargo(folder)
     compared(built)
     tell()
     print(f"{numbers} numbers and {functions} functions of the header, {tests} tests of the crate, {lines} lines of the collector, {len(faults)} faults")

@@ -1,12 +1,18 @@
 //! Every function of the crate that has a type parameter, made for some type, so that a test can look for calls that panic in what the compiler makes of them and of the crate.
+//! With feature `alloc` the buffer is a Vec; `decode`, which ends the program where memory runs out, is the one function that is not here.
 #![no_std]
+#[cfg(feature = "alloc")]
+extern crate alloc;
 extern crate sartrogheo;
 
 use sartrogheo::parser::streaming::{ParseEvent, Parser, UntilRefused};
 use sartrogheo::transport::{decode_streaming, encode, encode_into, encode_streaming, DecodeErr, DecodeIterator, Decoder, Encoder};
-use sartrogheo::util::{ArrayBuf, Buffer, OutOfMemory};
+use sartrogheo::util::{Buffer, OutOfMemory};
 
-type Buf = ArrayBuf<64>;
+#[cfg(feature = "alloc")]
+type Buf = alloc::vec::Vec<u8>;
+#[cfg(not(feature = "alloc"))]
+type Buf = sartrogheo::util::ArrayBuf<64>;
 
 #[no_mangle]
 pub fn made() -> [Decoder<Buf>; 5] {
@@ -72,7 +78,7 @@ pub fn parsed_until<'i>(events: &mut UntilRefused<'i>, input: &'i [u8]) -> Optio
 
 #[no_mangle]
 pub fn buffered(buf: &mut Buf, bytes: &[u8]) -> Result<(), OutOfMemory> {
-    buf.truncate(bytes.len());
-    buf.push(bytes.len() as u8)?;
-    buf.extend_from_slice(bytes)
+    Buffer::truncate(buf, bytes.len());
+    Buffer::push(buf, bytes.len() as u8)?;
+    Buffer::extend_from_slice(buf, bytes)
 }

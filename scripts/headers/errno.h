@@ -1,3 +1,4 @@
 #pragma once
 int *__errno_location(void);
 #define errno (*__errno_location())
+#define EINTR 4
