@@ -6,7 +6,7 @@ The toolchain's own compiler, linker and C library do it, so that nothing else i
 the words have the emulator where one is needed. The first run proves and builds the library. Status: 1 no proof, or not compiled; 2 usage.
 Try: $(scripts/clink.py examples/collector.c target/collector) captures/two-byte-length.bin
 """
-import functools, os, shutil, subprocess, sys
+import functools, glob, os, shutil, subprocess, sys
 
 sys.dont_write_bytecode = True
 import programs
@@ -87,6 +87,22 @@ def built(source, out, include=INCLUDE, library=None):
     """A program of one C11 file over the library: the words that run it. `include` and `library` are the words for another place of header and archive."""
     library = library or [archive()]
     return linked([compiled(source, out + ".o", [*C11, *include]), *library], out)
+
+
+def kept(source, out):
+    """As `built`, but a program that is younger than all that it is made of stays as it is. One at a time, since the commands of a pipe begin at once."""
+    made_of = [source, archive(), __file__, os.path.join(ROOT, "include/sartrogheo.h"), *glob.glob(os.path.join(ROOT, "scripts/headers/*.h"))]
+    lock = programs.turn()
+    if not os.path.exists(out) or os.path.getmtime(out) <= max(map(os.path.getmtime, made_of)):
+        os.makedirs(os.path.dirname(out), exist_ok=True)
+        built(source, out)
+    os.close(lock)
+    return programs.program(os.path.abspath(out))
+
+
+def replay():
+    """The words that run the program behind bin/replay whose answers are the library's."""
+    return kept(os.path.join(ROOT, "replay/replay.c"), os.path.join(ROOT, "target/library/replay"))
 
 
 def main():

@@ -2,8 +2,10 @@
 import fcntl, os, platform, shutil, subprocess, sys, time
 
 ROOT = os.path.dirname(os.path.dirname(os.path.abspath(__file__)))
-# which program behind bin/replay answers a command, by its first word
+# which program in Rattle knows a command, by its first word
 COMMANDS = {"replay_wire": ["encode", "encode_cap", "stream", "crc", "push", "push2", "packed", "unpack", "pack"], "replay_messages": ["leaf", "tlf", "places", "events"]}
+# those that the library's calls answer: bin/replay sends them to replay/replay.c, and to the programs above what is left
+LIBRARY = ["encode", "encode_cap", "stream", "crc", "push", "push2", "packed", "events", "places"]
 
 
 def turn():
@@ -44,6 +46,8 @@ def build(names, seconds):
 
 def program(name):
     """The words that run a built program: under the toolchain's loader, and its emulator where it has one, since programs are x86-64."""
+    if not os.environ.get("RATTLE_HOME") and not shutil.which("rt"):
+        refuse("rt, the command of the Rattle toolchain, is not at hand")
     kit = os.environ.get("RATTLE_HOME") or os.path.dirname(os.path.dirname(os.path.realpath(shutil.which("rt"))))
     tools = os.path.join(kit, "on", platform.machine(), "toolchain")
     emulator = os.path.join(tools, "bin/qemu-x86_64")

@@ -4,7 +4,7 @@ import os, random, re, select, subprocess, sys
 sys.dont_write_bytecode = True
 os.chdir(os.path.join(os.path.dirname(os.path.abspath(__file__)), ".."))
 sys.path.append("scripts")
-from programs import COMMANDS
+from programs import COMMANDS, LIBRARY
 
 faults, count = [], 0
 
@@ -54,6 +54,10 @@ for p, commands in COMMANDS.items():
     same(f"the table of {p}", sorted(table.split(",")), sorted(commands))
     for c in commands:
         same(f"an example of {c}", any(e.startswith(c + " ") for e, _ in examples), True)
+same("the library's commands on the page", re.findall(r"`(\w+)`", re.search(r"^The commands (.*?) run over the library", page, re.M).group(1)), LIBRARY)
+same("the table of replay.c", re.findall(r'^    \{"(\w+)", takes_', open("replay/replay.c").read(), re.M), LIBRARY)
+for c in LIBRARY:
+    same(f"{c}, which a program in Rattle knows too", c in sum(COMMANDS.values(), []), True)
 same("line.rt stands twice", open("crates/replay_wire/src/line.rt").read(), open("crates/replay_messages/src/line.rt").read())
 
 # the vectors of both programs, mixed: every answer as stored, in the order of the commands

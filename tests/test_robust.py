@@ -1,25 +1,27 @@
-"""smlcat and the programs behind bin/replay on bytes that nobody meant: random, cut, empty, a megabyte without a line end, lines of the longest length and one more. None may stop early, and each must say what the rules give.
+"""smlcat and the programs behind bin/replay, that over the library among them, on bytes that nobody meant: random, cut, empty, a megabyte without a line end, lines of the longest length and one more. None may stop early, and each must say what the rules give.
 
-smlcat, and the pushes of replay_wire, are held to tests/push_rules.py; what is no command, or none of that program, must be answered `bad command`, and nothing else.
+smlcat, and the pushes of replay_wire and of the library, are held to tests/push_rules.py; what is no command, or none of that program, must be answered `bad command`, and nothing else.
 """
 import functools, os, random, re, subprocess, sys
 
 sys.dont_write_bytecode = True
 os.chdir(os.path.join(os.path.dirname(os.path.abspath(__file__)), ".."))
-sys.path.append("oracle")
-import push_rules
+sys.path += ["oracle", "scripts"]
+import clink, push_rules
 from generate import commands, damaged, payload, piece
 from sml import COMMANDS, KINDS, START, crc, frame, hexed, program
 from messages import KINDS as MORE
+from programs import LIBRARY
 
 SEED = 20250711
 if subprocess.run(["rt", "check", "smlcat", *COMMANDS], capture_output=True).returncode != 0:
     sys.exit("test_robust: smlcat or a program of bin/replay is not proved")
 faults, count = [], 0
+RUN = {"bin/replay": ["bin/replay"], "replay.c": clink.replay()}
 
 
 def run(name, given, *words):
-    ran = subprocess.run(["bin/replay"] if name == "bin/replay" else [*program(name), *words], input=given, capture_output=True)
+    ran = subprocess.run([*(RUN.get(name) or program(name)), *words], input=given, capture_output=True)
     if ran.returncode != 0 or ran.stderr:
         faults.append(f"{name}: status {ran.returncode} on {len(given)} bytes, {given[:40]!r}")
     return ran.stdout.decode("latin-1")
@@ -111,6 +113,7 @@ def held(name, known, what, given):
 def replayed(what, given):
     for name, known in COMMANDS.items():
         held(name, known, what, given)
+    held("replay.c", LIBRARY, what, given)
     held("bin/replay", sum(COMMANDS.values(), []), what, given)
 
 

@@ -4,4 +4,5 @@ int memcmp(const void *, const void *, size_t);
 void *memcpy(void *, const void *, size_t);
 void *memset(void *, int, size_t);
 int strcmp(const char *, const char *);
+size_t strlen(const char *);
 char *strerror(int);

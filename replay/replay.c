@@ -1,0 +1,828 @@
+/* replay: answers the commands of docs/REPLAY.md that are said by calls of the library, a line each. bin/replay runs it.
+
+   It knows nothing of frames and messages: each answer is what the calls say. What can be asked in two ways is asked in both; where they disagree, the answer is `differ`. */
+#include <stdbool.h>
+#include <stdint.h>
+#include <string.h>
+#include <unistd.h>
+
+#include <sartrogheo.h>
+
+#define LONGEST 70000u        /* the characters of a line */
+#define BYTES (LONGEST / 2u)  /* more than a line holds in hex */
+#define ROOM (SGH_LIMIT + 1u) /* the largest output, and one more than a decoder takes */
+#define TIMES 1048576u        /* how often zN:HH pushes its byte at the most */
+#define SLICE 4096u           /* and how many of them make a slice */
+#define NONE UINT64_MAX       /* a number that is none */
+
+/* ---- the output: kept until it is full, or until there is nothing left to read */
+
+static char output[65536];
+static size_t kept;
+static bool silent; /* while an answer is tried, before it is given */
+
+static void flush(void)
+{
+    for (size_t at = 0; at < kept;) {
+        ssize_t n = write(STDOUT_FILENO, output + at, kept - at);
+        if (n <= 0)
+            _exit(1);
+        at += (size_t)n;
+    }
+    kept = 0;
+}
+
+static void put_char(char c)
+{
+    if (silent)
+        return;
+    if (kept == sizeof output)
+        flush();
+    output[kept++] = c;
+}
+
+static void put(const char *s)
+{
+    for (; *s != '\0'; s++)
+        put_char(*s);
+}
+
+static void put_hex(const uint8_t *bytes, uint64_t len)
+{
+    static const char digits[] = "0123456789abcdef";
+
+    for (uint64_t i = 0; i < len && !silent; i++) {
+        put_char(digits[bytes[i] >> 4]);
+        put_char(digits[bytes[i] & 15]);
+    }
+}
+
+static void put_hex16(uint64_t x)
+{
+    const uint8_t two[] = {(uint8_t)(x >> 8), (uint8_t)x};
+
+    put_hex(two, sizeof two);
+}
+
+static void put_number(uint64_t x)
+{
+    if (x > 9)
+        put_number(x / 10);
+    put_char((char)('0' + x % 10));
+}
+
+static void put_signed(int64_t x)
+{
+    put(x < 0 ? "-" : "");
+    put_number(x < 0 ? 0 - (uint64_t)x : (uint64_t)x);
+}
+
+/* ---- the words of a line, which may hold any byte */
+
+struct text {
+    const char *at;
+    size_t len;
+};
+
+static bool is(struct text s, const char *word)
+{
+    return s.len == strlen(word) && memcmp(s.at, word, s.len) == 0;
+}
+
+static struct text from(struct text s, size_t n)
+{
+    return n < s.len ? (struct text){s.at + n, s.len - n} : (struct text){s.at + s.len, 0};
+}
+
+/* What stands before the first mark, or all. */
+static struct text first(struct text s, char mark)
+{
+    size_t n = 0;
+
+    while (n < s.len && s.at[n] != mark)
+        n++;
+    return (struct text){s.at, n};
+}
+
+/* What stands behind it, or nothing. */
+static struct text behind(struct text s, char mark)
+{
+    return from(s, first(s, mark).len + 1);
+}
+
+/* A plain decimal number. One above ROOM is over every limit. */
+static uint64_t number(struct text s)
+{
+    uint64_t x = 0;
+
+    for (size_t i = 0; i < s.len; i++) {
+        if (s.at[i] < '0' || s.at[i] > '9' || x > ROOM)
+            return NONE;
+        x = 10 * x + (uint64_t)(s.at[i] - '0');
+    }
+    return s.len > 0 ? x : NONE;
+}
+
+/* A digit in lower case, or 16. */
+static uint8_t digit(char c)
+{
+    if (c >= '0' && c <= '9')
+        return (uint8_t)(c - '0');
+    return c >= 'a' && c <= 'f' ? (uint8_t)(c - 'a' + 10) : 16;
+}
+
+static bool is_hex(struct text s)
+{
+    if (is(s, "-"))
+        return true;
+    for (size_t i = 0; i < s.len; i++)
+        if (digit(s.at[i]) > 15)
+            return false;
+    return s.len > 0 && s.len % 2 == 0;
+}
+
+/* ---- a command */
+
+static uint8_t bytes[BYTES]; /* those of its hex, or of the operation that is run */
+
+struct asked {
+    uint64_t way, room; /* of a decoder; `room` of an output too */
+    struct text ops;
+    size_t len; /* how many bytes its hex has */
+};
+
+/* The bytes of a hex word, which is as long as two of them each; gives how many, and none for `-`. */
+static size_t unhex(struct text s)
+{
+    size_t n = s.len / 2;
+
+    for (size_t i = 0; i < n; i++)
+        bytes[i] = (uint8_t)(digit(s.at[2 * i]) << 4 | digit(s.at[2 * i + 1]));
+    return n;
+}
+
+static bool takes_bytes(struct asked *a, struct text rest)
+{
+    if (!is_hex(rest))
+        return false;
+    a->room = ROOM;
+    a->len = unhex(rest);
+    return true;
+}
+
+static bool takes_room(struct asked *a, struct text rest)
+{
+    uint64_t room = number(first(rest, ' '));
+
+    if (room > ROOM || !takes_bytes(a, behind(rest, ' ')))
+        return false;
+    a->room = room;
+    return true;
+}
+
+/* bHEX, zN:HH, f or r. */
+static bool is_op(struct text op)
+{
+    struct text rest = from(op, 1), hex = behind(rest, ':');
+
+    if (op.len == 0)
+        return false;
+    switch (op.at[0]) {
+    case 'b':
+        return is_hex(rest);
+    case 'z':
+        return number(first(rest, ':')) <= TIMES && hex.len == 2 && is_hex(hex);
+    default:
+        return is(op, "f") || is(op, "r");
+    }
+}
+
+static bool are_ops(struct text ops)
+{
+    for (;; ops = behind(ops, ',')) {
+        struct text op = first(ops, ',');
+        if (!is_op(op))
+            return false;
+        if (op.len == ops.len)
+            return true;
+    }
+}
+
+static bool takes_ops(struct asked *a, struct text rest)
+{
+    a->room = number(first(rest, ' '));
+    a->ops = behind(rest, ' ');
+    return a->room <= ROOM && are_ops(a->ops);
+}
+
+static bool takes_push(struct asked *a, struct text rest)
+{
+    a->way = SGH_FIRST_WAY;
+    return takes_ops(a, rest);
+}
+
+static bool takes_push2(struct asked *a, struct text rest)
+{
+    a->way = SGH_SECOND_WAY;
+    return takes_ops(a, rest);
+}
+
+/* Any way; `-` for no operation, which is the push of no byte. */
+static bool takes_packed(struct asked *a, struct text rest)
+{
+    struct text sized = behind(rest, ' '), ops = behind(sized, ' ');
+
+    a->way = number(first(rest, ' '));
+    a->room = number(first(sized, ' '));
+    a->ops = is(ops, "-") ? (struct text){"b-", 2} : ops;
+    return a->way <= UINT8_MAX && a->room <= ROOM && are_ops(a->ops);
+}
+
+/* ---- frames */
+
+static uint8_t frame[ROOM];
+
+/* Whether the Encoder gives the bytes of the frame; it is left behind them. */
+static bool gives(sgh_encoder *e, size_t len, size_t n)
+{
+    uint8_t byte;
+
+    sgh_encoder_new(e);
+    for (size_t i = 0; i < n; i++)
+        if (sgh_encoder_next(e, bytes, len, &byte) != SGH_GOOD || byte != frame[i])
+            return false;
+    return true;
+}
+
+static bool says_frame(const struct asked *a)
+{
+    sgh_encoder e;
+    uint8_t byte;
+    size_t n;
+    uint32_t answer = sgh_encode(bytes, a->len, frame, a->room, &n);
+
+    if (answer != SGH_GOOD) {
+        put(answer == SGH_ENCODE_OUT_OF_MEMORY ? "memory" : "too long");
+        return n == 0;
+    }
+    put_hex(frame, n);
+    return gives(&e, a->len, n) && sgh_encoder_next(&e, bytes, a->len, &byte) == SGH_FINISHED;
+}
+
+/* The bytes are written from the frame, since the Encoder gives the same. */
+static bool says_stream(const struct asked *a)
+{
+    sgh_encoder e;
+    uint8_t byte;
+    size_t n;
+    bool agree;
+
+    sgh_encode(bytes, a->len, frame, a->room, &n);
+    agree = gives(&e, a->len, n);
+    put_hex(frame, n);
+    for (int more = 0; more < 3; more++) {
+        uint32_t answer = sgh_encoder_next(&e, bytes, a->len, &byte);
+        put(answer == SGH_FINISHED ? " none" : answer == SGH_PAYLOAD_TOO_LONG ? " too long" : " bad state");
+        agree = agree && answer != SGH_GOOD;
+    }
+    return agree;
+}
+
+static bool says_crc(const struct asked *a)
+{
+    put_hex16(sgh_crc(bytes, a->len));
+    return true;
+}
+
+/* ---- a decoder's operations, by single pushes and by slices: two decoders, each with a buffer of its own */
+
+static uint8_t single_buffer[ROOM], sliced_buffer[ROOM];
+
+struct pair {
+    sgh_decoder single, sliced;
+    size_t room;    /* of each buffer */
+    uint64_t index; /* operations so far */
+    bool agree, said;
+};
+
+/* What a call says. */
+struct said {
+    uint32_t answer;
+    uint64_t values[SGH_VALUES];
+};
+
+static const struct said NOTHING;
+
+static bool same_said(const struct said *x, const struct said *y)
+{
+    return x->answer == y->answer && memcmp(x->values, y->values, sizeof x->values) == 0;
+}
+
+static bool same_decoder(const struct pair *p)
+{
+    return memcmp(&p->single, &p->sliced, sizeof p->single) == 0;
+}
+
+/* Whether both buffers hold the payload that was said, and none where none was. */
+static bool same_payload(const struct pair *p, const struct said *s)
+{
+    uint32_t answer = s->answer == SGH_PAYLOAD ? SGH_GOOD : SGH_BAD_SPAN;
+    size_t len = s->answer == SGH_PAYLOAD ? s->values[0] : 0, x, y;
+
+    return sgh_payload(&p->single, single_buffer, p->room, &x) == answer && sgh_payload(&p->sliced, sliced_buffer, p->room, &y) == answer && x == len && y == len &&
+           len <= p->room && memcmp(single_buffer, sliced_buffer, len) == 0;
+}
+
+static void put_escape(const uint64_t v[SGH_VALUES])
+{
+    const uint8_t four[] = {(uint8_t)v[0], (uint8_t)v[1], (uint8_t)v[2], (uint8_t)v[3]};
+
+    put("escape ");
+    put_hex(four, sizeof four);
+}
+
+static void put_invalid(const uint64_t v[SGH_VALUES])
+{
+    put("invalid ");
+    put_hex16(v[0]);
+    put(" ");
+    put_hex16(v[1]);
+    put(v[2] ? " misaligned " : " aligned ");
+    put_number(v[3]);
+}
+
+static void put_counted(const char *word, uint64_t n)
+{
+    put(word);
+    put_number(n);
+}
+
+static void put_said(const struct said *s)
+{
+    switch (s->answer) {
+    case SGH_PAYLOAD:
+        put(s->values[0] > 0 ? "payload " : "payload");
+        put_hex(single_buffer, s->values[0]);
+        break;
+    case SGH_DISCARDED_BYTES:
+        put_counted("discarded ", s->values[0]);
+        break;
+    case SGH_INVALID_ESC:
+        put_escape(s->values);
+        break;
+    case SGH_INVALID_MESSAGE:
+        put_invalid(s->values);
+        break;
+    default:
+        put(s->answer == SGH_DECODER_OUT_OF_MEMORY ? "memory" : s->answer == SGH_WRONG_BUFFER ? "wrong buffer" : "bad state");
+    }
+}
+
+/* The operation's number, behind an earlier one that had something to say. */
+static void put_label(struct pair *p)
+{
+    put(p->said ? ";" : "");
+    put_number(p->index);
+    put(":");
+    p->said = true;
+}
+
+/* An operation is done, and both decoders should have said the same. */
+static void done(struct pair *p, const struct said *single, const struct said *sliced)
+{
+    p->index++;
+    p->agree = p->agree && same_said(single, sliced);
+    if (single->answer == SGH_GOOD)
+        return;
+    put_label(p);
+    put_said(single);
+}
+
+/* Bytes up to and with the first that has something to say: as a slice, then singly. Gives how many. Of a slice that is refused none is taken, and the next byte alone must be refused alike. */
+static size_t push_part(struct pair *p, const uint8_t *chunk, size_t len)
+{
+    struct said single = NOTHING, sliced = NOTHING;
+    size_t taken, n;
+
+    sliced.answer = sgh_push_slice(&p->sliced, sliced_buffer, p->room, chunk, len, &taken, sliced.values);
+    n = taken == 0 ? 1 : taken;
+    p->agree = p->agree && n <= len;
+    for (size_t i = 0; i < n && i < len; i++) {
+        single.answer = sgh_push_byte(&p->single, single_buffer, p->room, chunk[i], single.values);
+        done(p, &single, i + 1 == n ? &sliced : &NOTHING);
+    }
+    p->agree = p->agree && same_decoder(p) && same_payload(p, &single);
+    return n;
+}
+
+static void push_chunk(struct pair *p, const uint8_t *chunk, size_t len)
+{
+    for (size_t at = 0; at < len;)
+        at += push_part(p, chunk + at, len - at);
+}
+
+/* N:HH, in slices. */
+static void push_run(struct pair *p, struct text op)
+{
+    unhex(behind(op, ':'));
+    memset(bytes, bytes[0], SLICE);
+    for (uint64_t left = number(first(op, ':')); left > 0;) {
+        size_t n = left < SLICE ? left : SLICE;
+        push_chunk(p, bytes, n);
+        left -= n;
+    }
+}
+
+static void finalize(struct pair *p)
+{
+    struct said single = NOTHING, sliced = NOTHING;
+
+    single.answer = sgh_finalize(&p->single, single.values);
+    sliced.answer = sgh_finalize(&p->sliced, sliced.values);
+    done(p, &single, &sliced);
+    p->agree = p->agree && same_decoder(p) && same_payload(p, &single);
+}
+
+/* A reset always says how many bytes are lost. */
+static void reset(struct pair *p)
+{
+    struct said single = NOTHING, sliced = NOTHING;
+
+    single.answer = sgh_reset(&p->single, single.values);
+    sliced.answer = sgh_reset(&p->sliced, sliced.values);
+    done(p, &single, &sliced);
+    put_label(p);
+    put_counted("reset ", single.values[0]);
+    p->agree = p->agree && single.answer == SGH_GOOD && same_decoder(p) && same_payload(p, &single);
+}
+
+static void run_op(struct pair *p, struct text op)
+{
+    struct text rest = from(op, 1);
+
+    switch (op.at[0]) {
+    case 'b':
+        push_chunk(p, bytes, unhex(rest));
+        break;
+    case 'z':
+        push_run(p, rest);
+        break;
+    case 'f':
+        finalize(p);
+        break;
+    default:
+        reset(p);
+    }
+}
+
+static void run_ops(struct pair *p, struct text ops)
+{
+    for (;; ops = behind(ops, ',')) {
+        struct text op = first(ops, ',');
+        run_op(p, op);
+        if (op.len == ops.len)
+            break;
+    }
+    put(p->said ? "" : "-");
+    p->agree = p->agree && memcmp(single_buffer, sliced_buffer, p->room) == 0;
+}
+
+/* Two new decoders and their buffers. */
+static uint32_t begin(struct pair *p, size_t capacity, uint8_t way)
+{
+    uint32_t answer = sgh_decoder_new(&p->single, capacity, way);
+
+    p->sliced = p->single;
+    memset(single_buffer, 0, p->room);
+    memset(sliced_buffer, 0, p->room);
+    return answer;
+}
+
+/* For a capacity that no decoder takes the largest is made, which the buffer doesn't fit, so that it refuses every byte. */
+static bool says_push(const struct asked *a)
+{
+    struct pair p = {.room = a->room, .agree = true};
+
+    if (begin(&p, a->room, (uint8_t)a->way) == SGH_WRONG_BUFFER)
+        begin(&p, SGH_LIMIT, (uint8_t)a->way);
+    run_ops(&p, a->ops);
+    return p.agree;
+}
+
+static bool says_packed(const struct asked *a)
+{
+    struct pair p = {.room = a->room, .agree = true};
+    uint32_t answer = begin(&p, a->room, (uint8_t)a->way);
+
+    if (answer != SGH_GOOD) {
+        put_counted("refused ", answer);
+        return true;
+    }
+    run_ops(&p, a->ops);
+    put(" / ");
+    put_hex(p.single.bytes, sizeof p.single.bytes);
+    return p.agree;
+}
+
+/* ---- the events of a message; their strings are parts of `bytes` */
+
+/* A span that isn't within the input, which no event has, is written as nothing. */
+static void put_span(const char *name, uint64_t start, uint64_t len)
+{
+    put(name);
+    if (start <= BYTES && len <= BYTES - start)
+        put_hex(bytes + start, len);
+}
+
+static void put_opt_span(const char *name, sgh_opt_span s)
+{
+    put(name);
+    if (s.present)
+        put_span("x", s.start, s.len);
+    else
+        put("-");
+}
+
+static void put_opt(const char *name, const char *before, sgh_opt_unsigned x)
+{
+    put(name);
+    if (x.present)
+        put_counted(before, x.value);
+    else
+        put("-");
+}
+
+/* A letter, and how many bits a number of `width` bytes has. */
+static void put_width(const char *letter, uint64_t width)
+{
+    put_counted(letter, 8 * width);
+    put(":");
+}
+
+static void put_status(sgh_opt_status s)
+{
+    put(" status=");
+    if (s.present) {
+        put_width("u", s.width);
+        put_number(s.value);
+    } else {
+        put("-");
+    }
+}
+
+static void put_scaler(sgh_opt_signed x)
+{
+    put(" scaler=");
+    if (x.present)
+        put_signed(x.value);
+    else
+        put("-");
+}
+
+static void put_value(const sgh_value *v)
+{
+    put(" value=");
+    switch (v->kind) {
+    case SGH_VALUE_BOOL:
+        put_counted("bool:", v->number);
+        break;
+    case SGH_VALUE_BYTES:
+        put_span("oct:", v->bytes.start, v->bytes.len);
+        break;
+    case SGH_VALUE_SIGNED:
+        put_width("i", v->width);
+        put_signed((int64_t)v->number);
+        break;
+    case SGH_VALUE_UNSIGNED:
+        put_width("u", v->width);
+        put_number(v->number);
+        break;
+    default: /* SGH_VALUE_TIME */
+        put_counted("list:sec:", v->number);
+    }
+}
+
+static void put_open(const sgh_open_response *o)
+{
+    put_opt_span(" codepage=", o->codepage);
+    put_opt_span(" client=", o->client_id);
+    put_span(" file=x", o->req_file_id.start, o->req_file_id.len);
+    put_span(" server=x", o->server_id.start, o->server_id.len);
+    put_opt(" time=", "sec:", o->ref_time);
+    put_opt(" version=", "", o->sml_version);
+}
+
+static void put_list(const sgh_get_list_response *l)
+{
+    put_opt_span(" client=", l->client_id);
+    put_span(" server=x", l->server_id.start, l->server_id.len);
+    put_opt_span(" name=", l->list_name);
+    put_opt(" time=", "sec:", l->act_sensor_time);
+    put_counted(" n=", l->num_vals);
+}
+
+static void put_start(const sgh_message_start *m)
+{
+    put(m->body == SGH_OPEN_RESPONSE ? "open" : m->body == SGH_CLOSE_RESPONSE ? "close" : "list");
+    put_span(" tid=x", m->transaction_id.start, m->transaction_id.len);
+    put_counted(" group=", m->group_no);
+    put_counted(" abort=", m->abort_on_error);
+    if (m->body == SGH_OPEN_RESPONSE)
+        put_open(&m->open);
+    else if (m->body == SGH_CLOSE_RESPONSE)
+        put_opt_span(" sig=", m->close.global_signature);
+    else
+        put_list(&m->list);
+}
+
+static void put_entry(const sgh_list_entry *e)
+{
+    put_span("entry name=x", e->obj_name.start, e->obj_name.len);
+    put_status(e->status);
+    put_opt(" time=", "sec:", e->val_time);
+    put_opt(" unit=", "", e->unit);
+    put_scaler(e->scaler);
+    put_value(&e->value);
+    put_opt_span(" sig=", e->value_signature);
+}
+
+static void put_refusal(const sgh_refusal *r, bool places)
+{
+    static const char *const names[] = {"UnexpectedEOF", "InvalidTlf", "TlfMismatch", "UnexpectedVariant", "CrcMismatch", "MsgEndMismatch"};
+    static const char *const kinds[] = {"", " TlfLengthOverflow", " TlfReserved", " TlfLengthUnderflow", " TlfNextByteTypeMismatch", " TlfInvalidTy"};
+
+    put("err ");
+    put(names[r->number - SGH_UNEXPECTED_EOF]);
+    put(kinds[r->kind]);
+    if (places) {
+        put_counted(" ", r->number);
+        put_counted(" @", r->place);
+    }
+}
+
+static void put_event(const sgh_event *e, bool places)
+{
+    switch (e->kind) {
+    case SGH_NO_EVENT:
+        put("none");
+        break;
+    case SGH_MESSAGE_START:
+        put_start(&e->message);
+        break;
+    case SGH_GET_LIST_RESPONSE_END:
+        put_opt_span("end sig=", e->end.list_signature);
+        put_opt(" time=", "sec:", e->end.act_gateway_time);
+        break;
+    case SGH_LIST_ENTRY:
+        put_entry(&e->entry);
+        break;
+    case SGH_REFUSED:
+        put_refusal(&e->refused, places);
+        break;
+    default: /* SGH_REFUSED_ALONE */
+        put(e->refused.number == SGH_INPUT_TOO_LONG ? "err InputTooLong" : "err BadState");
+    }
+}
+
+/* Whether a call's answer and the event that it wrote say the same. */
+static bool is_answer(uint32_t answer, const sgh_event *e)
+{
+    switch (e->kind) {
+    case SGH_NO_EVENT:
+        return answer == SGH_FINISHED;
+    case SGH_MESSAGE_START:
+    case SGH_GET_LIST_RESPONSE_END:
+    case SGH_LIST_ENTRY:
+        return answer == SGH_GOOD;
+    case SGH_REFUSED:
+        return answer == e->refused.number && answer >= SGH_UNEXPECTED_EOF && answer <= SGH_MSG_END_MISMATCH && e->refused.kind <= SGH_TLF_INVALID_TY;
+    default:
+        return answer == e->refused.number && (answer == SGH_INPUT_TOO_LONG || answer == SGH_BAD_STATE);
+    }
+}
+
+struct reading {
+    sgh_reader reader;
+    size_t len;
+    bool places, agree, said;
+};
+
+/* One call, and what it says. */
+static uint32_t read_next(struct reading *r)
+{
+    sgh_event event;
+    uint32_t answer = sgh_next_event(bytes, r->len, &r->reader, &event);
+
+    put(r->said ? " | " : "");
+    r->said = true;
+    r->agree = r->agree && is_answer(answer, &event);
+    if (r->agree)
+        put_event(&event, r->places);
+    return answer;
+}
+
+/* Up to the first call without an event, and three more behind a refusal. */
+static bool read_all(size_t len, bool places)
+{
+    struct reading r = {.len = len, .places = places, .agree = true};
+    uint32_t answer;
+
+    do
+        answer = read_next(&r);
+    while (answer == SGH_GOOD);
+    for (int more = answer == SGH_FINISHED ? 0 : 3; more > 0; more--)
+        read_next(&r);
+    return r.agree;
+}
+
+static bool says_events(const struct asked *a)
+{
+    return read_all(a->len, false);
+}
+
+static bool says_places(const struct asked *a)
+{
+    return read_all(a->len, true);
+}
+
+/* ---- lines */
+
+/* `takes` gives whether the rest of the line is the command's; `says` writes its answer, and gives whether all calls agreed. */
+static const struct command {
+    const char *name;
+    bool (*takes)(struct asked *, struct text);
+    bool (*says)(const struct asked *);
+} commands[] = {
+    {"encode", takes_bytes, says_frame},
+    {"encode_cap", takes_room, says_frame},
+    {"stream", takes_bytes, says_stream},
+    {"crc", takes_bytes, says_crc},
+    {"push", takes_push, says_push},
+    {"push2", takes_push2, says_push},
+    {"packed", takes_packed, says_packed},
+    {"events", takes_bytes, says_events},
+    {"places", takes_bytes, says_places},
+};
+
+/* Without a word first, since it is known at the end alone whether all agree. */
+static void try_and_say(const struct command *c, const struct asked *a)
+{
+    bool agree;
+
+    silent = true;
+    agree = c->says(a);
+    silent = false;
+    if (agree)
+        c->says(a);
+    else
+        put("differ");
+}
+
+static void answer(struct text asked)
+{
+    struct asked a = {0};
+    struct text word = first(asked, ' ');
+
+    for (size_t i = 0; i < sizeof commands / sizeof *commands; i++)
+        if (is(word, commands[i].name) && commands[i].takes(&a, behind(asked, ' '))) {
+            try_and_say(&commands[i], &a);
+            put("\n");
+            return;
+        }
+    put("bad command\n");
+}
+
+/* The line so far; one that is too long, which is no command, has a length over LONGEST. */
+static struct {
+    char at[LONGEST];
+    size_t len;
+} line;
+
+static void take(char c)
+{
+    if (c == '\n') {
+        answer((struct text){line.at, line.len <= LONGEST ? line.len : 0});
+        line.len = 0;
+    } else if (line.len < LONGEST) {
+        line.at[line.len++] = c;
+    } else {
+        line.len = LONGEST + 1;
+    }
+}
+
+/* What was answered is written before it waits for more. A last line without its end is a line too. */
+int main(void)
+{
+    static char chunk[65536];
+    ssize_t n;
+
+    while ((n = read(STDIN_FILENO, chunk, sizeof chunk)) > 0) {
+        for (ssize_t i = 0; i < n; i++)
+            take(chunk[i]);
+        flush();
+    }
+    if (line.len > 0)
+        take('\n');
+    flush();
+    return 0;
+}
