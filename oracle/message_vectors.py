@@ -1,4 +1,4 @@
-"""message_vectors.py: prints the fixed commands over messages. vectors.py puts them, with their answers, behind its own lines in crates/replay_messages/stdin and stdout.
+"""message_vectors.py: prints the fixed commands over messages. vectors.py puts them, with their answers, behind its own lines.
 
 The answers are the crate's (target/oracle/oracle, made by oracle/build). The crate has no places: what `places` answers is its answer to `events` with document 01's number behind each
 error, and its place. Both are those of places.py, a reader of its own, and the number must be the crate's; where one field is bent they are also written here beside the input. What `tlf` answers is that reader's too, since the

@@ -4,7 +4,7 @@ import os, re, sys
 HERE = os.path.dirname(os.path.abspath(__file__))
 sys.dont_write_bytecode = True
 sys.path.append(os.path.join(HERE, "..", "scripts"))
-from programs import COMMANDS, program
+from programs import program
 REPLAY = os.path.join(HERE, "..", "bin", "replay")
 START, ESCAPE = bytes.fromhex("1b1b1b1b01010101"), bytes.fromhex("1b1b1b1b")
 

@@ -1,7 +1,7 @@
-"""vectors.py: writes the fixed list of commands to the files stdin of crates/replay_wire and crates/replay_messages, each to the program that knows it and what is no command to both, and the crate's answers
+"""vectors.py: writes the fixed list of commands to replay/stdin and crates/replay_parts/stdin, each to the list of the program that answers it and what is no command to both, and the crate's answers
 (target/oracle/oracle, made by oracle/build) to stdout beside them; those over messages (message_vectors.py) come last, and what the crate doesn't have: `push2`, `packed`, `unpack` and `pack`, whose answers are told here.
 
-`rt check replay_wire replay_messages` replays them without the crate at hand. Run it again when a command is added; what it writes depends on nothing but this folder and the crate.
+tests/test_replay.py and tests/test_forms.py replay the first list, `rt check replay_parts` the second, without the crate at hand. Run it again when a command is added; what it writes depends on nothing but this folder and the crate.
 """
 import itertools, os, re, subprocess, sys
 
@@ -9,7 +9,8 @@ sys.dont_write_bytecode = True
 import message_vectors
 from generate import commands
 from places import over_32_bits
-from sml import COMMANDS, ESCAPE, HERE, KINDS, START, capacities, closed, frame, hexed
+from sml import ESCAPE, HERE, KINDS, START, capacities, closed, frame, hexed
+from programs import ANSWERS, LIBRARY, ROOT, VECTORS
 
 b = bytes.fromhex
 CAPS = capacities()
@@ -251,11 +252,10 @@ def packings():
 
 
 def store(name, pairs):
-    """The commands that are no other program's, and their answers. The last line has no line end."""
-    others = [w for other in COMMANDS if other != name for w in COMMANDS[other]]
-    mine = [(c, a) for c, a in pairs if c.split(" ")[0] not in others]
+    """The commands that nobody else answers, and their answers. The last line has no line end."""
+    mine = [(c, a) for c, a in pairs if ANSWERS.get(c.split(" ")[0], name) == name]
     for file, text in ("stdin", "\n".join(c for c, _ in mine)), ("stdout", "".join(a + "\n" for _, a in mine)):
-        open(os.path.join(HERE, "..", "crates", name, file), "w", encoding="utf-8", newline="").write(text)
+        open(os.path.join(ROOT, VECTORS[name], file), "w", encoding="utf-8", newline="").write(text)
     print(f"{name}: {len(mine)} commands, {sum(a == 'bad command' for _, a in mine)} of them answered bad command")
 
 
@@ -266,15 +266,15 @@ def main():
     say(*(c for c, _ in first))
     # the crate's answers are stored, so that no length is read that only ours refuses
     assert not any(map(over_32_bits, lines))
-    said = subprocess.run([os.path.join(HERE, "..", "target/oracle/oracle")], input="\n".join(lines).encode(), capture_output=True, check=True).stdout.decode()
+    said = subprocess.run([os.path.join(ROOT, "target/oracle/oracle")], input="\n".join(lines).encode(), capture_output=True, check=True).stdout.decode()
     for word in ("no such capacity", "panic"):
         assert word not in said, word
     last = ("encode 12345678", frame(b("12345678")).hex())
     pairs = list(zip(lines, said.split("\n"))) + list(message_vectors.vectors()) + second + list(packings())
     assert said.count("\n") == len(lines)
     assert not set(first) - set(pairs)
-    for name in COMMANDS:
-        store(name, pairs + [last] * ("encode" in COMMANDS[name]))
+    for name in VECTORS:
+        store(name, pairs + [last] * (name == LIBRARY))
 
 
 if __name__ == "__main__":

@@ -13,6 +13,7 @@ import programs
 
 ROOT = programs.ROOT
 LIBRARY, SECONDS = "sartrogheo", 400
+REPLAY = os.path.join(ROOT, "target/library/replay")
 # C11 as any compiler takes it; the toolchain's has no headers of its own, and must not find the machine's
 PLAIN = ["-Wall", "-Wextra", "-Werror", "-O2", "-nostdinc", "-isystem", os.path.join(ROOT, "scripts/headers")]
 C11 = ["-std=c11", *PLAIN]
@@ -102,7 +103,7 @@ def kept(source, out):
 
 def replay():
     """The words that run the program behind bin/replay whose answers are the library's."""
-    return kept(os.path.join(ROOT, "replay/replay.c"), os.path.join(ROOT, "target/library/replay"))
+    return kept(os.path.join(ROOT, "replay/replay.c"), REPLAY)
 
 
 def main():

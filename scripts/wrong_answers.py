@@ -1,19 +1,19 @@
-"""The wrong readings of docs/WRONG-READINGS.md: what is told of each, and both answers to the command that tells it from ours. Ours are those of the proved programs; the wrong one is that of
-the edited code, built and run without proof by `rt try`, on the interpreter and compiled three ways. bin/wrong and tests/test_answers.py share this."""
+"""The wrong readings of docs/WRONG-READINGS.md: what is told of each, and both answers to the command that tells it from ours. Ours are those of the library and the proved programs; the wrong one is that of
+the edited code, built and run without proof by `rt try`, on the interpreter and compiled three ways. bin/wrong, tests/test_answers.py and tests/test_forms.py share this."""
 import ast, glob, os, re, shutil, subprocess, tempfile
-import programs
+import clink, programs
 
 ROOT = programs.ROOT
 # the one form of the line
 LINE = re.compile(r"^Answers: `([^`]+)` gives `([^`]+)`; the wrong one `([^`]+)`\.$")
-# Which program answers a command, by its first word. A command that begins with no such word is told in words, and nothing runs it.
-PROGRAMS = {word: name for name, words in programs.COMMANDS.items() for word in words}
-PROGRAMS.update({"smlcat": "smlcat", "limits": "limits", "chunks": "probe", "memory": "probe", "long_sum": "probe"})
-PROBE = "probe: decoder decoder_slice in_place bench io libc"
+# The program of tests/forms, and the crates that it asks; it reads lines and writes fields as replay_parts does.
+FORMS = "forms"
+ASKED = "crc_x25 encoder decoder decoder_slice in_place packed refusals octet_string value common message streaming parser bench io libc"
+SHARED = ["line.rt", "fields.rt"]
+# Who answers a command, by its first word. A command that begins with no such word is told in words, and nothing runs it.
+PROGRAMS = programs.ANSWERS | dict.fromkeys(["limits", "chunks", "memory", "long_sum"], FORMS) | {"smlcat": "smlcat"}
 # The interpreter of `rt try` knows no arguments: in the copy smlcat is started without one.
 NO_ARGUMENT = ("smlcat/src/main.rt", "Decoder::with_way(4096, way_asked())", "Decoder::new(4096)")
-# A program that runs two forms side by side would only say that they differ. In the copy the decoder by value, which is the edited form, answers alone.
-ALONE = ("replay_wire/src/pushes.rt", "if !tried.agree {", "if false {")
 
 
 def told(name):
@@ -72,9 +72,9 @@ def can_run(name):
 
 
 def input_of(command):
-    """what the program that answers reads"""
+    """what the program that answers reads; `limits` has one answer to all that is asked of it"""
     word, _, rest = command.partition(" ")
-    return bytes.fromhex(rest) if word == "smlcat" else b"" if word == "limits" else command.encode() + b"\n"
+    return bytes.fromhex(rest) if word == "smlcat" else b"limits\n" if word == "limits" else command.encode() + b"\n"
 
 
 def answer_in(command, wrote):
@@ -86,52 +86,88 @@ def answer_in(command, wrote):
     return "; ".join(l for l in lines if l) or "nothing"
 
 
-def ours(commands):
-    """Our answers, by command: those of the proved programs. A program that isn't built, and the probe, is run as the code stands."""
+def built(name):
+    """the path of what answers, as it was built last, or None"""
+    path = clink.REPLAY if name == programs.LIBRARY else os.path.join(ROOT, "target/bin", name)
+    return path if os.path.exists(path) else None
+
+
+def ours(told):
+    """Our answers, by command, of a dict that has those that are told: the library's and the proved programs', as they were built last. What isn't built, and the program of tests/forms, is run as the code stands."""
     found = {}
-    for name in dict.fromkeys(map(program_of, commands)):
-        asked = [c for c in commands if program_of(c) == name]
-        for part in [[c] for c in asked] if name == "smlcat" else [asked]:
-            given = b"".join(map(input_of, part))
-            if os.path.exists(os.path.join(ROOT, "target/bin", name)):
-                wrote = subprocess.run(programs.program(name), input=given, capture_output=True).stdout.decode()
+    for name, alone in dict.fromkeys((program_of(c), takes_all(c)) for c in told):
+        asked = [c for c in told if (program_of(c), takes_all(c)) == (name, alone)]
+        for given in dict.fromkeys(map(input_of, asked)) if alone else [b"".join(map(input_of, asked))]:
+            part = [c for c in asked if not alone or input_of(c) == given]
+            path = built(name)
+            if path:
+                wrote = subprocess.run(programs.program(path), input=given, capture_output=True).stdout.decode()
             else:
-                with tempfile.TemporaryDirectory() as tmp:
-                    copied(tmp)
-                    wrote = tried(tmp, name, given, limits() if name == "limits" else "")
-            # these two write more than a line
-            lines = [wrote] * len(part) if name in ("smlcat", "limits") else [line + "\n" for line in wrote.split("\n")]
+                wrote = as_it_stands(name, given, wanted(part[0], told[part[0]]) if alone else "".join(wanted(c, told[c]) for c in part))
+            lines = [wrote] * len(part) if alone else [line + "\n" for line in wrote.split("\n")]
             found.update((c, answer_in(c, line)) for c, line in zip(part, lines))
     return found
 
 
+def takes_all(command):
+    """Is the answer more than a line? Then it is all that one input brings."""
+    return command.split(" ")[0] in ("smlcat", "limits")
+
+
+def wanted(command, guess):
+    """what a program would write whose answer is this one; of `limits`, what ours writes"""
+    if command.startswith("limits "):
+        return limits()
+    lines = "" if guess == "nothing" else guess + "\n"
+    return lines.replace("; ", "\n") if command.startswith("smlcat ") else lines
+
+
+def as_it_stands(name, given, want):
+    with tempfile.TemporaryDirectory() as tmp:
+        copied(tmp)
+        return tried(tmp, in_rattle(name), given, want)
+
+
+def in_rattle(name):
+    """what answers in the copy, where there is no library"""
+    return FORMS if name == programs.LIBRARY else name
+
+
 def copied(copy):
-    """a repository that has the code alone, and the probe as a crate of it"""
+    """a repository that has the code alone, and the program of tests/forms as a crate of it"""
     for path in glob.glob(os.path.join(ROOT, "crates/*/src")):
         shutil.copytree(path, os.path.join(copy, os.path.relpath(path, ROOT)))
     in_copy(copy, NO_ARGUMENT)
     crates = open(os.path.join(ROOT, "crates.txt"), encoding="utf-8").read()
-    open(os.path.join(copy, "crates.txt"), "w", encoding="utf-8").write(crates + PROBE + "\n")
-    src = os.path.join(copy, "crates/probe/src")
+    open(os.path.join(copy, "crates.txt"), "w", encoding="utf-8").write(f"{crates}{FORMS}: {ASKED}\n")
+    src = os.path.join(copy, "crates", FORMS, "src")
     os.makedirs(src)
-    shutil.copy(os.path.join(ROOT, "scripts/probe.rattle"), os.path.join(src, "main.rt"))
-    shutil.copy(os.path.join(ROOT, "crates/replay_wire/src/line.rt"), src)
+    for path in glob.glob(os.path.join(ROOT, "tests/forms/*.rattle")):
+        shutil.copy(path, os.path.join(src, os.path.basename(path).replace(".rattle", ".rt")))
+    for name in SHARED:
+        shutil.copy(os.path.join(ROOT, "crates/replay_parts/src", name), src)
 
 
-def tried(copy, name, given, want):
-    """What a program of the copy writes, or a line that says why it stops. `rt try` shows 200 bytes of what differs from what was wanted; where there is more, what is known by then is wanted next."""
+def runs(copy, name, given, want):
+    """what `rt try` says of the four runs of a program of the copy, the interpreter first"""
     folder = os.path.join(copy, "crates", name)
     open(os.path.join(folder, "stdin"), "wb").write(given)
     open(os.path.join(folder, "stdout"), "w", encoding="utf-8").write(want)
     said = subprocess.run(["rt", "try", name], cwd=copy, capture_output=True, text=True)
-    runs = re.findall(r"^((?:ok|FAIL): the (?:interpreter|native program) .*\n(?:(?!ok: |FAIL: ).*\n)*)", said.stdout, re.M)
-    if len(runs) != 4:
+    found = re.findall(r"^((?:ok|FAIL): the (?:interpreter|native program) .*\n(?:(?!ok: |FAIL: ).*\n)*)", said.stdout, re.M)
+    if len(found) != 4:
         raise ValueError((said.stdout + said.stderr)[-2000:].replace(copy + os.sep, ""))
-    stop = re.search(r"undefined behavior \(.*?\): (.*)", runs[0])
+    return found
+
+
+def tried(copy, name, given, want):
+    """What a program of the copy writes, or a line that says why it stops. `rt try` shows 200 bytes of what differs from what was wanted; where there is more, what is known by then is wanted next."""
+    four = runs(copy, name, given, want)
+    stop = re.search(r"undefined behavior \(.*?\): (.*)", four[0])
     if stop:
         return f"stops: {stop[1].replace('`', '')}\n"
     # the interpreter has ten million steps; what takes more is seen by the compiled code alone
-    wrote = {(want, False) if run.startswith("ok") else differing(run, want) for run in runs if " failed, " not in run}
+    wrote = {(want, False) if run.startswith("ok") else differing(run, want) for run in four if " failed, " not in run}
     if not wrote:
         return "never ends\n"
     if len(wrote) > 1:
@@ -139,7 +175,7 @@ def tried(copy, name, given, want):
         return "no answer: its four runs differ\n"
     found, cut = wrote.pop()
     # of limits one line is asked for, and the first that differs is the one
-    return tried(copy, name, given, found) if cut and name != "limits" else found
+    return tried(copy, name, given, found) if cut and given != b"limits\n" else found
 
 
 def differing(run, want):
@@ -149,24 +185,18 @@ def differing(run, want):
 
 
 def limits():
-    return open(os.path.join(ROOT, "crates/limits/stdout"), encoding="utf-8").read()
+    """our answer to `limits`, and the end of its line"""
+    return open(os.path.join(ROOT, "tests/expected/limits.txt"), encoding="utf-8").read() + "\n"
 
 
 def edited(crate, changed, command, guess):
     """the answer of the code with these changes of a crate"""
-    name = program_of(command)
-    want = "" if guess == "nothing" else guess + "\n"
-    if name == "smlcat":
-        want = want.replace("; ", "\n")
-    if name == "limits":
-        want = limits()
     with tempfile.TemporaryDirectory() as tmp:
         copied(tmp)
         for target, old, new in changed:
             if target.startswith("src/"):
                 replace(os.path.join(tmp, "crates", crate, target), old, new)
-        in_copy(tmp, ALONE)
-        wrote = tried(tmp, name, input_of(command), want)
+        wrote = tried(tmp, in_rattle(program_of(command)), input_of(command), wanted(command, guess))
     return wrote.strip() if re.match("stops: |never ends|no answer: ", wrote) else answer_in(command, wrote)
 
 

@@ -1,5 +1,5 @@
 /* The library from C: `library calls` makes every call with good and bad input and looks at all that it was lent; `library answers` answers commands, a line each, which
-   tests/test_library.py holds to its own readings. */
+   tests/test_library.py holds to its own readings; `library thousand` keeps a thousand decoders in one array, which tests/test_packed.py does. */
 #include <inttypes.h>
 #include <stdbool.h>
 #include <stdio.h>
@@ -671,11 +671,60 @@ static int answers(void)
     return 0;
 }
 
+/* ---- a thousand decoders in one array, their memories in another (document 02, Q-11) */
+
+#define DECODERS 1000u
+#define MEMORY 24u
+
+static sgh_decoder decoders[DECODERS];
+static uint8_t memories[DECODERS][MEMORY];
+
+/* What is said, how many bytes were taken, and the decoder's own bytes. */
+static void operate(sgh_decoder *d, uint8_t *buf, char kind, size_t len)
+{
+    uint64_t v[SGH_VALUES];
+    size_t taken = kind == 'b';
+    uint32_t answer = kind == 'f'   ? sgh_finalize(d, v)
+                      : kind == 'r' ? sgh_reset(d, v)
+                      : kind == 'b' ? sgh_push_byte(d, buf, MEMORY, bytes[0], v)
+                                    : sgh_push_slice(d, buf, MEMORY, bytes, len, &taken, v);
+
+    if (kind == 'r' && answer == SGH_GOOD)
+        printf("reset %" PRIu64, v[0]);
+    else if (answer == SGH_GOOD)
+        putchar('-');
+    else
+        put_answer(answer, buf, v);
+    printf(" %zu ", taken);
+    put_hex(d->bytes, SGH_DECODER_LEN);
+    putchar('\n');
+}
+
+/* The even ones search in the first way, the odd ones in the second. A line is a decoder's number, a letter (b: a byte, s: a slice, f: finalize, r: reset) and the bytes in hex. */
+static int thousand(void)
+{
+    static char line[200];
+
+    for (unsigned i = 0; i < DECODERS; i++)
+        if (sgh_decoder_new(&decoders[i], MEMORY, i % 2 ? SGH_SECOND_WAY : SGH_FIRST_WAY) != SGH_GOOD)
+            return 1;
+    while (fgets(line, sizeof line, stdin) != NULL) {
+        char *at;
+        unsigned long i = strtoul(line, &at, 10);
+        if (i >= DECODERS)
+            return 1;
+        operate(&decoders[i], memories[i], at[1], unhex(at + 3));
+    }
+    return 0;
+}
+
 int main(int argc, char **argv)
 {
     if (argc == 2 && strcmp(argv[1], "calls") == 0)
         return calls();
     if (argc == 2 && strcmp(argv[1], "answers") == 0)
         return answers();
+    if (argc == 2 && strcmp(argv[1], "thousand") == 0)
+        return thousand();
     return 2;
 }

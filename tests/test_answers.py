@@ -1,12 +1,12 @@
-"""Each wrong reading of docs/WRONG-READINGS.md has one line of answers: a command, our answer and the wrong one, which is another. Our answer is held to the proved programs, the wrong one to the edited code, run without proof: here that of a few edits, and with --all of every edit of code. An edit that changes nothing, which the prover refuses too, is seen by its answer."""
+"""Each wrong reading of docs/WRONG-READINGS.md has one line of answers: a command, our answer and the wrong one, which is another. Our answer is held to the library and the proved programs, or where only tests/forms asks it to that program over the code as it stands; the wrong one to the edited code, run without proof: here that of a few edits, and with --all of every edit of code. An edit that changes nothing, which the prover refuses too, is seen by its answer."""
 import os, re, subprocess, sys, time
 from concurrent.futures import ThreadPoolExecutor
 
 sys.dont_write_bytecode = True
 sys.path.insert(0, os.path.join(os.path.dirname(os.path.abspath(__file__)), "../scripts"))
-import wrong_answers
+import clink, programs, wrong_answers
 
-# one of each program that answers lines, one whose code stops, and document 01's fifth 1b
+# a field (replay_parts), frames and limits (tests/forms), lines (smlcat), one whose code stops, and document 01's fifth 1b
 SAMPLE = ["full_width_refused", "pad_not_against_length", "first_byte_again", "slice_noise_without_matched", "pad_count_in_hex", "fifth_1b_keeps_four"]
 # an edit of the line that `later_type_not_tested` edits, the same for every byte
 EQUAL = "tlf", [("src/lib.rt", "if b / 16 % 8 != 0 {", "if b % 128 / 16 != 0 {")], "leaf oct 8014aabb", "err InvalidTlf TlfNextByteTypeMismatch"
@@ -34,7 +34,9 @@ bad += [f"{name}: docs/WRONG-READINGS.md has no line of answers, or two, or one 
 lines = {name: line for name, line in lines.items() if line}
 bad += [f"{name}: both answers are the same" for name, (_, ours, theirs) in lines.items() if ours == theirs]
 asked = {name: line for name, line in lines.items() if wrong_answers.program_of(line[0])}
-answers = wrong_answers.ours(list(dict.fromkeys(command for command, _, _ in asked.values())))
+programs.build(["replay_parts", "smlcat"], 300)
+clink.replay()
+answers = wrong_answers.ours({command: ours for command, ours, _ in asked.values()})
 for name, (command, ours, _) in asked.items():
     held(f"{name}, our code, {command}", answers[command], ours)
 runs = [name for name in lines if wrong_answers.can_run(name)]

@@ -15,7 +15,7 @@ LARGEST = 4294967295
 INVALID, RESERVED, TYPED, OVER, UNDER = ("err InvalidTlf %s 11 @0" % k for k in ("TlfInvalidTy", "TlfReserved", "TlfNextByteTypeMismatch", "TlfLengthOverflow", "TlfLengthUnderflow"))
 ENDS, IS = "err UnexpectedEOF 10 @%d", "%d %d next %d"
 # stored beside their answers; those of the request are written out in oracle/message_vectors.py
-COMMANDS, ANSWERS = (open("crates/replay_messages/" + f, encoding="utf-8", newline="\n").read().split("\n") for f in ("stdin", "stdout"))
+COMMANDS, ANSWERS = (open("crates/replay_parts/" + f, encoding="utf-8", newline="\n").read().split("\n") for f in ("stdin", "stdout"))
 VECTORS = {c[4:].replace("-", ""): a for c, a in zip(COMMANDS, ANSWERS) if c.startswith("tlf ")}
 faults = []
 

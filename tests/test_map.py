@@ -28,7 +28,7 @@ BAD_STATE = """fill over the recorded C; CRC index over fill; searching with fil
 Encoder position beyond its payload; Init over 8; either escape count over 4; End outside -3 to 8; reader place beyond the input; message start beyond the place; pending over 4,294,967,297"""
 DEFINED = r"^(  +(?=pub ))?(?:unfoldable |abbrev |pub |record |data )*([^\s:({]+)\s*[:({]"
 functions, laws, definitions = {}, {}, set()
-limits = open("crates/limits/stdout", encoding="utf-8").read()
+limits = open("tests/expected/limits.txt", encoding="utf-8").read()
 for path in glob.glob("crates/*/src/**/*.rt", recursive=True):
     body, of = open(path, encoding="utf-8").read(), ""
     crate, private = path.split(os.sep)[1], path.endswith("main.rt")
@@ -49,9 +49,9 @@ edits |= {law.replace("-", "_") for law, paths in laws.items() if any(p.endswith
 def missing(cell):
     """What a cell names that is not there."""
     last = None  # the contracts of the function that was named last
-    for name, behind in re.findall(r"`([^`]+)`([^`]*(?:`crates/[^`]+`)?)", cell):
+    for name, behind in re.findall(r"`([^`]+)`([^`]*(?:`(?:crates|replay)/[^`]+`)?)", cell):
         file = re.match(r" (?:of|in) `(crates/[^`]+)`", behind)
-        if re.fullmatch(r"(?:crates|docs|tests|captures|bin|specs|proofs)/[\w/.+-]+", name):
+        if re.fullmatch(r"(?:crates|docs|tests|captures|bin|replay|specs|proofs)/[\w/.+-]+", name):
             if not os.path.exists(name) and not glob.glob("crates/*/" + name):
                 yield name
         elif behind.startswith(" lines of"):
@@ -80,7 +80,7 @@ for table in re.findall(r"(?:^\|.*\n)+", text, re.M):
         clauses += [cells[0].strip('"')] if lines[0][0] == "BadState" else []
         for column, cell in zip(lines[0], cells):
             if column == "run":
-                bad += [f"docs/STATEMENTS.md: {words} does not stand in crates/limits/stdout" for words in re.findall(r"`([^`]+)`", cell) if not re.search(r"^%s, .*: 4;" % re.escape(words), limits, re.M)]
+                bad += [f"docs/STATEMENTS.md: {words} does not stand in tests/expected/limits.txt" for words in re.findall(r"`([^`]+)`", cell) if not re.search(r"^%s, .*: 4;" % re.escape(words), limits, re.M)]
             elif column in COLUMNS:
                 promised += len(re.findall(r"`[^`]+`", cell))
                 bad += [f"docs/STATEMENTS.md: {name} is not there ({column} of {cells[0][:60]})" for name in missing(cell)]

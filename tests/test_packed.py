@@ -1,24 +1,27 @@
 """Decoder state in 28 plain bytes (document 02, Q-11): the request's vectors, random histories of a decoder, byte strings and records, through `packed`, `unpack` and `pack` of bin/replay. Each answer is that of tests/packed_reading.py, a second reading written from the documents alone, whose two judgements of bytes agree.
 
-The line that the program thousand prints, of a thousand decoders in one array of bytes, is counted by that reading too.
+A thousand decoders of the library stand in one array of bytes (`library thousand` of tests/library.c): operations on them, interleaved, must answer and leave in their 28 bytes what a thousand decoders of that reading answer and are.
 
 Two sentences hold of the program's own answers, without that reading. Back: what `pack` gave unpacks to the record that was packed, its unused counts 0. Again: the record that `unpack` says packs to the bytes that it was read from, and what stands behind the 28 stays.
 
 `python3 tests/test_packed.py N` runs N histories, N byte strings and N records; --all runs 100,000 of each. The gate's are the first of these.
 """
-import collections, itertools, os, random, re, subprocess, sys
+import collections, itertools, os, random, re, subprocess, sys, tempfile
 
 sys.dont_write_bytecode = True
 os.chdir(os.path.join(os.path.dirname(os.path.abspath(__file__)), ".."))
+sys.path.append("scripts")
+import clink
 from packed_reading import DONE, JUDGED, LIMIT, MORE, NORMAL, SEARCH, SIZE, START, VECTORS, WAITING, Decoder, Record, answer, crc, disagreements, listed, ran, tidy, told, unpack, written
 
 SEED, GATE, ALL, BATCH = 20250815, 800, 100000, 10000
+DECODERS, MEMORY, OPERATIONS = 1000, 24, 60000  # in one array, each with so many bytes of memory
 MORE_JUDGED = 10  # byte strings that the reading alone judges, for each that the program does
 TOP, WIDE = 2**32 - 1, 2**33  # raw length and noise have 32 bits; fill, CRC index and capacity more, and nothing is left of WIDE in the low 32
 ESC = b"\x1b" * 4
 SAID = re.compile(r"kind=(\d+) n=(\d+) way=(\d+) crc=([0-9a-f]{4}) fill=(\d+) idx=(\d+) raw=(\d+) noise=(\d+) cap=(\d+)")
 SYMBOLS = b"\x1b\x1b\x01\x00\x1a\x02" * 256 + bytes(range(256))
-faults, kinds, states, commands, judged = [], collections.Counter(), collections.Counter(), 0, 0
+faults, kinds, states, turns, commands, judged = [], collections.Counter(), collections.Counter(), collections.Counter(), 0, 0
 
 
 def held(what, command, said, wanted):
@@ -215,38 +218,40 @@ def round_of(r, n, first):
         both_ways(string(r[4]))
 
 
-def thousand():
-    """What the program thousand prints: its own recording, its generator and its order of operations, with decoders of the reading; the last number is the sum of their packings."""
-    source = open("crates/thousand/src/main.rt", encoding="utf-8").read()
-    recording = bytes.fromhex("".join(re.findall(r"\\x([0-9a-f]{2})", source.split("fn main()")[1])))
-    capacity, count, operations = (int(re.search(rf"const {name}: \w+ = (\d+);", source).group(1)) for name in ("CAPACITY", "DECODERS", "OPERATIONS"))
-    decoders, places = [Decoder(capacity, 1 + i % 2) for i in range(count)], [i * 7 % len(recording) for i in range(count)]
-    number, events = 1, collections.Counter()
-    for _ in range(operations):
-        number = number * 48271 % 2147483647
-        i, which = number % count, number // 1000 % 256
-        d, chunk = decoders[i], recording[places[i] : places[i] + number // 256000 % 16 + 1]
+def thousand(r):
+    """Each decoder meets pieces of its own; whose turn it is, and whether it takes a byte or a slice, is drawn. Of a slice that an event cuts short the rest comes later."""
+    decoders, left, lines, wanted = [Decoder(MEMORY, 1 + i % 2) for i in range(DECODERS)], [[] for _ in range(DECODERS)], [], []
+    for _ in range(OPERATIONS):
+        i = r.randrange(DECODERS)
+        d, ops = decoders[i], left[i]
+        while not ops:
+            ops = list(piece(r, MEMORY))
+        n = next((k for k, op in enumerate(ops) if op in ("f", "r")), len(ops))
         event, taken = None, 0
-        if which == 0:
-            event = d.finalize()
-        elif which == 1:
-            d.reset()
+        if n == 0:
+            event = d.finalize() if ops[0] == "f" else d.reset()
+            lines.append(f"{i} {ops.pop(0)}")
         else:
-            for b in chunk if which <= 33 else chunk[:1]:
-                event, taken = d.push(b), taken + 1
-                if event:
-                    break
-        places[i] = (places[i] + taken) % len(recording)
-        events[(event or "nothing").split(" ")[0]] += 1
-    told = [("payloads", "payload"), ("out of memory", "memory"), ("discarded", "discarded"), ("invalid escapes", "escape"), ("invalid messages", "invalid")]
-    line = f"operations {operations}, " + ", ".join(f"{words} {events[word]}" for words, word in told) + f", sum of the bytes {sum(sum(written(d.record())) for d in decoders)}\n"
-    held("the program thousand", "crates/thousand/stdout", open("crates/thousand/stdout").read(), line)
+            chunk = bytes(ops[: r.choice((1, r.randint(1, min(n, 16))))])
+            lines.append(f"{i} {'b' if len(chunk) == 1 and r.random() < 0.8 else 's'} {chunk.hex()}")
+            while taken < len(chunk) and not event:
+                event, taken = d.push(chunk[taken]), taken + 1
+        left[i] = ops[taken:]
+        wanted.append(f"{event or '-'} {taken} {written(d.record()).hex()}")
+        turns[(event or "nothing").split(" ")[0]] += 1
+    with tempfile.TemporaryDirectory() as folder:
+        program = clink.built("tests/library.c", os.path.join(folder, "library"))
+        run = subprocess.run([*program, "thousand"], input="".join(line + "\n" for line in lines), capture_output=True, text=True)
+    said = run.stdout.split("\n")[:-1]
+    held("a thousand decoders", "the status and how many answers", (run.returncode, len(said)), (0, len(lines)))
+    for line, one, want in zip(lines, said, wanted):
+        held("a thousand decoders", line, one, want)
 
 
 words = sys.argv[1:]
 left = rounds = GATE if not words else ALL if words == ["--all"] else int(words[0])
 faults += disagreements()[0]
-thousand()
+thousand(random.Random(SEED))
 draws, first = [random.Random(SEED + k) for k in range(5)], VECTORS + MORE
 while left > 0:
     round_of(draws, min(left, BATCH), first)
@@ -258,9 +263,10 @@ if rounds >= GATE:
     faults += [f"no history ends in kind {kind}, small count {n}, way {way}" for kind, n in wanted for way in (1, 2) if not states[kind, n, way]]
     wanted = [("packed", "done"), ("packed", "refused 4"), ("packed", "refused 5"), ("unpack", "done"), ("unpack", "refused 4"), ("pack", "done"), ("pack", "refused 4"), ("pack", "refused 5"), ("pack", "refused 18")]
     faults += [f"no {command} is answered {what}" for command, what in wanted if not kinds[command, what]]
+    faults += [f"none of a thousand decoders says {what}" for what in ("payload", "discarded", "escape", "memory", "invalid", "reset", "nothing") if turns[what] < 100]
 for fault in sorted(faults, key=len)[:5]:
     print(fault)
 if faults:
     sys.exit(f"{len(faults)} faults")
 refused = sum(n for (_, what), n in kinds.items() if what.startswith("refused"))
-print(f"packed: {len(VECTORS)} vectors of the request and {len(MORE)} more, {commands:,} commands, {refused:,} of them refused, as the second reading says; {judged:,} byte strings judged in two ways; {len(states)} kinds, small counts and ways at the end of {rounds:,} histories")
+print(f"packed: {len(VECTORS)} vectors of the request and {len(MORE)} more, {commands:,} commands, {refused:,} of them refused, as the second reading says; {judged:,} byte strings judged in two ways; {len(states)} kinds, small counts and ways at the end of {rounds:,} histories; a thousand decoders in one array, {OPERATIONS:,} operations, {turns['payload']:,} payloads")

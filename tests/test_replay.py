@@ -1,10 +1,10 @@
-"""bin/replay, and what else stands in bin/: the examples of docs/REPLAY.md, a mixed batch in its order, what is no command, no input, a live pipe, pipes at once, a long batch, files, options, and the stored vectors; and that the two programs behind it share one line.rt."""
+"""bin/replay, and what else stands in bin/: the examples of docs/REPLAY.md, a mixed batch in its order, what is no command, no input, a live pipe, pipes at once, a long batch, files, options, and the stored vectors."""
 import os, random, re, select, subprocess, sys
 
 sys.dont_write_bytecode = True
 os.chdir(os.path.join(os.path.dirname(os.path.abspath(__file__)), ".."))
 sys.path.append("scripts")
-from programs import COMMANDS, LIBRARY
+from programs import COMMANDS, LIBRARY, VECTORS
 
 faults, count = [], 0
 
@@ -47,23 +47,18 @@ examples = re.findall(r"^    > (.*)\n    (.*)$", page, re.M)
 said = answers("".join(c + "\n" for c, _ in examples).encode()).decode().split("\n")
 for (command, answer), line in zip(examples, said + [""] * len(examples)):
     same(f"docs/REPLAY.md: {command}", line, answer)
-told = dict(re.findall(r"^\| `(replay_\w+)` \| (.*) \|$", page, re.M))
-same("the programs of the page", {p: re.findall(r"`(\w+)`", c) for p, c in told.items()}, COMMANDS)
-for p, commands in COMMANDS.items():
-    table = re.search(r'match find\(\s*b"([\w,]+)"', open(f"crates/{p}/src/main.rt").read()).group(1)
-    same(f"the table of {p}", sorted(table.split(",")), sorted(commands))
-    for c in commands:
-        same(f"an example of {c}", any(e.startswith(c + " ") for e, _ in examples), True)
-same("the library's commands on the page", re.findall(r"`(\w+)`", re.search(r"^The commands (.*?) run over the library", page, re.M).group(1)), LIBRARY)
-same("the table of replay.c", re.findall(r'^    \{"(\w+)", takes_', open("replay/replay.c").read(), re.M), LIBRARY)
-for c in LIBRARY:
-    same(f"{c}, which a program in Rattle knows too", c in sum(COMMANDS.values(), []), True)
-same("line.rt stands twice", open("crates/replay_wire/src/line.rt").read(), open("crates/replay_messages/src/line.rt").read())
+told = dict(re.findall(r"^\| `((?:replay|crates)/\w+).*\| (.*) \|$", page, re.M))
+same("who answers, on the page", {folder: re.findall(r"`(\w+)`", c) for folder, c in told.items()}, {"replay/replay": COMMANDS[LIBRARY], "crates/replay_parts": COMMANDS["replay_parts"]})
+tables = {LIBRARY: re.findall(r'^    \{"(\w+)", takes_', open("replay/replay.c").read(), re.M)}
+tables["replay_parts"] = re.search(r'match find\(\s*b"([\w,]+)"', open("crates/replay_parts/src/main.rt").read()).group(1).split(",")
+same("the tables of commands", tables, COMMANDS)
+for c in sum(COMMANDS.values(), []):
+    same(f"an example of {c}", any(e.startswith(c + " ") for e, _ in examples), True)
 
-# the vectors of both programs, mixed: every answer as stored, in the order of the commands
+# both lists of vectors, mixed: every answer as stored, in the order of the commands
 pairs = []
-for p in COMMANDS:
-    given, stored = (open(f"crates/{p}/{f}", "rb").read().split(b"\n") for f in ("stdin", "stdout"))
+for folder in VECTORS.values():
+    given, stored = (open(f"{folder}/{f}", "rb").read().split(b"\n") for f in ("stdin", "stdout"))
     pairs += zip(given, stored)
 random.Random(20250711).shuffle(pairs)
 said = answers(b"\n".join(c for c, _ in pairs)).split(b"\n")

@@ -1,23 +1,24 @@
-"""smlcat and the programs behind bin/replay, that over the library among them, on bytes that nobody meant: random, cut, empty, a megabyte without a line end, lines of the longest length and one more. None may stop early, and each must say what the rules give.
+"""smlcat and both programs behind bin/replay on bytes that nobody meant: random, cut, empty, a megabyte without a line end, lines of the longest length and one more. None may stop early, and each must say what the rules give.
 
-smlcat, and the pushes of replay_wire and of the library, are held to tests/push_rules.py; what is no command, or none of that program, must be answered `bad command`, and nothing else.
+smlcat, and the pushes of the library, are held to tests/push_rules.py, `packed`, `unpack` and `pack` to tests/packed_reading.py, `tlf` to oracle/places.py; what is no command, or none of that program, must be answered `bad command`, and nothing else.
 """
 import functools, os, random, re, subprocess, sys
 
 sys.dont_write_bytecode = True
 os.chdir(os.path.join(os.path.dirname(os.path.abspath(__file__)), ".."))
 sys.path += ["oracle", "scripts"]
-import clink, push_rules
+import clink, packed_reading, push_rules
 from generate import commands, damaged, payload, piece
-from sml import COMMANDS, KINDS, START, crc, frame, hexed, program
+from sml import KINDS, START, crc, frame, hexed, program
 from messages import KINDS as MORE
-from programs import LIBRARY
+from places import length_field
+from programs import COMMANDS, LIBRARY
 
 SEED = 20250711
-if subprocess.run(["rt", "check", "smlcat", *COMMANDS], capture_output=True).returncode != 0:
-    sys.exit("test_robust: smlcat or a program of bin/replay is not proved")
+if subprocess.run(["rt", "check", "smlcat", "replay_parts"], capture_output=True).returncode != 0:
+    sys.exit("test_robust: smlcat or replay_parts is not proved")
 faults, count = [], 0
-RUN = {"bin/replay": ["bin/replay"], "replay.c": clink.replay()}
+RUN = {"bin/replay": ["bin/replay"], LIBRARY: clink.replay()}
 
 
 def run(name, given, *words):
@@ -61,12 +62,20 @@ for k, data in enumerate(captures(r)):
 # ---- replay: what is a command, by the table of commands
 
 HEX = r"(?:-|(?:[0-9a-f]{2})+)"
-COMMAND = re.compile(r"(?:encode|stream|crc|events|places) %s|encode_cap \d+ %s|leaf (?:%s) %s|push2? \d+ (?:f|r|b%s|z\d+:[0-9a-f]{2})(?:,(?:f|r|b%s|z\d+:[0-9a-f]{2}))*" % (HEX, HEX, "|".join(KINDS + MORE), HEX, HEX, HEX), re.A)
+OPS = r"(?:f|r|b%s|z\d+:[0-9a-f]{2})" % HEX
+OPS = f"{OPS}(?:,{OPS})*"
+PACK = r"\d+ (\d+) (\d+) [0-9a-f]{4} (\d+) (\d+) (\d+) (\d+) (\d+)"
+COMMAND = re.compile(rf"(?:encode|stream|crc|events|places|tlf|unpack) {HEX}|encode_cap \d+ {HEX}|leaf (?:{'|'.join(KINDS + MORE)}) {HEX}|push2? \d+ {OPS}|packed \d+ \d+ (?:-|{OPS})|pack {PACK} {HEX}", re.A)
+# the largest n, way, fill, CRC index, raw length, noise and capacity of `pack`; its kind is judged by the reading
+LIMITS = 255, 255, 2**53, 2**53, 2**32 - 1, 2**32 - 1, 2**53
 
 
 def is_command(line):
-    numbers = [int(n) for n in re.findall(r"^(?:encode_cap|push2?) (\d+)", line)], [int(n) for n in re.findall(r"[ ,]z(\d+):", line)]
-    return len(line) <= 70000 and bool(COMMAND.fullmatch(line)) and all(n <= 1048577 for n in numbers[0]) and all(n <= 1048576 for n in numbers[1])
+    if len(line) > 70000 or not COMMAND.fullmatch(line):
+        return False
+    limits = [*zip(re.findall(r"^(?:encode_cap|push2?|packed \d+) (\d+)", line), [1048577]), *((n, 1048576) for n in re.findall(r"[ ,]z(\d+):", line)), *zip(re.findall(r"^packed (\d+)", line), [255])]
+    limits += zip(re.match(rf"pack {PACK}", line).groups(), LIMITS) if line.startswith("pack ") else []
+    return all(int(n) <= limit for n, limit in limits)
 
 
 def unhex(h):
@@ -88,6 +97,10 @@ def wanted(line):
     if words[0] == "encode_cap":
         f = frame(unhex(words[2]))
         return f.hex() if len(f) <= int(words[1]) else "memory"
+    if words[0] == "tlf":
+        return length_field(unhex(words[1]))
+    if words[0] in ("packed", "unpack", "pack"):
+        return packed_reading.answer(line)
     if words[0] in ("push", "push2"):
         ops = [o if o in "fr" else unhex(o[1:]) if o[0] == "b" else bytes([int(o[-2:], 16)]) * int(o[1:-3]) for o in words[2].split(",")]
         return push_rules.answer(int(words[1]), ops, 2 if words[0] == "push2" else 1)
@@ -113,11 +126,13 @@ def held(name, known, what, given):
 def replayed(what, given):
     for name, known in COMMANDS.items():
         held(name, known, what, given)
-    held("replay.c", LIBRARY, what, given)
     held("bin/replay", sum(COMMANDS.values(), []), what, given)
 
 
 cut = [c[: r.randrange(len(c) + 1)] for c in list(commands(SEED, 1000)) + list(commands(SEED, 300, "messages"))]
+parts = [line for line in open("crates/replay_parts/stdin", encoding="utf-8").read().split("\n") if line.startswith(("tlf ", "unpack ", "pack "))]
+cut_parts = [c[: r.randrange(len(c) + 1)] for c in r.choices(parts, k=400)]
+bent = [c[:k] + r.choice("0189abf -") + c[k + r.randrange(2) :] for c in r.choices(parts, k=1500) for k in [r.randrange(len(c))]]
 replayed("nothing", b"")
 replayed("line ends", b"\n\n\r\n\n")
 replayed("random bytes", r.randbytes(200000))
@@ -125,10 +140,12 @@ replayed("random letters", bytes(r.choice(b"push 8bfrz0123456789abcdef,:-\n") fo
 replayed("no line end", bytes(r.choice(b"0123456789abcdef") for _ in range(1 << 20)))
 replayed("no line end, a command's beginning", b"push 4096 b" + b"1b" * (1 << 19))
 replayed("cut commands", "\n".join(cut).encode("latin-1"))
+replayed("cut length fields and records", "\n".join(cut_parts).encode())
+replayed("bent length fields and records", "\n".join(bent).encode())
 replayed("commands", "\n".join(commands(SEED + 1, 400)).encode("latin-1"))
 replayed("commands, the second way", "\n".join(c.replace("push ", "push2 ") for c in commands(SEED + 1, 400)).encode("latin-1"))
 for n in (69998, 70000, 70001, 70002, 140000):
-    for head in ("crc ", "encode ", "stream ", "push 4096 b", "push 12 f,b", "push2 12 f,b", "events ", "leaf oct "):
+    for head in ("crc ", "encode ", "stream ", "push 4096 b", "push 12 f,b", "push2 12 f,b", "packed 2 8 b", "events ", "leaf oct ", "tlf ", "unpack ", "pack 1 0 1 ffff 0 0 8 0 8 "):
         replayed(f"a line of {n}", (head + ("1b0042ff" * 40000)[: n - len(head)] + "\ncrc 31").encode())
 print("\n".join(faults[:20]))
 print(f"{count} answers held, {len(faults)} faults")
