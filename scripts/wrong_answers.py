@@ -101,7 +101,10 @@ def ours(told):
             part = [c for c in asked if not alone or input_of(c) == given]
             path = built(name)
             if path:
-                wrote = subprocess.run(programs.program(path), input=given, capture_output=True).stdout.decode()
+                run = subprocess.run(programs.program(path), input=given, capture_output=True)
+                wrote = run.stdout.decode()
+                if run.returncode != 0 or not alone and wrote.count("\n") != len(part):
+                    raise ValueError(f"{os.path.basename(path)}: status {run.returncode}, {wrote.count(chr(10))} lines")
             else:
                 wrote = as_it_stands(name, given, wanted(part[0], told[part[0]]) if alone else "".join(wanted(c, told[c]) for c in part))
             lines = [wrote] * len(part) if alone else [line + "\n" for line in wrote.split("\n")]
@@ -180,7 +183,10 @@ def tried(copy, name, given, want):
 
 def differing(run, want):
     """what a run wrote, and whether more follows"""
-    at, found, cut = re.search(r"at byte (\d+), expected .*, found (\"(?:[^\"\\]|\\.)*\")( \(200 of )?", run).groups()
+    said = re.search(r"at byte (\d+), expected .*, found (\"(?:[^\"\\]|\\.)*\")( \(200 of )?", run)
+    if not said:
+        raise ValueError("rt try doesn't say what differs: " + run[:500])
+    at, found, cut = said.groups()
     return want.encode()[: int(at)].decode() + ast.literal_eval(found), cut is not None
 
 

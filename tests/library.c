@@ -1,5 +1,5 @@
 /* The library from C: `library calls` makes every call with good and bad input and looks at all that it was lent; `library answers` answers commands, a line each, which
-   tests/test_library.py holds to its own readings; `library thousand` keeps a thousand decoders in one array, which tests/test_packed.py does. */
+   tests/test_library.py holds to its own readings; `library thousand` keeps a thousand decoders in one array, whose answers tests/test_packed.py holds to its reading. */
 #include <inttypes.h>
 #include <stdbool.h>
 #include <stdio.h>
@@ -682,7 +682,7 @@ static uint8_t memories[DECODERS][MEMORY];
 /* What is said, how many bytes were taken, and the decoder's own bytes. */
 static void operate(sgh_decoder *d, uint8_t *buf, char kind, size_t len)
 {
-    uint64_t v[SGH_VALUES];
+    uint64_t v[SGH_VALUES] = {0};
     size_t taken = kind == 'b';
     uint32_t answer = kind == 'f'   ? sgh_finalize(d, v)
                       : kind == 'r' ? sgh_reset(d, v)
@@ -693,6 +693,8 @@ static void operate(sgh_decoder *d, uint8_t *buf, char kind, size_t len)
         printf("reset %" PRIu64, v[0]);
     else if (answer == SGH_GOOD)
         putchar('-');
+    else if (answer == SGH_PAYLOAD && v[0] > MEMORY)
+        printf("payload of %" PRIu64, v[0]);
     else
         put_answer(answer, buf, v);
     printf(" %zu ", taken);
@@ -711,7 +713,8 @@ static int thousand(void)
     while (fgets(line, sizeof line, stdin) != NULL) {
         char *at;
         unsigned long i = strtoul(line, &at, 10);
-        if (i >= DECODERS)
+        bool known = at[0] == ' ' && (at[1] == 'b' || at[1] == 's' || at[1] == 'f' || at[1] == 'r');
+        if (i >= DECODERS || !known || line[strlen(line) - 1] != '\n')
             return 1;
         operate(&decoders[i], memories[i], at[1], unhex(at + 3));
     }

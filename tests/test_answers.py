@@ -36,9 +36,9 @@ bad += [f"{name}: both answers are the same" for name, (_, ours, theirs) in line
 asked = {name: line for name, line in lines.items() if wrong_answers.program_of(line[0])}
 programs.build(["replay_parts", "smlcat"], 300)
 clink.replay()
-answers = wrong_answers.ours({command: ours for command, ours, _ in asked.values()})
+answers = tried(wrong_answers.ours, {command: ours for command, ours, _ in asked.values()})
 for name, (command, ours, _) in asked.items():
-    held(f"{name}, our code, {command}", answers[command], ours)
+    held(f"{name}, our code, {command}", answers[command] if isinstance(answers, dict) else answers, ours)
 runs = [name for name in lines if wrong_answers.can_run(name)]
 chosen = runs if sys.argv[1:] == ["--all"] else [name for name in runs if name in SAMPLE]
 with ThreadPoolExecutor(int(os.environ.get("RT_JOBS") or min(4, os.cpu_count() or 1))) as pool:

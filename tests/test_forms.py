@@ -11,11 +11,11 @@ from programs import LIBRARY, VECTORS
 
 # Of the commands that say the same kinds of things so many short ones are asked in the gate. A run has ten seconds and may write a megabyte, so that a batch has few lines and little to write.
 SHORT, EACH, LINES, ROOM, LONGEST = 500, 3, 2000, 1 << 18, 70000
-SAID = re.compile(r"bad command|wrong buffer|refused \d+|payload|discarded|escape|memory|invalid \w+ \w+ \w+|reset|err \w+|none|(?:open|close|list) tid|entry name|end sig")
+SAID = re.compile(r"bad command|wrong buffer|refused \d+|payload|discarded|escape|memory|invalid \S+ \S+ \w+|reset|err \w+|none|(?:open|close|list) tid|entry name|end sig")
 # what must be among the answers of the commands that have more than one form
-PUSHED = ["payload", "discarded", "escape", "memory", "aligned", "misaligned", "reset"]
+PUSHED = ["payload", "discarded", "escape", "memory", " aligned ", " misaligned ", "reset"]
 READ = ["open tid", "close tid", "list tid", "entry name", "end sig", "none", "err UnexpectedEOF", "err InvalidTlf", "err TlfMismatch", "err UnexpectedVariant", "err CrcMismatch", "err MsgEndMismatch"]
-MUST = {"push": PUSHED, "push2": PUSHED[:3], "packed": ["refused 4", "refused 5", " / "], "stream": ["none"], "events": READ, "places": READ}
+MUST = {"push": PUSHED, "push2": [*PUSHED[:4], "reset"], "packed": [*PUSHED, "refused 4", "refused 5"], "stream": ["none"], "events": READ, "places": READ}
 # the words before a command; without one it is asked by value, and `packed` over the packed form
 PUSHES, TWO = ["", "lent ", "slice ", "slice_lent "], ["", "lent "]
 FORMS = {"push": PUSHES, "push2": PUSHES, "packed": ["value ", *PUSHES], "stream": TWO, "events": TWO, "places": TWO}
@@ -39,12 +39,17 @@ def batches(pairs):
 
 
 def held(what, copy, pairs):
-    """Three compiled runs must answer as stored. The interpreter has ten million steps: what it has written by then must be the beginning of it."""
-    given, want = "\n".join(c for c, _ in pairs), "".join(a + "\n" for _, a in pairs)
+    """Three compiled runs must answer as stored; where one runs out of time, each half of the commands must. The interpreter has ten million steps: what it has written by then must be the beginning of it. Gives how many answers that were."""
+    given, want = "".join(c + "\n" for c, _ in pairs), "".join(a + "\n" for _, a in pairs)
     four = wrong_answers.runs(copy, wrong_answers.FORMS, given.encode(), want)
-    if four[0].startswith("FAIL") and not ("did not finish within" in four[0] and want.startswith(wrong_answers.differing(four[0], want)[0])):
-        bad.append(f"{what}: {four[0][:1500]}")
+    if len(pairs) > 1 and any("did not end within the time limit" in run for run in four[1:]):
+        half = len(pairs) // 2
+        return held(what, copy, pairs[:half]) + held(what, copy, pairs[half:])
     bad.extend(f"{what}: {run[:1500]}" for run in four[1:] if not run.startswith("ok: "))
+    wrote = want if four[0].startswith("ok: ") else wrong_answers.differing(four[0], want)[0]
+    if not want.startswith(wrote) or wrote != want and "did not finish within" not in four[0]:
+        bad.append(f"{what}: {four[0][:1500]}")
+    return wrote.count("\n")
 
 
 def sample(pairs):
@@ -54,22 +59,25 @@ def sample(pairs):
         if max(len(command), len(answer)) <= SHORT:
             said = SAID.findall(re.sub(r"(invalid) \w+ \w+", r"\1 - -", answer))
             kinds.setdefault((command.split(" ")[0], *dict.fromkeys(said)), []).append((command, answer))
-    return [some[len(some) * k // EACH] for some in kinds.values() for k in range(EACH) if len(some) * k // EACH != len(some) * (k - 1) // EACH or k == 0]
+    return [some[len(some) * k // EACH] for some in kinds.values() for k in range(EACH) if len(some) * k // EACH != len(some) * (k - 1) // EACH]
 
 
 given, stored = (open(os.path.join(VECTORS[LIBRARY], f), encoding="utf-8", newline="").read().split("\n") for f in ("stdin", "stdout"))
 pairs = list(zip(given, stored))
-chosen = asked(pairs if sys.argv[1:] == ["--all"] else sample(pairs))
+if sys.argv[1:] not in ([], ["--all"]):
+    sys.exit("test_forms [--all]")
+chosen = asked(pairs if sys.argv[1:] else sample(pairs))
 with tempfile.TemporaryDirectory() as tmp:
     wrong_answers.copied(tmp)
     layout = subprocess.run(["rt", "fmt", "--check"], cwd=tmp, capture_output=True, text=True)
     if layout.returncode != 0:
         bad.append("not in the layout of rt fmt, of crates and tests/forms: " + layout.stdout[-500:])
-    for k, part in enumerate(batches([*chosen, ("limits", wrong_answers.limits()[:-1])])):
-        held(f"batch {k}", tmp, part)
+    interpreted = sum(held(f"batch {k}", tmp, part) for k, part in enumerate(batches([*chosen, ("limits", wrong_answers.limits()[:-1])])))
+if interpreted < 50:
+    bad.append(f"the interpreter gave {interpreted} answers")
 answers = {form + word: [a for c, a in chosen if c.startswith(form + word + " ")] for word in FORMS for form in FORMS[word]}
 bad += [f"{words}: no answer has {what}" for words, some in answers.items() for what in MUST[words.split(" ")[-1]] if not any(what in a for a in some)]
 counts = {word: sum(len(answers[form + word]) for form in FORMS[word]) for word in FORMS}
 print("\n".join(bad))
-print(f"{len(chosen)} answers in {time.time() - began:.0f} s ({', '.join(f'{n} {word}' for word, n in counts.items())}), and those of limits; {len(bad)} faults")
+print(f"{len(chosen)} answers in {time.time() - began:.0f} s ({', '.join(f'{n} {word}' for word, n in counts.items())}), and those of limits; the first {interpreted} on the interpreter too; {len(bad)} faults")
 sys.exit(1 if bad else 0)

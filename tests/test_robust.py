@@ -23,7 +23,9 @@ RUN = {"bin/replay": ["bin/replay"], LIBRARY: clink.replay()}
 
 def run(name, given, *words):
     ran = subprocess.run([*(RUN.get(name) or program(name)), *words], input=given, capture_output=True)
-    if ran.returncode != 0 or ran.stderr:
+    # a command of bin/ may say that it waits or proves, on a slow machine
+    said = [line for line in ran.stderr.splitlines() if not line.startswith((b"waiting for another command of bin/", b"proving "))]
+    if ran.returncode != 0 or said:
         faults.append(f"{name}: status {ran.returncode} on {len(given)} bytes, {given[:40]!r}")
     return ran.stdout.decode("latin-1")
 
@@ -144,7 +146,7 @@ replayed("cut length fields and records", "\n".join(cut_parts).encode())
 replayed("bent length fields and records", "\n".join(bent).encode())
 replayed("commands", "\n".join(commands(SEED + 1, 400)).encode("latin-1"))
 replayed("commands, the second way", "\n".join(c.replace("push ", "push2 ") for c in commands(SEED + 1, 400)).encode("latin-1"))
-for n in (69998, 70000, 70001, 70002, 140000):
+for n in (69998, 69999, 70000, 70001, 70002, 140000):
     for head in ("crc ", "encode ", "stream ", "push 4096 b", "push 12 f,b", "push2 12 f,b", "packed 2 8 b", "events ", "leaf oct ", "tlf ", "unpack ", "pack 1 0 1 ffff 0 0 8 0 8 "):
         replayed(f"a line of {n}", (head + ("1b0042ff" * 40000)[: n - len(head)] + "\ncrc 31").encode())
 print("\n".join(faults[:20]))
