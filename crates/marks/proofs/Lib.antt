@@ -15,8 +15,13 @@ pub mod Packed
 pub mod Bench
 pub mod Encoders
 pub mod Events
+pub mod HeardAnswer
+pub mod HeardEvent
+pub mod Library
+pub mod LibraryMarks
 pub mod Decided
 pub mod Fakes
 pub mod FakeHosts
+pub mod FakeLibraries
 pub mod Marks
 pub mod Wrong

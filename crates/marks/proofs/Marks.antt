@@ -13,6 +13,9 @@ use Rattle.marks.proofs.Ways.{keeps-way, refuses-unknown, unknown-asked
 use Rattle.marks.proofs.Packed.{round-trips, exactly, packs-what-pushes, packs-in-order, acts-alike, slices-alike, hands-out-alike, serves, leaves-refused, leaves-tidy, answers-alike}
 use Rattle.marks.proofs.Encoders.{same-bytes}
 use Rattle.marks.proofs.FakeHosts.{fall-hosts}
+use Rattle.marks.proofs.Library.{hears-ours, library-gives}
+use Rattle.marks.proofs.LibraryMarks.{marks-by}
+use Rattle.marks.proofs.FakeLibraries.{fall-libraries}
 use Rattle.marks.proofs.Recovery.{mark3}
 use Rattle.marks.proofs.Events.{reader-gives, parser-gives, reader-goes-on, parser-goes-on, reader-lists, parser-lists, reader-says-where, parser-says-where, reader-call-says-where, parser-call-says-where, reader-ten-again, parser-ten-again}
 use Rattle.marks.proofs.Bench.{bench, bench-second}
@@ -56,6 +59,9 @@ marks =
       parser-goes-on = parser-goes-on;
       reader-lists = reader-lists;
       parser-lists = parser-lists;
+      library-hears = hears-ours;
+      library-gives = library-gives;
+      library-marks = marks-by;
       overflows = overflows;
       readers = readers;
       reader-says-where = reader-says-where;
@@ -70,4 +76,5 @@ marks =
       not-ours = not-ours;
       fall = fall;
       fall-hosts = fall-hosts;
+      fall-libraries = fall-libraries;
     }

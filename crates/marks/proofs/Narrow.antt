@@ -26,7 +26,7 @@ use Rattle.marks.specs.Packed.{AreBytes}
 
 -- ---- lists of bytes
 
-bytes-join : (a b : List ℕ) → AllBytes a → AllBytes b → AllBytes (a ++ b)
+pub bytes-join : (a b : List ℕ) → AllBytes a → AllBytes b → AllBytes (a ++ b)
 bytes-join [] b h k = k
 bytes-join (x ∷ a) b h k = (h .0, bytes-join a b (h .1) k)
 
@@ -40,11 +40,14 @@ bytes-drop zero l h = h
 bytes-drop (suc n) [] h = tt
 bytes-drop (suc n) (x ∷ l) h = bytes-drop n l (h .1)
 
-bytes-run : (n : ℕ) → AllBytes (replicate n 0x1b)
+pub bytes-run : (n : ℕ) → AllBytes (replicate n 0x1b)
 bytes-run zero = tt
 bytes-run (suc n) = (omega arith, bytes-run n)
 
-bytes-at : (l : List ℕ) → AllBytes l → (i : ℕ) → getD l i 0 < 256
+pub start-bytes : AllBytes startSeq
+start-bytes = bytes-join escSeq restartSeq (bytes-run 4) (omega arith, (omega arith, (omega arith, (omega arith, tt))))
+
+pub bytes-at : (l : List ℕ) → AllBytes l → (i : ℕ) → getD l i 0 < 256
 bytes-at [] h i = omega arith
 bytes-at (x ∷ l) h zero = h .0
 bytes-at (x ∷ l) h (suc i) = bytes-at l (h .1) i
@@ -53,7 +56,7 @@ pub bytes-all : (l : List ℕ) → AreBytes l → AllBytes l
 bytes-all [] h = tt
 bytes-all (x ∷ l) h = (h 0, bytes-all l (λ i. h (suc i)))
 
-register-narrow : (r : ℕ) (l : List ℕ) → r < 65536 → AllBytes l → register r l < 65536
+pub register-narrow : (r : ℕ) (l : List ℕ) → r < 65536 → AllBytes l → register r l < 65536
 register-narrow r l h k = register-fits r l h (bytes-at l k)
 
 -- ---- the state of the push rules
@@ -72,7 +75,7 @@ noise-narrow noise n k h = cases (eqb k (suc n)) (λ t. rw t h) (λ t. rw t (ome
 
 begun-narrow : NarrowIn begun
 unfolding NarrowIn NarrowMem
-begun-narrow = (register-narrow start startSeq (omega arith) (bytes-join escSeq restartSeq (bytes-run 4) (omega arith, (omega arith, (omega arith, (omega arith, tt))))), omega arith, tt)
+begun-narrow = (register-narrow start startSeq (omega arith) start-bytes, omega arith, tt)
 
 fresh-narrow : NarrowIn fresh
 unfolding NarrowIn

@@ -12,7 +12,7 @@ use Rattle.frame.specs.Frame.{same}
 use Rattle.decoder.specs.Push as P
 use Rattle.decoder.specs.Push.{step}
 use Rattle.decoder.specs.Record.{DecoderAnswer, nothing, payload, count, refusal, after, numbered, setup, stateOf, badDecoder, wrongBuffer, recordOf, pushed, newRecord, pushRecord, finalizeRecord, resetRecord, payloadRecord, askRecord}
-use Rattle.decoder.specs.Run.{Op, push, finalize, reset}
+use Rattle.decoder.specs.Run.{KnownWay, Op, push, finalize, reset}
 use Rattle.decoder.specs.Run as R
 use Rattle.decoder.specs.declared.Decoder.{Decoder}
 use Rattle.decoder.specs.declared.Setup.{Setup}
@@ -29,7 +29,7 @@ use Rattle.packed.proofs.RoundTrip as T
 use Rattle.packed.proofs.RoundTrip.{tidy-is, packed-over, packed-room, packed-long, packed-rest, packed-first, comes-back, tidy-push, tidy-finalize, tidy-reset, tidy-payload, tidy-slice}
 use Rattle.marks.specs.Decoders.{ours, answers, LeftBehind, leftBehind}
 use Rattle.marks.specs.Mark2.{PushesBytes}
-use Rattle.marks.specs.Packed.{asItWas, actOver, ourHost, RoundTrip, Exactly, PacksWhatPushes, PacksInOrder, ActsAlike, SlicesAlike, HandsAlike, Serves, LeavesRefused, LeavesTidy, keptBy, AnswersAlike}
+use Rattle.marks.specs.Packed.{AreBytes, asItWas, actOver, ourHost, RoundTrip, Exactly, PacksWhatPushes, PacksInOrder, ActsAlike, SlicesAlike, HandsAlike, Serves, LeavesRefused, LeavesTidy, keptBy, AnswersAlike}
 use Rattle.marks.proofs.Narrow.{bytes-all, new-narrow, Tame, act-tame}
 
 -- ---- packing and unpacking
@@ -312,17 +312,37 @@ left-alike (o ∷ os) d b m k n h p =
     let s = step-kept d b m o os k n h p in
     rw (s .memories′) (left-alike os (R.act d m o .decoder) (actOver b m o .decoder) (R.act d m o .memory) (s .keeps′) (s .tame .decoder) (s .tame .memory) (s .more))
 
-pub answers-alike : AnswersAlike ourHost
+-- a new decoder's bytes, whatever stood there before, behind operations: what they answer, and what is left
+pub record KeptAlike (C : Setup) (b m : List ℕ) (os : List Op) : Type 0 where
+  pub says : answers (keptBy ourHost) b m os ≡ answers ours (newRecord C) m os
+  pub memory′ : leftBehind (keptBy ourHost) b m os .memory ≡ leftBehind ours (newRecord C) m os .memory
+  pub narrow′ : Narrow (leftBehind ours (newRecord C) m os .decoder)
+  pub packs′ : packInto (leftBehind ours (newRecord C) m os .decoder) (leftBehind (keptBy ourHost) b m os .decoder) ≡ answering nothing (leftBehind (keptBy ourHost) b m os .decoder)
+
+pub new-alike : (C : Setup) (l m : List ℕ) (os : List Op) → KnownWay (C .way) → C .capacity ≤ limit → 28 ≤ length l → AreBytes m → PushesBytes os → KeptAlike C (packInto (newRecord C) l .output) m os
 unfolding Keeps
-answers-alike C m os w small h p =
+new-alike C l m os w small room h p =
     let good = reached-good C (newRecord C) (known-is (C .way) w) byNew .0 in
-    let f = pack-good (newRecord C) (replicate 28 0) good small (omega arith) in
-    let b = packInto (newRecord C) (replicate 28 0) .output in
-    let k : Keeps (newRecord C) b = keeps-on (newRecord C) (replicate 28 0) b (f ∙ ap (λ (x : Filled). answering nothing (x .output)) (sym f)) in
-    let l = left-alike os (newRecord C) b m k (new-narrow C) (bytes-all m h) p in
-    let y = hands-out-alike (leftBehind ours (newRecord C) m os .decoder) (leftBehind (keptBy ourHost) b m os .decoder) (leftBehind (keptBy ourHost) b m os .memory) (l .narrow) (ap (λ (x : Filled). x .answer) (l .keeps)) in
-    let q : payloadPacked (leftBehind (keptBy ourHost) b m os .decoder) (leftBehind (keptBy ourHost) b m os .memory) ≡ payloadRecord (leftBehind ours (newRecord C) m os .decoder) (leftBehind (keptBy ourHost) b m os .memory) = rw (l .keeps) at (y .0) in
-    (run-alike os (newRecord C) b m k (new-narrow C) (bytes-all m h) p, l .memories, l .keeps, q ∙ ap (payloadRecord (leftBehind ours (newRecord C) m os .decoder)) (l .memories))
+    let f = pack-good (newRecord C) l good small room in
+    let b = packInto (newRecord C) l .output in
+    let k : Keeps (newRecord C) b = keeps-on (newRecord C) l b (f ∙ ap (λ (x : Filled). answering nothing (x .output)) (sym f)) in
+    let a = left-alike os (newRecord C) b m k (new-narrow C) (bytes-all m h) p in
+    record { says = run-alike os (newRecord C) b m k (new-narrow C) (bytes-all m h) p; memory′ = a .memories; narrow′ = a .narrow; packs′ = a .keeps }
+
+-- the payload there is that of the record
+pub kept-payload : {C : Setup} {b m : List ℕ} {os : List Op} → KeptAlike C b m os
+    → payloadPacked (leftBehind (keptBy ourHost) b m os .decoder) (leftBehind (keptBy ourHost) b m os .memory) ≡ payloadRecord (leftBehind ours (newRecord C) m os .decoder) (leftBehind ours (newRecord C) m os .memory)
+kept-payload {C} {b} {m} {os} a =
+    let j = leftBehind ours (newRecord C) m os .decoder in
+    let k = leftBehind (keptBy ourHost) b m os in
+    let y = hands-out-alike j (k .decoder) (k .memory) (a .narrow′) (ap (λ (x : Filled). x .answer) (a .packs′)) in
+    let q : payloadPacked (k .decoder) (k .memory) ≡ payloadRecord j (k .memory) = rw (a .packs′) at (y .0) in
+    q ∙ ap (payloadRecord j) (a .memory′)
+
+pub answers-alike : AnswersAlike ourHost
+answers-alike C m os w small h p =
+    let a = new-alike C (replicate 28 0) m os w small (omega arith) h p in
+    (a .says, a .memory′, a .packs′, kept-payload a)
 
 -- ---- unused counts
 

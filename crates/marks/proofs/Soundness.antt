@@ -114,7 +114,7 @@ unfolding behindOf R.behind
 behind-is [] a o = refl
 behind-is (p ∷ os) a o = behind-is os (act (a .decoder) (a .memory) p) o
 
-got-back : (e : PushEvent) (P : List ℕ) → numbered e ≡ payload P → e ≡ paysOut P
+pub got-back : (e : PushEvent) (P : List ℕ) → numbered e ≡ payload P → e ≡ paysOut P
 got-back silent P h = cc
 got-back (discarded n) P h = cc
 got-back (paysOut Q) P h = cc

@@ -14,7 +14,10 @@ use Rattle.marks.specs.Events.{ReaderGives, GoesOn, readerWith, ListsEnt
 use Rattle.marks.specs.Fakes.{refusesAll, constant, idle, invents, once, stale, hasty, forgiving, firstOnly, countsEight, deaf, forgetsWay, servesAnyWay, swallows, takesNone, withholds, shrugs, forgetful, blamesTheMessage, saysItAgain, writesNothing, finishedAtOnce, withoutEvents, noEntries}
 use Rattle.marks.specs.FakeHosts.{unpacksNothing, packsConstants, packsAny, unpacksAny, onlyAnswers, saysNothingEver, handsNothing, clearsRefused, growsOutput, clearsRest}
 use Rattle.marks.proofs.Fakes.{not-ours, fall}
+use Rattle.marks.specs.Library.{HearsDecoder, HearsEncode, HearsEncoder, HearsReader}
+use Rattle.marks.specs.FakeLibraries.{keepsValues, handsBuffer, leavesLast, encodesNothing, forgetsCount, losesPlace, losesSign}
 use Rattle.marks.proofs.FakeHosts.{fall-hosts}
+use Rattle.marks.proofs.FakeLibraries.{fall-libraries}
 
 fake-refuses-everything : Mark3 refusesAll encodeTo → ⊥
 fake-refuses-everything = fall .refuses-mark3
@@ -126,3 +129,24 @@ fake-output-grows = fall-hosts .grows-output
 
 fake-refused-output-cleared : LeavesRefused clearsRefused → ⊥
 fake-refused-output-cleared = fall-hosts .clears-refused
+
+fake-finalize-leaves-the-values : HearsDecoder keepsValues → ⊥
+fake-finalize-leaves-the-values = fall-libraries .keeps-values
+
+fake-payload-is-the-whole-buffer : HearsDecoder handsBuffer → ⊥
+fake-payload-is-the-whole-buffer = fall-libraries .hands-buffer
+
+fake-slice-leaves-its-last-byte : HearsDecoder leavesLast → ⊥
+fake-slice-leaves-its-last-byte = fall-libraries .leaves-last
+
+fake-good-encode-writes-nothing : HearsEncode encodesNothing → ⊥
+fake-good-encode-writes-nothing = fall-libraries .encodes-nothing
+
+fake-encoder-keeps-its-numbers : HearsEncoder forgetsCount → ⊥
+fake-encoder-keeps-its-numbers = fall-libraries .forgets-count
+
+fake-refusal-without-its-place : HearsReader losesPlace → ⊥
+fake-refusal-without-its-place = fall-libraries .loses-place
+
+fake-scaler-without-its-sign : HearsReader losesSign → ⊥
+fake-scaler-without-its-sign = fall-libraries .loses-sign

@@ -8,8 +8,10 @@ pub mod Ways
 pub mod Packed
 pub mod Encoders
 pub mod Events
+pub mod Library
 pub mod Bench
 pub mod Decided
 pub mod Fakes
 pub mod FakeHosts
+pub mod FakeLibraries
 pub mod Marks

@@ -34,16 +34,17 @@ pub record EndsFrame (since : List ℕ) (o : Op) (P : List ℕ) : Type 0 where
   pub ends : since ++ last ∷ [] ≡ before ++ frame
   pub sound : Sound frame P
 
--- Any operations on a new decoder, and one more, all with one buffer, of whatever length. What is handed back is what the last answer brings: its payload, and behind every other answer, and of the new decoder, the empty part.
+-- Operations on a new decoder, and one more, all with one buffer, of whatever length. What is handed back is what the last answer brings: its payload, and behind every other answer the empty part.
 -- And where that answer is a payload, the operation pushes the last byte of a sound frame for it, which ends the bytes pushed since the last payload, finalize or reset, or else since the start
-abbrev pub Soundness : {S : Type 0} → Machine S → Type 0
-Soundness {S} M =
-    (C : Setup) (m : List ℕ)
-    → (M .payloadOf (M .new C) m ≡ [])
-    × ((os : List Op) (o : Op)
-    → let a : Gave S = behindOf M (M .new C) m os o in
+abbrev pub SoundBehind : {S : Type 0} → Machine S → Setup → List ℕ → List Op → Op → Type 0
+SoundBehind {S} M C m os o =
+    let a : Gave S = behindOf M (M .new C) m os o in
     (M .payloadOf (a .decoder) (a .memory) ≡ brought (a .answer))
-    × ((P : List ℕ) → PushesBytes (os ++ o ∷ []) → a .answer ≡ payload P → EndsFrame (bytesSince os (answers M (M .new C) m os)) o P))
+    × ((P : List ℕ) → PushesBytes (os ++ o ∷ []) → a .answer ≡ payload P → EndsFrame (bytesSince os (answers M (M .new C) m os)) o P)
+
+-- of the new decoder too the empty part is handed back
+abbrev pub Soundness : {S : Type 0} → Machine S → Type 0
+Soundness M = (C : Setup) (m : List ℕ) → (M .payloadOf (M .new C) m ≡ []) × ((os : List Op) (o : Op) → SoundBehind M C m os o)
 
 -- ---- completeness
 

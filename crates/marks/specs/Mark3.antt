@@ -58,13 +58,17 @@ unfoldable pub restSays : Encode → List Job → List DecoderAnswer
 restSays encode [] = []
 restSays encode (j ∷ js) = frameSays nothing (wroteFor encode j) (j .payload) ++ restSays encode js
 
--- Any pushes, finalize and reset calls on a new decoder of either way, its capacity + 5 zero bytes, then one or more encoded payloads back to back. Behind what came before, the whole list of answers is: one DiscardedBytes (6), at the
+-- Any operations on a new decoder, its capacity + 5 zero bytes, then one or more encoded payloads back to back. Behind what came before, the whole list of answers is: one DiscardedBytes (6), at the
 -- first frame's eighth byte, with the count of the bytes before that frame since the last payload, refusal, finalize or reset, or else since the start, stopped at 4,294,967,295; each payload at its own last byte; nothing else
-abbrev pub Mark3 : {S : Type 0} → Machine S → Encode → Type 0
-Mark3 M encode =
-    (C : Setup) (m : List ℕ) → KnownWay (C .way) → length m ≡ C .capacity → C .capacity ≤ limit
-    → (before : List Op) (j : Job) (js : List Job) → AllSuit C (j ∷ js)
-    → let os : List Op = before ++ replicate (C .capacity + 5) (push 0x00) in
+abbrev pub HeardBehindZeros : {S : Type 0} → Machine S → Encode → Setup → List ℕ → List Op → Job → List Job → Type 0
+HeardBehindZeros M encode C m before j js =
+    let os : List Op = before ++ replicate (C .capacity + 5) (push 0x00) in
     let heard : List DecoderAnswer = answers M (M .new C) m os in
     answers M (M .new C) m (os ++ map push (framesFor encode (j ∷ js)))
     ≡ heard ++ (frameSays (refusal discardedBytesNo (stopped (countSince os heard) ∷ [])) (wroteFor encode j) (j .payload) ++ restSays encode js)
+
+-- of either way, with its one buffer, behind any pushes, finalize and reset calls
+abbrev pub Mark3 : {S : Type 0} → Machine S → Encode → Type 0
+Mark3 M encode =
+    (C : Setup) (m : List ℕ) → KnownWay (C .way) → length m ≡ C .capacity → C .capacity ≤ limit
+    → (before : List Op) (j : Job) (js : List Job) → AllSuit C (j ∷ js) → HeardBehindZeros M encode C m before j js

@@ -26,9 +26,11 @@ use Rattle.marks.specs.Ways.{ourWay, KeepsWay, RefusesUnknown}
 use Rattle.marks.specs.Packed.{ourHost, RoundTrip, Exactly, PacksWhatPushes, PacksInOrder, ActsAlike, SlicesAlike, HandsAlike, Serves, LeavesRefused, LeavesTidy, AnswersAlike}
 use Rattle.marks.specs.Encoders.{ourEncoder, SameBytes}
 use Rattle.marks.specs.Events.{ourReader, ourParser, ReaderGives, GoesOn, readerWith, parserWith, ListsEntries, SaysWhere, CallSaysWhere, TenAgain}
+use Rattle.marks.specs.Library.{ourLibrary, readerBy, HearsOurs, MarksBy}
 use Rattle.marks.specs.Bench.{b5Second, Holds, Bench}
 use Rattle.marks.specs.Fakes.{NotOurs, Fall}
 use Rattle.marks.specs.FakeHosts.{FallHosts}
+use Rattle.marks.specs.FakeLibraries.{FallLibraries}
 
 pub record Marks : Type 0 where
   -- mark 1: one outcome for each input
@@ -83,6 +85,10 @@ pub record Marks : Type 0 where
   pub parser-goes-on : GoesOn ourParser parserWith
   pub reader-lists : ListsEntries ourReader
   pub parser-lists : ListsEntries ourParser
+  -- the library: what a caller hears of its calls is what ours say; so the reader's events are those of the tables, and marks 2 and 3 hold of what is linked
+  pub library-hears : HearsOurs ourLibrary
+  pub library-gives : ReaderGives (readerBy ourLibrary)
+  pub library-marks : MarksBy ourLibrary
   -- a length that passes 32 bits is refused, and no other is refused so
   pub overflows : Overflows tlfAt
   -- a refusal says where it broke: of every reader, of the calls on an input, of one call from any numbers; and what that is false of
@@ -101,3 +107,4 @@ pub record Marks : Type 0 where
   pub not-ours : NotOurs
   pub fall : Fall
   pub fall-hosts : FallHosts
+  pub fall-libraries : FallLibraries

@@ -1,0 +1,129 @@
+-- Each fake of a library falls: one small call, computed, is not what the claim says.
+use mathlib.Core.Path.{_≡_, refl, ap}
+use mathlib.Core.List.{List, [], _∷_}
+use mathlib.Core.Option.{Option, some, none}
+use Prim.Native.Nat.{ℕ, zero, suc, _<_}
+use native.Mathlib.Omega.{arith}
+use lib.IntN.{ℤ, pos, negsuc}
+use lib.ListN.{length, getD, replicate}
+use Rattle.crc_x25.specs.Crc.{reflect, polynomial, bitStep, bitSteps, byteStep, register}
+use Rattle.refusals.specs.Read.{then, guard, need, byteAt, spanAt}
+use Rattle.refusals.specs.declared.Span.{Span}
+use Rattle.frame.specs.Frame.{same, escaped, closed, frameOf}
+use Rattle.encoder.specs.Encode.{EncodeAnswer, length-is, noFrame, AfterEncode, encodeTo}
+use Rattle.encoder.specs.Encoder.{NextAnswer, byte, finished, noByte, freshEncoder, stepFrom, badEncoder, nextStep}
+use Rattle.decoder.specs.Push.{sized, searching, step, finalized}
+use Rattle.decoder.specs.Record.{DecoderAnswer, nothing, payload, count, refusal, wrote, badDecoder, wrongBuffer, hasPayload, pushed, pushRecord, finalizeRecord, payloadRecord}
+use Rattle.decoder.specs.Run.{isFirst, push, finalize, act}
+use Rattle.decoder_slice.specs.Slice.{pushesFrom, sliceRecord}
+use Rattle.packed.specs.Layout.{lowFirst, numberAt, stateIn, packedBytes, packedIn, recordIn}
+use Rattle.packed.specs.Packed.{packInto, unpackOf, pushPacked, slicePacked, finalizePacked}
+use Rattle.tlf.specs.Lengths.{tlfAt, lengthFrom, lessOwn, listOfAt}
+use Rattle.numbers.specs.Numbers.{number, bytesAt, rawFrom, rawAt, unsignedAt, signedOf, signedAt, boolFrom, boolAt}
+use Rattle.octet_string.specs.Strings.{octetsAt}
+use Rattle.octet_string.specs.Optional.{absentAt, optional}
+use Rattle.value.specs.Values.{timeAt, statusOf, statusAt, signedValue, unsignedValue, listTypeAt, valueOf, valueAt}
+use Rattle.common.specs.Fields.{entryAt}
+use Rattle.message.specs.Messages.{startAt}
+use Rattle.streaming.specs.Next.{startEvent, entryEvent, endEvent, Said, event, noEvent, failed, alone, onward, beginAt, entryNext, stepAt, nextAt}
+use Rattle.words.specs.Words.{withZeros}
+use Rattle.sartrogheo.specs.Calls.{sghDecoderNew, sghPushByte, sghPushSlice, sghPayload, sghFinalize, sghEncode}
+use Rattle.sartrogheo.specs.Streams.{encoderIn, sghEncoderNew, sghEncoderNext, sghNextEvent}
+use Rattle.marks.specs.Decoders.{answers, leftBehind}
+use Rattle.marks.specs.Encoders.{callsOf}
+use Rattle.marks.specs.Events.{saysAt}
+use Rattle.marks.specs.Packed.{AreBytes}
+use Rattle.marks.specs.Library.{KeptByCaller, keptByCaller, CallerBegins, HearsDecoder, HearsEncode, HearsEncoder, HearsReader}
+use Rattle.marks.specs.FakeLibraries.{keepsValues, handsBuffer, leavesLast, encodesNothing, forgetsCount, losesPlace, losesSign, FallLibraries}
+
+abbrev blank : KeptByCaller
+blank = keptByCaller (replicate 28 0) (replicate 4 0)
+
+zeros-bytes : (k : ℕ) → AreBytes (replicate k 0)
+zeros-bytes zero i = omega arith
+zeros-bytes (suc k) zero = omega arith
+zeros-bytes (suc k) (suc i) = zeros-bytes k i
+
+caller-begins : CallerBegins (sized 8) blank (replicate 8 0)
+caller-begins = record { way = isFirst refl; capacity = omega arith; bytes′ = refl; values′ = refl; buffer = zeros-bytes 8 }
+
+-- the first value of the second answer
+secondValue : List DecoderAnswer → ℕ
+secondValue [] = 0
+secondValue (a ∷ []) = 0
+secondValue (a ∷ nothing ∷ more) = 0
+secondValue (a ∷ payload bytes ∷ more) = 0
+secondValue (a ∷ count n ∷ more) = n
+secondValue (a ∷ refusal n values ∷ more) = getD values 0 0
+
+keeps-values : HearsDecoder keepsValues → ⊥
+unfolding answers act sghDecoderNew sghPushByte sghFinalize unpackOf packInto badDecoder packedIn packedBytes lowFirst recordIn numberAt stateIn same pushPacked finalizePacked pushRecord finalizeRecord finalized pushed wrongBuffer wrote step searching secondValue
+keeps-values h = let n : _≡_ {A = ℕ} 0 1 = ap secondValue (h (sized 8) blank (replicate 8 0) (push 0 ∷ finalize ∷ []) caller-begins (omega arith, tt) .0) in omega (arith, n)
+
+hands-buffer : HearsDecoder handsBuffer → ⊥
+unfolding leftBehind payloadRecord hasPayload badDecoder wrongBuffer
+hands-buffer h = let n : _≡_ {A = ℕ} 8 0 = ap length (h (sized 8) blank (replicate 8 0) [] caller-begins tt .2) in omega (arith, n)
+
+leaves-last : HearsDecoder leavesLast → ⊥
+unfolding leftBehind sghDecoderNew sghPushSlice unpackOf packInto badDecoder packedIn packedBytes lowFirst recordIn numberAt stateIn same slicePacked sliceRecord pushesFrom pushRecord pushed wrongBuffer wrote step searching
+leaves-last h = let n : _≡_ {A = ℕ} 0 1 = h (sized 8) blank (replicate 8 0) [] caller-begins tt .3 (0 ∷ []) .1 in omega (arith, n)
+
+lengthOf : EncodeAnswer → ℕ
+lengthOf (length-is n) = n
+lengthOf (noFrame n) = 0
+
+encodes-nothing : HearsEncode encodesNothing → ⊥
+unfolding lengthOf encodeTo frameOf closed escaped
+encodes-nothing h = let n : _≡_ {A = ℕ} 0 16 = ap (λ (a : AfterEncode). lengthOf (a .answer)) (h [] (replicate 16 0)) in omega (arith, n)
+
+byteOf : NextAnswer → ℕ
+byteOf (byte n) = n
+byteOf finished = 0
+byteOf (noByte n) = 0
+
+forgets-count : HearsEncoder forgetsCount → ⊥
+unfolding byteOf callsOf sghEncoderNew sghEncoderNext encoderIn freshEncoder nextStep badEncoder stepFrom reflect polynomial bitStep bitSteps byteStep register
+forgets-count h = let n : _≡_ {A = ℕ} 0x1b 0x01 = ap (λ (l : List NextAnswer). byteOf (getD l 4 finished)) (h [] 0 5 (zeros-bytes 0)) in omega (arith, n)
+
+placeOf : Said → ℕ
+placeOf (failed f) = f .place
+placeOf (event e) = 0
+placeOf noEvent = 0
+placeOf (alone n) = 0
+
+-- 76 10: the fault stands at 1
+loses-place : HearsReader losesPlace → ⊥
+unfolding placeOf saysAt sghNextEvent withZeros then guard need byteAt spanAt tlfAt lengthFrom lessOwn listOfAt octetsAt startAt onward beginAt stepAt nextAt
+loses-place h = let n : _≡_ {A = ℕ} 0 1 = ap placeOf (h (0x76 ∷ 0x10 ∷ []) (record { place = 0; start = 0; pending = 0 }) 0) in omega (arith, n)
+
+sizeOf : Option ℤ → ℕ
+sizeOf (some (pos n)) = n
+sizeOf (some (negsuc n)) = n
+sizeOf none = 0
+
+scalerOf : Said → ℕ
+scalerOf (event (entryEvent e)) = sizeOf (e .scaler)
+scalerOf (event (startEvent m)) = 0
+scalerOf (event (endEvent e)) = 0
+scalerOf noEvent = 0
+scalerOf (failed f) = 0
+scalerOf (alone n) = 0
+
+-- an entry with the scaler -1
+loses-sign : HearsReader losesSign → ⊥
+unfolding sizeOf scalerOf saysAt sghNextEvent withZeros then guard need byteAt spanAt tlfAt lengthFrom lessOwn listOfAt number bytesAt rawFrom rawAt unsignedAt signedOf signedAt boolFrom boolAt octetsAt absentAt optional timeAt statusOf statusAt signedValue unsignedValue listTypeAt valueOf valueAt entryAt onward entryNext stepAt nextAt
+loses-sign h =
+    let n : _≡_ {A = ℕ} 255 0 = ap scalerOf (h (0x77 ∷ 0x02 ∷ 0x05 ∷ 0x01 ∷ 0x01 ∷ 0x01 ∷ 0x52 ∷ 0xff ∷ 0x62 ∷ 0x01 ∷ 0x01 ∷ []) (record { place = 0; start = 0; pending = 3 }) 0) in
+    omega (arith, n)
+
+pub fall-libraries : FallLibraries
+fall-libraries =
+    record {
+      keeps-values = keeps-values;
+      hands-buffer = hands-buffer;
+      leaves-last = leaves-last;
+      encodes-nothing = encodes-nothing;
+      forgets-count = forgets-count;
+      loses-place = loses-place;
+      loses-sign = loses-sign;
+    }

@@ -1,0 +1,296 @@
+-- A caller of the library hears what is said of a decoder, an encode, an Encoder and a reader by value.
+use mathlib.Core.Path.{_≡_, refl, ap, sym, subst, _∙_}
+use mathlib.Core.Bool.{true, false, cond}
+use mathlib.Core.List.{List, [], _∷_, _++_}
+use Prim.Native.Nat.{ℕ, zero, suc, _+_, _-_, _≤_, _<_}
+use native.Mathlib.Omega.{arith}
+use lib.IntN.{ℤ, pos, negsuc, sucℤ, negℤ, _-ℤ_}
+use lib.ListN.{length, take, getD, replicate}
+use lib.Dec.{eqb, ltb, leb}
+use borrow.Author.Tests.{le-ltb, ltb-false, ltb-true, leb-false, lt-ltb}
+use Rattle.refusals.specs.Numbers.{limit}
+use Rattle.crc_x25.specs.Crc.{start, register}
+use Rattle.crc_x25.proofs.Laws.{byte-fits}
+use Rattle.frame.specs.Frame.{escSeq, startSeq, missing, frameOf}
+use Rattle.encoder.specs.Encode.{encodeTo}
+use Rattle.encoder.specs.Encoder.{NextAnswer, byte, finished, noByte, encoderAt, freshEncoder, endOf, badEnd, lastEnd, ended, runOf, looked, stepFrom, badCount, badEncoder, nextStep}
+use Rattle.encoder.specs.declared.Encoder.{Encoder}
+use Rattle.encoder.specs.declared.EncoderState.{EncoderState}
+use Rattle.encoder.specs.declared.EncoderState.the-variants.{Init, LookingForEscape, HandlingEscape, End}
+use Rattle.decoder.specs.Record.{DecoderAnswer, newRecord, hasPayload, payloadRecord}
+use Rattle.decoder.specs.Run.{Op, push, finalize, reset}
+use Rattle.decoder.specs.declared.Decoder.{Decoder}
+use Rattle.decoder.specs.declared.Setup.{Setup}
+use Rattle.decoder.proofs.Split.{cases}
+use Rattle.since.specs.Since.{AllBytes}
+use Rattle.streaming.specs.Next.{Said, ReaderAfter, nextAt}
+use Rattle.decoder_slice.specs.Slice.{Took, sliceRecord}
+use Rattle.packed.specs.Packed.{Filled, packInto, KeptSlice, Unpacked, holds, noRecord, unpackOf, pushPacked, slicePacked, finalizePacked, resetPacked, payloadHeld, payloadPacked}
+use Rattle.sartrogheo.specs.Calls.{goodNo, finishedNo, sghDecoderNew, sghPushByte, sghPushSlice, sghPayload, sghFinalize, sghReset, sghEncode}
+use Rattle.sartrogheo.specs.Streams.{encoderKind, endCount, encoderCount, encoderWords, stateOfKind, encoderIn, sghEncoderNew, nextNo, wordsBehind, byteOr, sghEncoderNext, sghNextEvent}
+use Rattle.marks.specs.Decoders.{ours, answers, LeftBehind, leftBehind}
+use Rattle.marks.specs.Chunks.{GaveSlice}
+use Rattle.marks.specs.Packed.{AreBytes, actOver, ourHost, keptBy}
+use Rattle.marks.specs.Encoders.{ourEncoder, callsOf}
+use Rattle.marks.specs.Events.{Numbers, ourReader, saysAt, ReaderGives}
+use Rattle.marks.specs.Library.{ourLibrary, KeptByCaller, keptByCaller, actBy, decoderBy, sliceBy, HearsDecoder, encodeBy, HearsEncode, encoderBy, HearsEncoder, readerBy, threeOf, HearsReader, HearsOurs}
+use Rattle.marks.proofs.Events.{reader-gives}
+use Rattle.marks.proofs.HeardEvent.{IsRefusal, not-good, not-finished, call-back}
+use Rattle.marks.proofs.HeardAnswer.{answer-heard, values-four, push-bytes-hearable, slice-bytes-hearable, finalize-bytes-hearable, reset-heard}
+use Rattle.marks.proofs.Packed.{KeptAlike, new-alike, kept-payload, slices-alike}
+use Rattle.marks.proofs.Narrow.{bytes-join, bytes-run, start-bytes, register-narrow}
+
+-- ---- a reader
+
+said-alike : (s : List ℕ) (n : Numbers) → readerBy ourLibrary .next s (threeOf n) .said ≡ ourReader .next s n .said
+unfolding sghNextEvent
+said-alike s n = call-back s (n .place) (n .start) (n .pending)
+
+pub hears-reader : HearsReader ourLibrary
+unfolding saysAt sghNextEvent
+hears-reader s n zero = said-alike s n
+hears-reader s n (suc k) = hears-reader s (ourReader .next s n .reader) k
+
+-- ---- frames
+
+pub hears-encode : HearsEncode ourLibrary
+unfolding sghEncode encodeTo
+hears-encode p out =
+    cases (leb (length p) limit)
+    (λ t. cases (leb (length (frameOf p)) (length out)) (λ u. rw (t, u)) (λ u. rw (t, u)))
+    (λ t. rw t)
+
+-- a count, and the state that it stands for
+end-count : (z : ℤ) → badEnd z ≡ false → (endCount z ≤ 11) × (pos (endCount z) -ℤ pos 3 ≡ z)
+end-count (pos n) h =
+    (omega (arith, ltb-false 8 n h), rw (le-ltb (n + 3) 3 (omega arith)) (ap pos (omega arith)))
+end-count (negsuc zero) h = (omega arith, refl)
+end-count (negsuc (suc zero)) h = (omega arith, refl)
+end-count (negsuc (suc (suc zero))) h = (omega arith, refl)
+end-count (negsuc (suc (suc (suc n)))) h = absurd (omega (arith, ltb-false 2 (suc (suc (suc n))) h))
+
+-- an Encoder that its numbers keep
+record GoodEncoder (e : Encoder) : Type 0 where
+  counts : badCount (e .state) ≡ false
+  narrow : e .crc < 65536
+
+state-back : (s : EncoderState) → badCount s ≡ false → (encoderCount s ≤ 11) × (stateOfKind (encoderKind s) (encoderCount s) ≡ s)
+state-back (Init n) h = (omega (arith, ltb-false 8 n h), refl)
+state-back (LookingForEscape n) h = (omega (arith, ltb-false 4 n h), refl)
+state-back (HandlingEscape n) h = (omega (arith, ltb-false 4 n h), refl)
+state-back (End z) h = let e = end-count z h in (e .0, ap End (e .1))
+
+words-back : (e : Encoder) → GoodEncoder e → encoderIn (encoderWords e) ≡ e
+unfolding encoderIn
+words-back e g =
+    let s = state-back (e .state) (g .counts) in
+    rw (le-ltb 65535 (e .crc) (omega (arith, g .narrow)), le-ltb 11 (encoderCount (e .state)) (s .0), s .1)
+
+-- a call that gives no byte leaves the Encoder as it is, and its number is that of a refusal, or finished
+Leaves : Encoder → NextAnswer → Encoder → Type 0
+Leaves e (byte b) f = Unit {0}
+Leaves e finished f = f ≡ e
+Leaves e (noByte n) f = (f ≡ e) × IsRefusal n
+
+looked-leaves : (e : Encoder) (n place reg : ℕ) (p : List ℕ) → Leaves e (looked n place reg p .answer) (looked n place reg p .encoder)
+unfolding Leaves looked ended
+looked-leaves e n place reg p = cases (ltb place (length p)) (λ t. rw t tt) (λ t. rw t tt)
+
+step-leaves : (s : EncoderState) (place reg : ℕ) (p : List ℕ) → Leaves (encoderAt s place reg) (stepFrom s place reg p .answer) (stepFrom s place reg p .encoder)
+unfolding Leaves stepFrom ended
+step-leaves (Init n) place reg p = cases (ltb n 8) (λ t. rw t tt) (λ t. rw t (looked-leaves _ 0 place reg p))
+step-leaves (LookingForEscape n) place reg p = cases (ltb n 4) (λ t. rw t (looked-leaves _ n place reg p)) (λ t. rw t tt)
+step-leaves (HandlingEscape n) place reg p = cases (ltb n 4) (λ t. rw t tt) (λ t. rw t (looked-leaves _ 0 place reg p))
+step-leaves (End z) place reg p = cases (lastEnd z) (λ t. rw t refl) (λ t. rw t tt)
+
+next-leaves : (e : Encoder) (p : List ℕ) → Leaves e (nextStep e p .answer) (nextStep e p .encoder)
+unfolding Leaves nextStep
+next-leaves e p =
+    cases (leb (length p) limit)
+    (λ t. cases (badEncoder e (length p)) (λ u. rw (t, u) (refl, omega arith)) (λ u. rw (t, u) (step-leaves (e .state) (e .place) (e .crc) p)))
+    (λ t. rw t (refl, omega arith))
+
+-- so what is heard of it is what it answers, and the numbers that it leaves are those of the Encoder that it leaves
+answer-alike : (e : Encoder) (a : NextAnswer) (f : Encoder) (old : ℕ) → Leaves e a f
+    → (cond (eqb (nextNo a) goodNo) (byte (byteOr a old)) (cond (eqb (nextNo a) finishedNo) finished (noByte (nextNo a))) ≡ a) × (wordsBehind a f (encoderWords e) ≡ encoderWords f)
+unfolding Leaves
+answer-alike e (byte b) f old h = (refl, refl)
+answer-alike e finished f old h = (refl, ap encoderWords (sym h))
+answer-alike e (noByte n) f old h = (rw (not-good n (h .1), not-finished n (h .1)), ap encoderWords (sym (h .0)))
+
+next-alike : (e : Encoder) (p : List ℕ) (old : ℕ) → GoodEncoder e
+    → let t = encoderBy ourLibrary old .next (encoderWords e) p in (t .answer ≡ nextStep e p .answer) × (t .encoder ≡ encoderWords (nextStep e p .encoder))
+unfolding sghEncoderNext
+next-alike e p old g = rw (words-back e g) (answer-alike e (nextStep e p .answer) (nextStep e p .encoder) old (next-leaves e p))
+
+-- what an Encoder's numbers hold stays good
+end-next : (z : ℤ) → lastEnd z ≡ false → badEnd z ≡ false → badEnd (sucℤ z) ≡ false
+end-next (pos n) l h = le-ltb 8 (suc n) (leb-false 8 n l)
+end-next (negsuc zero) l h = refl
+end-next (negsuc (suc n)) l h = le-ltb 2 n (omega (arith, ltb-false 2 (suc n) h))
+
+first-end : (pad : ℕ) → pad ≤ 3 → badEnd (sucℤ (negℤ (pos pad))) ≡ false
+first-end zero h = refl
+first-end (suc zero) h = refl
+first-end (suc (suc zero)) h = refl
+first-end (suc (suc (suc zero))) h = refl
+first-end (suc (suc (suc (suc n)))) h = absurd (omega arith)
+
+bytes-zeros : (n : ℕ) → AllBytes (replicate n 0x00)
+bytes-zeros zero = tt
+bytes-zeros (suc n) = (omega arith, bytes-zeros n)
+
+pub end-bytes : (pad : ℕ) → pad ≤ 3 → AllBytes (endOf pad)
+end-bytes pad h = bytes-join (replicate pad 0x00 ++ escSeq) _ (bytes-join (replicate pad 0x00) escSeq (bytes-zeros pad) (bytes-run 4)) (omega arith, (omega arith, tt))
+
+run-at-most : (n b : ℕ) → n ≤ 3 → ltb 4 (runOf n b) ≡ false
+run-at-most n b h = cases (eqb b 0x1b) (λ t. rw t (le-ltb 4 (suc n) (omega arith))) (λ t. rw t refl)
+
+looked-good : (n place reg : ℕ) (p : List ℕ) → n ≤ 3 → AreBytes p → reg < 65536 → GoodEncoder (looked n place reg p .encoder)
+unfolding looked ended
+looked-good n place reg p h b r =
+    cases (ltb place (length p))
+    (λ t. rw t (record { counts = run-at-most n (getD p place 0) h; narrow = byte-fits reg (getD p place 0) r (b place) }))
+    (λ t. rw t (record { counts = first-end (missing place) (omega arith); narrow = register-narrow reg (endOf (missing place)) r (end-bytes (missing place) (omega arith)) }))
+
+step-good : (s : EncoderState) (place reg : ℕ) (p : List ℕ) → badCount s ≡ false → AreBytes p → reg < 65536 → GoodEncoder (stepFrom s place reg p .encoder)
+unfolding stepFrom ended
+step-good (Init n) place reg p h b r =
+    cases (ltb n 8) (λ t. rw t (record { counts = le-ltb 8 (suc n) (ltb-true n 8 t); narrow = r })) (λ t. rw t (looked-good 0 place reg p (omega arith) b r))
+step-good (LookingForEscape n) place reg p h b r =
+    cases (ltb n 4) (λ t. rw t (looked-good n place reg p (omega (arith, ltb-true n 4 t)) b r)) (λ t. rw t (record { counts = refl; narrow = register-narrow reg escSeq r (bytes-run 4) }))
+step-good (HandlingEscape n) place reg p h b r =
+    cases (ltb n 4) (λ t. rw t (record { counts = le-ltb 4 (suc n) (ltb-true n 4 t); narrow = r })) (λ t. rw t (looked-good 0 place reg p (omega arith) b r))
+step-good (End z) place reg p h b r =
+    cases (lastEnd z) (λ t. rw t (record { counts = h; narrow = r })) (λ t. rw t (record { counts = end-next z t h; narrow = r }))
+
+next-good′ : (e : Encoder) (p : List ℕ) → AreBytes p → GoodEncoder e → GoodEncoder (nextStep e p .encoder)
+unfolding nextStep
+next-good′ e p b g =
+    cases (leb (length p) limit)
+    (λ t. cases (badEncoder e (length p)) (λ u. rw (t, u) g) (λ u. rw (t, u) (step-good (e .state) (e .place) (e .crc) p (g .counts) b (g .narrow))))
+    (λ t. rw t g)
+
+calls-alike : (n : ℕ) (e : Encoder) (p : List ℕ) (old : ℕ) → AreBytes p → GoodEncoder e → callsOf (encoderBy ourLibrary old) n (encoderWords e) p ≡ callsOf ourEncoder n e p
+unfolding callsOf
+calls-alike zero e p old b g = refl
+calls-alike (suc n) e p old b g =
+    let t = next-alike e p old g in
+    rw (t .0, t .1) (ap (λ (l : List NextAnswer). nextStep e p .answer ∷ l) (calls-alike n (nextStep e p .encoder) p old b (next-good′ e p b g)))
+
+pub hears-encoder : HearsEncoder ourLibrary
+unfolding sghEncoderNew freshEncoder
+hears-encoder p old n b = calls-alike n freshEncoder p old b (record { counts = refl; narrow = register-narrow start startSeq (omega arith) start-bytes })
+
+-- ---- a decoder
+
+-- an operation by its call is that over the bytes, and the values are four again
+record ActsAs (k : KeptByCaller) (m : List ℕ) (o : Op) : Type 0 where
+  answer′ : actBy ourLibrary k m o .answer ≡ actOver (k .bytes) m o .answer
+  bytes′ : actBy ourLibrary k m o .decoder .bytes ≡ actOver (k .bytes) m o .decoder
+  memory′ : actBy ourLibrary k m o .memory ≡ actOver (k .bytes) m o .memory
+  four′ : length (actBy ourLibrary k m o .decoder .values) ≡ 4
+
+acts-as : (k : KeptByCaller) (m : List ℕ) (o : Op) → length (k .values) ≡ 4 → ActsAs k m o
+unfolding sghPushByte sghFinalize sghReset
+acts-as k m (push b) four =
+    record { answer′ = answer-heard _ (k .values) _ four (push-bytes-hearable (k .bytes) m b); bytes′ = refl; memory′ = refl; four′ = values-four (pushPacked (k .bytes) m b .answer) (k .values) four }
+acts-as k m finalize four =
+    record { answer′ = answer-heard _ (k .values) m four (finalize-bytes-hearable (k .bytes) m); bytes′ = refl; memory′ = refl; four′ = values-four (finalizePacked (k .bytes) .answer) (k .values) four }
+acts-as k m reset four =
+    record { answer′ = reset-heard (k .bytes) (k .values) four; bytes′ = refl; memory′ = refl; four′ = values-four (resetPacked (k .bytes) .answer) (k .values) four }
+
+-- operations one after another, too
+answers-as : (M : KeptByCaller) (os : List Op) (k : KeptByCaller) (m : List ℕ) → length (k .values) ≡ 4 → answers (decoderBy ourLibrary M) k m os ≡ answers (keptBy ourHost) (k .bytes) m os
+unfolding answers
+answers-as M [] k m four = refl
+answers-as M (o ∷ os) k m four =
+    let a = acts-as k m o four in
+    rw (a .answer′, ← a .bytes′, ← a .memory′) (ap (λ (l : List DecoderAnswer). actOver (k .bytes) m o .answer ∷ l) (answers-as M os (actBy ourLibrary k m o .decoder) (actBy ourLibrary k m o .memory) (a .four′)))
+
+record LeavesAs (x : LeftBehind KeptByCaller) (y : LeftBehind (List ℕ)) : Type 0 where
+  bytes″ : x .decoder .bytes ≡ y .decoder
+  memory″ : x .memory ≡ y .memory
+  four″ : length (x .decoder .values) ≡ 4
+
+leaves-as : (M : KeptByCaller) (os : List Op) (k : KeptByCaller) (m : List ℕ) → length (k .values) ≡ 4 → LeavesAs (leftBehind (decoderBy ourLibrary M) k m os) (leftBehind (keptBy ourHost) (k .bytes) m os)
+unfolding leftBehind
+leaves-as M [] k m four = record { bytes″ = refl; memory″ = refl; four″ = four }
+leaves-as M (o ∷ os) k m four =
+    let a = acts-as k m o four in
+    rw (← a .bytes′, ← a .memory′) (leaves-as M os (actBy ourLibrary k m o .decoder) (actBy ourLibrary k m o .memory) (a .four′))
+
+-- a payload is as long as the buffer's part that it is
+part-long : (n : ℕ) (m : List ℕ) → take (length (take n m)) m ≡ take n m
+part-long zero m = refl
+part-long (suc n) [] = refl
+part-long (suc n) (x ∷ m) = ap (λ (l : List ℕ). x ∷ l) (part-long n m)
+
+payload-part : (l m : List ℕ) → take (length (payloadPacked l m)) m ≡ payloadPacked l m
+unfolding payloadPacked payloadRecord
+payload-part l m = by (unpackOf l)
+  where
+    by : (u : Unpacked) → take (length (payloadHeld u m)) m ≡ payloadHeld u m
+    by (noRecord n) = refl
+    by (holds d) = cases (hasPayload d m) (λ t. rw t (part-long (d .fill) m)) (λ t. rw t)
+
+payload-by : (M k : KeptByCaller) (m : List ℕ) → decoderBy ourLibrary M .payloadOf k m ≡ payloadPacked (k .bytes) m
+unfolding sghPayload
+payload-by M k m = payload-part (k .bytes) m
+
+slice-as : (k : KeptByCaller) (m chunk : List ℕ) → length (k .values) ≡ 4
+    → let t : GaveSlice KeptByCaller = sliceBy ourLibrary k m chunk in
+    let u : KeptSlice = slicePacked (k .bytes) m chunk in
+    (t .answer ≡ u .answer) × (t .taken ≡ u .taken) × (t .memory ≡ u .memory)
+unfolding sghPushSlice
+slice-as k m chunk four = (answer-heard _ (k .values) _ four (slice-bytes-hearable (k .bytes) m chunk), refl, refl)
+
+-- behind operations
+module _ (x : LeftBehind KeptByCaller) (y : LeftBehind (List ℕ)) (a : LeavesAs x y) where
+  payload-as : (M : KeptByCaller) → decoderBy ourLibrary M .payloadOf (x .decoder) (x .memory) ≡ payloadPacked (y .decoder) (y .memory)
+  payload-as M = payload-by M (x .decoder) (x .memory) ∙ rw (a .bytes″, a .memory″)
+
+  slice-behind : (chunk : List ℕ)
+      → let t : GaveSlice KeptByCaller = sliceBy ourLibrary (x .decoder) (x .memory) chunk in
+      let u : KeptSlice = slicePacked (y .decoder) (y .memory) chunk in
+      (t .answer ≡ u .answer) × (t .taken ≡ u .taken) × (t .memory ≡ u .memory)
+  slice-behind chunk = rw (← a .bytes″, ← a .memory″) (slice-as (x .decoder) (x .memory) chunk (a .four″))
+
+-- a slice over bytes that keep a record is that over the record
+slice-kept : (C : Setup) (b m : List ℕ) (os : List Op) (chunk : List ℕ) → KeptAlike C b m os
+    → let y : LeftBehind (List ℕ) = leftBehind (keptBy ourHost) b m os in
+    let z : LeftBehind Decoder = leftBehind ours (newRecord C) m os in
+    let u : KeptSlice = slicePacked (y .decoder) (y .memory) chunk in
+    let v : Took = sliceRecord (z .decoder) (z .memory) chunk in
+    (u .answer ≡ v .answer) × (u .taken ≡ v .taken) × (u .memory ≡ v .memory)
+slice-kept C b m os chunk a =
+    let y = leftBehind (keptBy ourHost) b m os in
+    let z = leftBehind ours (newRecord C) m os in
+    let s = slices-alike (z .decoder) (y .decoder) (y .memory) chunk (a .narrow′) (ap (λ (f : Filled). f .answer) (a .packs′)) in
+    let s0 : slicePacked (y .decoder) (y .memory) chunk .answer ≡ sliceRecord (z .decoder) (y .memory) chunk .answer = rw (a .packs′) at (s .0) in
+    let s1 : slicePacked (y .decoder) (y .memory) chunk .taken ≡ sliceRecord (z .decoder) (y .memory) chunk .taken = rw (a .packs′) at (s .1) in
+    let s2 : slicePacked (y .decoder) (y .memory) chunk .memory ≡ sliceRecord (z .decoder) (y .memory) chunk .memory = rw (a .packs′) at (s .2) in
+    let r : List ℕ → Took = λ n. sliceRecord (z .decoder) n chunk in
+    (s0 ∙ ap (λ (n : List ℕ). r n .answer) (a .memory′), s1 ∙ ap (λ (n : List ℕ). r n .taken) (a .memory′), s2 ∙ ap (λ (n : List ℕ). r n .memory) (a .memory′))
+
+pub hears-decoder : HearsDecoder ourLibrary
+unfolding sghDecoderNew
+hears-decoder C k m os g p =
+    let j : KeptByCaller = keptByCaller (packInto (newRecord C) (k .bytes) .output) (k .values) in
+    let a = new-alike C (k .bytes) m os (g .way) (g .capacity) (omega (arith, g .bytes′)) (g .buffer) p in
+    let x = leaves-as k os j m (g .values′) in (
+      answers-as k os j m (g .values′) ∙ a .says,
+      x .memory″ ∙ a .memory′,
+      payload-as _ _ x k ∙ kept-payload a,
+      λ chunk. (
+        slice-behind _ _ x chunk .0 ∙ slice-kept C (j .bytes) m os chunk a .0,
+        slice-behind _ _ x chunk .1 ∙ slice-kept C (j .bytes) m os chunk a .1,
+        slice-behind _ _ x chunk .2 ∙ slice-kept C (j .bytes) m os chunk a .2,
+      ),
+    )
+
+pub hears-ours : HearsOurs ourLibrary
+hears-ours = record { decoder = hears-decoder; encode = hears-encode; encoder = hears-encoder; reader = hears-reader }
+
+pub library-gives : ReaderGives (readerBy ourLibrary)
+library-gives s k = hears-reader s (record { place = 0; start = 0; pending = 0 }) k ∙ reader-gives s k

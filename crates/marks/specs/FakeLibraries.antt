@@ -1,0 +1,76 @@
+-- check: fakes of a library, and which claim is false of each.
+use mathlib.Core.List.{List, [], _∷_}
+use Prim.Native.Nat.{ℕ, _-_, _%_}
+use lib.ListN.{length, getD, set}
+use Rattle.sartrogheo.specs.Calls.{Reply, reply, sghDecoderNew, sghPushByte, sghPushSlice, sghPayload, sghFinalize, sghReset, sghEncode}
+use Rattle.sartrogheo.specs.Streams.{sghEncoderNew, sghEncoderNext, sghNextEvent}
+use Rattle.marks.specs.Library.{Library, lentAt, firstAt, wordAt, HearsDecoder, HearsEncode, HearsEncoder, HearsReader}
+
+-- ours, but for the calls over a decoder; over frames; over messages
+abbrev pub withDecoder : (List ℕ → List ℕ → List ℕ → List ℕ → Reply) → (List ℕ → List ℕ → Reply) → (List ℕ → List ℕ → Reply) → Library
+withDecoder slice payload finalize =
+    record {
+      decoderNew = sghDecoderNew;
+      pushByte = sghPushByte;
+      pushSlice = slice;
+      payloadLen = payload;
+      finalizes = finalize;
+      resets = sghReset;
+      encodes = sghEncode;
+      encoderNew = sghEncoderNew;
+      encoderNext = sghEncoderNext;
+      nextEvent = sghNextEvent;
+    }
+
+abbrev pub withFrames : (List ℕ → List ℕ → Reply) → (List ℕ → List ℕ → ℕ → Reply) → (List ℕ → List ℕ → Reply) → Library
+withFrames encode next event =
+    record {
+      decoderNew = sghDecoderNew;
+      pushByte = sghPushByte;
+      pushSlice = sghPushSlice;
+      payloadLen = sghPayload;
+      finalizes = sghFinalize;
+      resets = sghReset;
+      encodes = encode;
+      encoderNew = sghEncoderNew;
+      encoderNext = next;
+      nextEvent = event;
+    }
+
+-- finalize says 6 and leaves the values as they were
+abbrev pub keepsValues : Library
+keepsValues = withDecoder sghPushSlice sghPayload (λ l v. reply (sghFinalize l v .number) (lentAt (sghFinalize l v) 0 ∷ v ∷ []))
+
+-- the payload is the whole buffer
+abbrev pub handsBuffer : Library
+handsBuffer = withDecoder sghPushSlice (λ l m. reply 0 ((length m ∷ []) ∷ [])) sghFinalize
+
+-- a slice doesn't count its last byte as taken
+abbrev pub leavesLast : Library
+leavesLast =
+    withDecoder (λ l m chunk v. (let r : Reply = sghPushSlice l m chunk v in reply (r .number) (lentAt r 0 ∷ lentAt r 1 ∷ ((firstAt r 2 - 1) ∷ []) ∷ lentAt r 3 ∷ []))) sghPayload sghFinalize
+
+-- encode does nothing, and says that all is good
+abbrev pub encodesNothing : Library
+encodesNothing = withFrames (λ p out. reply 0 (out ∷ (0 ∷ []) ∷ [])) sghEncoderNext sghNextEvent
+
+-- an Encoder whose numbers stay as they were
+abbrev pub forgetsCount : Library
+forgetsCount = withFrames sghEncode (λ w p old. reply (sghEncoderNext w p old .number) (w ∷ lentAt (sghEncoderNext w p old) 1 ∷ [])) sghNextEvent
+
+-- a refusal without its place
+abbrev pub losesPlace : Library
+losesPlace = withFrames sghEncode sghEncoderNext (λ s r. reply (sghNextEvent s r .number) (lentAt (sghNextEvent s r) 0 ∷ set (lentAt (sghNextEvent s r) 1) 3 0 ∷ []))
+
+-- a scaler of eight bits, whose sign is lost in 64
+abbrev pub losesSign : Library
+losesSign = withFrames sghEncode sghEncoderNext (λ s r. reply (sghNextEvent s r .number) (lentAt (sghNextEvent s r) 0 ∷ set (lentAt (sghNextEvent s r) 1) 11 (wordAt (lentAt (sghNextEvent s r) 1) 11 % 256) ∷ []))
+
+pub record FallLibraries : Type 0 where
+  pub keeps-values : HearsDecoder keepsValues → ⊥
+  pub hands-buffer : HearsDecoder handsBuffer → ⊥
+  pub leaves-last : HearsDecoder leavesLast → ⊥
+  pub encodes-nothing : HearsEncode encodesNothing → ⊥
+  pub forgets-count : HearsEncoder forgetsCount → ⊥
+  pub loses-place : HearsReader losesPlace → ⊥
+  pub loses-sign : HearsReader losesSign → ⊥

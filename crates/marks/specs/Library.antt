@@ -1,0 +1,256 @@
+-- claim: the library, as a caller in C hears it. What is read out of the numbers that its calls give and leave is what is said of a decoder, an encode, an Encoder and a reader by value, call by call. So all that is claimed of these stands for what a collector links.
+use mathlib.Core.Path.{_≡_}
+use mathlib.Core.Bool.{cond}
+use mathlib.Core.List.{List, [], _∷_, _++_}
+use mathlib.Core.Option.{Option, some, none}
+use Prim.Native.Nat.{ℕ, _+_, _-_, _^_, _≤_}
+use lib.IntN.{ℤ, pos, negsuc}
+use lib.ListN.{length, take, getD}
+use lib.Dec.{eqb, ltb}
+use Rattle.refusals.specs.Numbers.{discardedBytesNo, invalidEscNo, invalidMessageNo, limit}
+use Rattle.refusals.specs.declared.Span.{Span}
+use Rattle.encoder.specs.Encode.{AfterEncode, afterEncode, length-is, noFrame}
+use Rattle.encoder.specs.Encoder.{NextAnswer, byte, finished, noByte}
+use Rattle.decoder.specs.Record.{DecoderAnswer, nothing, payload, count, refusal, payloadRecord}
+use Rattle.decoder.specs.Run.{KnownWay, Op, push, finalize, reset}
+use Rattle.decoder.specs.declared.Decoder.{Decoder}
+use Rattle.decoder.specs.declared.Setup.{Setup}
+use Rattle.value.specs.Values.{Status, Value, truth, bytes, signed, unsigned, listTime}
+use Rattle.message.specs.Messages.{Body, openBody, closeBody, listBody}
+use Rattle.streaming.specs.Next.{MessageEvent, startEvent, entryEvent, endEvent, Said, event, noEvent, failed, alone}
+use Rattle.sartrogheo.specs.Calls.{goodNo, payloadNo, finishedNo, Reply, sghDecoderNew, sghPushByte, sghPushSlice, sghPayload, sghFinalize, sghReset, sghEncode}
+use Rattle.sartrogheo.specs.Streams.{sghEncoderNew, sghEncoderNext, sghNextEvent}
+use Rattle.marks.specs.Decoders.{Gave, Machine, ours, answers, LeftBehind, leftBehind}
+use Rattle.marks.specs.Mark2.{PushesBytes, SoundBehind}
+use Rattle.marks.specs.Mark3.{Encode, ourEncode, Job, AllSuit, HeardBehindZeros}
+use Rattle.marks.specs.Chunks.{GaveSlice, ourSlicer}
+use Rattle.marks.specs.Packed.{AreBytes}
+use Rattle.marks.specs.Encoders.{Caller, ourEncoder, callsOf}
+use Rattle.marks.specs.Events.{Reader, Numbers, ourReader, saysAt}
+
+-- what each call gives of what it is lent, in the header's order
+pub record Library : Type 0 where
+  pub decoderNew : List ℕ → ℕ → ℕ → Reply  -- the decoder's bytes, capacity, way
+  pub pushByte : List ℕ → List ℕ → ℕ → List ℕ → Reply  -- the decoder's bytes, the buffer, a byte, the values
+  pub pushSlice : List ℕ → List ℕ → List ℕ → List ℕ → Reply  -- the decoder's bytes, the buffer, a slice, the values
+  pub payloadLen : List ℕ → List ℕ → Reply  -- the decoder's bytes, the buffer
+  pub finalizes : List ℕ → List ℕ → Reply  -- the decoder's bytes, the values
+  pub resets : List ℕ → List ℕ → Reply  -- the same
+  pub encodes : List ℕ → List ℕ → Reply  -- payload, output
+  pub encoderNew : List ℕ
+  pub encoderNext : List ℕ → List ℕ → ℕ → Reply  -- the Encoder's numbers, the payload, what the byte was
+  pub nextEvent : List ℕ → List ℕ → Reply  -- the input, the reader's numbers
+
+-- ours, by the definitions that the contracts of the exports cite
+abbrev pub ourLibrary : Library
+ourLibrary =
+    record {
+      decoderNew = sghDecoderNew;
+      pushByte = sghPushByte;
+      pushSlice = sghPushSlice;
+      payloadLen = sghPayload;
+      finalizes = sghFinalize;
+      resets = sghReset;
+      encodes = sghEncode;
+      encoderNew = sghEncoderNew;
+      encoderNext = sghEncoderNext;
+      nextEvent = sghNextEvent;
+    }
+
+-- what the k-th thing that may be written holds behind a call, counted from 0, and its first number
+abbrev pub lentAt : Reply → ℕ → List ℕ
+lentAt r k = getD (r .lent) k []
+
+abbrev pub firstAt : Reply → ℕ → ℕ
+firstAt r k = getD (lentAt r k) 0 0
+
+-- ---- a decoder
+
+-- how many values a refusal has
+abbrev pub valuesOf : ℕ → ℕ
+valuesOf number = cond (eqb number discardedBytesNo) 1 (cond (eqb number invalidEscNo) 4 (cond (eqb number invalidMessageNo) 4 0))
+
+-- the answer that a number says, with the values and the buffer as they are then: a payload is the buffer's first bytes
+abbrev pub heardAnswer : ℕ → List ℕ → List ℕ → DecoderAnswer
+heardAnswer number values m =
+    cond (eqb number goodNo) nothing
+    (cond (eqb number payloadNo) (payload (take (getD values 0 0) m))
+    (refusal number (take (valuesOf number) values)))
+
+-- that of a reset
+abbrev pub heardReset : ℕ → List ℕ → DecoderAnswer
+heardReset number values = cond (eqb number goodNo) (count (getD values 0 0)) (refusal number [])
+
+-- what a caller keeps: the decoder's bytes, and the values as the last call left them
+pub record KeptByCaller : Type 0 where
+  pub bytes : List ℕ
+  pub values : List ℕ
+
+abbrev pub keptByCaller : List ℕ → List ℕ → KeptByCaller
+keptByCaller l v = record { bytes = l; values = v }
+
+-- an operation by its call; finalize and reset are lent no buffer
+abbrev pub actBy : Library → KeptByCaller → List ℕ → Op → Gave KeptByCaller
+actBy L k m (push b) =
+    let r : Reply = L .pushByte (k .bytes) m b (k .values) in
+    record { answer = heardAnswer (r .number) (lentAt r 2) (lentAt r 1); decoder = keptByCaller (lentAt r 0) (lentAt r 2); memory = lentAt r 1 }
+actBy L k m finalize =
+    let r : Reply = L .finalizes (k .bytes) (k .values) in
+    record { answer = heardAnswer (r .number) (lentAt r 1) m; decoder = keptByCaller (lentAt r 0) (lentAt r 1); memory = m }
+actBy L k m reset =
+    let r : Reply = L .resets (k .bytes) (k .values) in
+    record { answer = heardReset (r .number) (lentAt r 1); decoder = keptByCaller (lentAt r 0) (lentAt r 1); memory = m }
+
+-- a decoder by the library's calls; what its bytes and the values were before is told
+abbrev pub decoderBy : Library → KeptByCaller → Machine KeptByCaller
+decoderBy L k =
+    record {
+      new = λ C. keptByCaller (lentAt (L .decoderNew (k .bytes) (C .capacity) (C .way)) 0) (k .values);
+      act = actBy L;
+      payloadOf = λ j m. take (firstAt (L .payloadLen (j .bytes) m) 0) m;
+    }
+
+abbrev pub sliceBy : Library → KeptByCaller → List ℕ → List ℕ → GaveSlice KeptByCaller
+sliceBy L k m chunk =
+    let r : Reply = L .pushSlice (k .bytes) m chunk (k .values) in
+    record { answer = heardAnswer (r .number) (lentAt r 3) (lentAt r 1); taken = firstAt r 2; decoder = keptByCaller (lentAt r 0) (lentAt r 3); memory = lentAt r 1 }
+
+-- how a caller begins: a decoder of either way and of a capacity that is no refusal, in 28 bytes, with four values and a buffer, whatever stood in them before
+pub record CallerBegins (C : Setup) (k : KeptByCaller) (m : List ℕ) : Type 0 where
+  pub way : KnownWay (C .way)
+  pub capacity : C .capacity ≤ limit
+  pub bytes′ : length (k .bytes) ≡ 28
+  pub values′ : length (k .values) ≡ 4
+  pub buffer : AreBytes m
+
+-- Any pushes, finalize and reset calls on a new decoder, with one buffer of any length: a caller hears the answers that our record gives, payloads with them;
+-- and behind them the buffer and the payload that is handed out are the same, and so is what a push of a slice says, takes and leaves
+abbrev pub HearsDecoder : Library → Type 0
+HearsDecoder L =
+    (C : Setup) (k : KeptByCaller) (m : List ℕ) (os : List Op) → CallerBegins C k m → PushesBytes os
+    → let M : Machine KeptByCaller = decoderBy L k in
+    let x : LeftBehind KeptByCaller = leftBehind M (M .new C) m os in
+    let y : LeftBehind Decoder = leftBehind ours (ours .new C) m os in
+    (answers M (M .new C) m os ≡ answers ours (ours .new C) m os) × (x .memory ≡ y .memory) × (M .payloadOf (x .decoder) (x .memory) ≡ payloadRecord (y .decoder) (y .memory))
+    × ((chunk : List ℕ)
+    → let t : GaveSlice KeptByCaller = sliceBy L (x .decoder) (x .memory) chunk in
+    let u : GaveSlice Decoder = ourSlicer .pushSlice (y .decoder) (y .memory) chunk in
+    (t .answer ≡ u .answer) × (t .taken ≡ u .taken) × (t .memory ≡ u .memory))
+
+-- ---- frames
+
+abbrev pub encodeBy : Library → Encode
+encodeBy L p out =
+    let r : Reply = L .encodes p out in
+    afterEncode (cond (eqb (r .number) goodNo) (length-is (firstAt r 1)) (noFrame (r .number))) (lentAt r 0)
+
+abbrev pub HearsEncode : Library → Type 0
+HearsEncode L = (p out : List ℕ) → encodeBy L p out ≡ ourEncode p out
+
+-- an Encoder by the library's calls, whatever the byte was before
+abbrev pub encoderBy : Library → ℕ → Caller (List ℕ)
+encoderBy L old =
+    record {
+      new = L .encoderNew;
+      next =
+          λ w p.
+          let r : Reply = L .encoderNext w p old in
+          record { answer = cond (eqb (r .number) goodNo) (byte (firstAt r 1)) (cond (eqb (r .number) finishedNo) finished (noByte (r .number))); encoder = lentAt r 0 };
+    }
+
+-- of any payload of bytes, too long or not, n calls on a new Encoder answer what n calls on our record do
+abbrev pub HearsEncoder : Library → Type 0
+HearsEncoder L = (p : List ℕ) (old n : ℕ) → AreBytes p → callsOf (encoderBy L old) n (L .encoderNew) p ≡ callsOf ourEncoder n (ourEncoder .new) p
+
+-- ---- messages
+
+-- what stands in an event's words from a place on: a number, a number in two's complement, a span, a status, a value
+abbrev pub wordAt : List ℕ → ℕ → ℕ
+wordAt w k = getD w k 0
+
+abbrev pub signedIn : List ℕ → ℕ → ℤ
+signedIn w k = cond (ltb (wordAt w k) (2 ^ 63)) (pos (wordAt w k)) (negsuc (2 ^ 64 - 1 - wordAt w k))
+
+abbrev pub spanIn : List ℕ → ℕ → Span
+spanIn w k = record { start = wordAt w k; len = wordAt w (k + 1) }
+
+abbrev pub statusIn : List ℕ → ℕ → Status
+statusIn w k = record { width = wordAt w k; number = wordAt w (k + 1) }
+
+abbrev pub valueIn : List ℕ → ℕ → Value Span
+valueIn w k =
+    cond (eqb (wordAt w k) 1) (truth (eqb (wordAt w (k + 2)) 1))
+    (cond (eqb (wordAt w k) 2) (bytes (spanIn w (k + 3)))
+    (cond (eqb (wordAt w k) 3) (signed (wordAt w (k + 1)) (signedIn w (k + 2)))
+    (cond (eqb (wordAt w k) 4) (unsigned (wordAt w (k + 1)) (wordAt w (k + 2))) (listTime (wordAt w (k + 2))))))
+
+-- an optional field: whether it is there, and behind that the field
+abbrev pub fieldIn : {A : Type 0} → (List ℕ → ℕ → A) → List ℕ → ℕ → Option A
+fieldIn read w k = cond (eqb (wordAt w k) 1) (some (read w (k + 1))) none
+
+abbrev pub bodyIn : List ℕ → Body Span
+bodyIn w =
+    cond (eqb (wordAt w 5) 1)
+    (openBody (record { codepage = fieldIn spanIn w 6; «client_id» = fieldIn spanIn w 9; «req_file_id» = spanIn w 12; «server_id» = spanIn w 14; «ref_time» = fieldIn wordAt w 16; «sml_version» = fieldIn wordAt w 18 }))
+    (cond (eqb (wordAt w 5) 2) (closeBody (record { «global_signature» = fieldIn spanIn w 6 }))
+    (listBody (record { «client_id» = fieldIn spanIn w 6; «server_id» = spanIn w 9; «list_name» = fieldIn spanIn w 11; «act_sensor_time» = fieldIn wordAt w 14; «num_vals» = wordAt w 16 })))
+
+abbrev pub eventIn : List ℕ → MessageEvent Span
+eventIn w =
+    cond (eqb (wordAt w 0) 1) (startEvent (record { «transaction_id» = spanIn w 1; «group_no» = wordAt w 3; «abort_on_error» = wordAt w 4; «message_body» = bodyIn w }))
+    (cond (eqb (wordAt w 0) 2) (endEvent (record { «list_signature» = fieldIn spanIn w 1; «act_gateway_time» = fieldIn wordAt w 4 }))
+    (entryEvent (record {
+      «obj_name» = spanIn w 1;
+      status = fieldIn statusIn w 3;
+      «val_time» = fieldIn wordAt w 6;
+      unit = fieldIn wordAt w 8;
+      scaler = fieldIn signedIn w 10;
+      value = valueIn w 12;
+      «value_signature» = fieldIn spanIn w 17;
+    })))
+
+-- what the number of a call says, and the event's words
+abbrev pub heardEvent : ℕ → List ℕ → Said
+heardEvent number w =
+    cond (eqb number goodNo) (event (eventIn w))
+    (cond (eqb number finishedNo) noEvent
+    (cond (eqb (wordAt w 0) 4) (failed (record { number = number; kind = wordAt w 2; place = wordAt w 3 })) (alone number)))
+
+-- a reader by the library's calls: three zeros are a new one
+abbrev pub readerBy : Library → Reader (List ℕ) (List ℕ)
+readerBy L =
+    record {
+      bytes = λ s. s;
+      new = λ s. 0 ∷ 0 ∷ 0 ∷ [];
+      next =
+          λ s r.
+          let a : Reply = L .nextEvent s r in
+          record { said = heardEvent (a .number) (lentAt a 1); reader = lentAt a 0 };
+    }
+
+abbrev pub threeOf : Numbers → List ℕ
+threeOf n = n .place ∷ n .start ∷ n .pending ∷ []
+
+-- of any input and from any three numbers on, call k says what our reader's says, every field of every event, every refusal with its place
+abbrev pub HearsReader : Library → Type 0
+HearsReader L = (s : List ℕ) (n : Numbers) (k : ℕ) → saysAt (readerBy L) s (threeOf n) k ≡ saysAt ourReader s n k
+
+pub record HearsOurs (L : Library) : Type 0 where
+  pub decoder : HearsDecoder L
+  pub encode : HearsEncode L
+  pub encoder : HearsEncoder L
+  pub reader : HearsReader L
+
+-- ---- the marks, of what is linked
+
+-- each payload is made of bytes
+abbrev pub JobsOfBytes : List Job → Type 0
+JobsOfBytes [] = Unit {0}
+JobsOfBytes (j ∷ js) = AreBytes (j .payload) × JobsOfBytes js
+
+-- mark 2's soundness, and mark 3 with the library's own encode
+pub record MarksBy (L : Library) : Type 0 where
+  pub soundness : (C : Setup) (k : KeptByCaller) (m : List ℕ) → CallerBegins C k m
+      → (decoderBy L k .payloadOf (decoderBy L k .new C) m ≡ []) × ((os : List Op) (o : Op) → PushesBytes (os ++ o ∷ []) → SoundBehind (decoderBy L k) C m os o)
+  pub mark3 : (C : Setup) (k : KeptByCaller) (m : List ℕ) → CallerBegins C k m → length m ≡ C .capacity
+      → (before : List Op) (j : Job) (js : List Job) → PushesBytes before → JobsOfBytes (j ∷ js) → AllSuit C (j ∷ js) → HeardBehindZeros (decoderBy L k) (encodeBy L) C m before j js
