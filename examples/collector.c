@@ -228,7 +228,7 @@ int main(int argc, char **argv)
     int in = STDIN_FILENO;
 
     if (argc == 2 && strcmp(path, "-h") == 0)
-        return fputs(help, stdout) < 0 ? 2 : 0;
+        return fputs(help, stdout) < 0 || !flushed() ? fail("output") : 0;
     if (argc > 2 || (path[0] == '-' && path[1] != '\0')) {
         fputs("usage: collector [-h] [FILE]\n", stderr);
         return 2;

@@ -126,13 +126,19 @@ static int fail(const char *path, const char *what)
     return 2;
 }
 
+/* The status behind the last words: those that wait to be written may find no room. */
+static int written(int answer)
+{
+    return answer < 0 || fflush(stdout) != 0 || ferror(stdout) ? fail("output", strerror(errno)) : 0;
+}
+
 int main(int argc, char **argv)
 {
     const char *path = argc > 1 ? argv[1] : "-";
     FILE *in = stdin;
 
     if (argc == 2 && strcmp(path, "-h") == 0)
-        return fputs(help, stdout) < 0 ? 2 : 0;
+        return written(fputs(help, stdout));
     if (argc > 2 || (path[0] == '-' && path[1] != '\0')) {
         fputs("usage: host [-h] [FILE]\n", stderr);
         return 2;
@@ -146,5 +152,5 @@ int main(int argc, char **argv)
         return fail(path, "a recording of a megabyte or more");
     play_all(len);
     print_all();
-    return fflush(stdout) != 0 || ferror(stdout) ? fail("output", strerror(errno)) : 0;
+    return written(0);
 }

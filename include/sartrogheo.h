@@ -57,18 +57,18 @@ typedef struct {
    Gives 0; 4 for an unknown way, else 5 for a capacity over SGH_LIMIT, which leave `d` as it is. */
 uint32_t sgh_decoder_new(sgh_decoder *d, size_t capacity, uint8_t way);
 
-/* What an answer says goes to the first of `values`, and the rest stay as they are:
-   SGH_PAYLOAD: its length. SGH_DISCARDED_BYTES: how many. SGH_INVALID_ESC: the four bytes, one in each.
+/* What an answer says goes to the first of `values`, which is never null, and the rest stay as they are:
+   SGH_PAYLOAD: its length. SGH_DISCARDED_BYTES: how many; a count stops at 4,294,967,295. SGH_INVALID_ESC: the four bytes, one in each.
    SGH_INVALID_MESSAGE: CRC read, CRC computed, 1 if misaligned, number of padding bytes.
-   sgh_reset's 0: how many bytes are lost. All else: nothing. */
+   sgh_reset's 0: how many bytes are lost, which stops there too. All else: nothing. */
 #define SGH_VALUES 4u
 
 /* Pushes a byte. Gives 0, SGH_PAYLOAD, 3 to 8. The buffer is the decoder's own: lend the same one each time, and let nobody else write it.
-   4 and 5 leave decoder and buffer as they are. Behind 3, 7 and 8 it searches again (3 leaves the buffer as it is, 7 and 8 have stored the byte); behind 6 a frame has begun. */
+   4, then 5, are judged first, and leave decoder and buffer as they are. Behind 3, 7 and 8 it searches again (3 leaves the buffer as it is, 7 and 8 have stored the byte); behind 6 a frame has begun. */
 uint32_t sgh_push_byte(sgh_decoder *d, uint8_t *buf, size_t len, uint8_t byte, uint64_t values[SGH_VALUES]);
 
 /* Pushes bytes up to and with the first that has something to say, and writes how many it took. Gives what that byte's push gives, or 0 if all were taken;
-   4 and 5 take none. Push the rest again, from chunk + taken on. */
+   4 and 5 take none, and are given of an empty slice too. Push the rest again, from chunk + taken on. */
 uint32_t sgh_push_slice(sgh_decoder *d, uint8_t *buf, size_t len, const uint8_t *chunk, size_t chunk_len, size_t *taken, uint64_t values[SGH_VALUES]);
 
 /* The length of the payload that stands in the buffer, from the push that said it to the next call that changes the decoder.
@@ -94,7 +94,7 @@ typedef struct {
 /* Makes an Encoder that gave nothing yet. */
 void sgh_encoder_new(sgh_encoder *e);
 
-/* The frame's next byte. Gives 0 and the byte; SGH_FINISHED, 1 or 4, which leave both as they are. */
+/* The frame's next byte. Gives 0 and the byte; SGH_FINISHED, or 1, else 4, which leave both as they are. */
 uint32_t sgh_encoder_next(sgh_encoder *e, const uint8_t *payload, size_t payload_len, uint8_t *byte);
 
 /* The CRC of the frames and messages: X25, as in the last two bytes of a frame, of which the low one comes first. */
@@ -102,7 +102,7 @@ uint16_t sgh_crc(const uint8_t *bytes, size_t len);
 
 /* ---- messages */
 
-/* Where a reader is: {0} is a new one. */
+/* Where a reader is: three zeros are a new one, {0} in C and {} in C++. */
 typedef struct {
     uint64_t place, start, pending;
 } sgh_reader;
@@ -215,9 +215,9 @@ typedef struct {
     };
 } sgh_event;
 
-/* The next event of a payload, and the reader behind it. Gives 0 for an event; SGH_FINISHED with SGH_NO_EVENT; 9 or 4, which leave the reader as it is;
+/* The next event of a payload, and the reader behind it. Gives 0 for an event; SGH_FINISHED with SGH_NO_EVENT; 9, else 4, which leave the reader as it is;
    10 to 15, which drop the rest of the input. `event` is written whole each time. Lend the same input at every call, and stop at the first refusal: SGH_FINISHED
-   need not follow one (behind one of 10 to 15 inside a message every later call gives 10). A message's CRC is judged behind its last event. */
+   need not follow one (behind one of 10 to 15, once the message's start was given, every later call gives 10). A message's CRC is judged behind its last event. */
 uint32_t sgh_next_event(const uint8_t *input, size_t len, sgh_reader *reader, sgh_event *event);
 
 #ifdef __cplusplus

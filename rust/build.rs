@@ -21,7 +21,9 @@ fn beside() -> Option<PathBuf> {
 
 /// The folder with the archive. The one beside the crate is looked at for x86-64 Linux with pointers of 64 bits alone: the archive is compiled for nothing else.
 fn found() -> PathBuf {
-    if let Some(folder) = env::var_os("SARTROGHEO_LIB_DIR").map(PathBuf::from) {
+    if let Some(told) = env::var_os("SARTROGHEO_LIB_DIR").filter(|told| !told.is_empty()) {
+        // cargo runs this in the crate's folder, so that a relative path is not taken from where cargo was called
+        let folder = env::current_dir().unwrap_or_default().join(told);
         if !folder.join(ARCHIVE).is_file() {
             refuse(&format!("no {ARCHIVE} in SARTROGHEO_LIB_DIR, {}", folder.display()));
         }

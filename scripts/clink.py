@@ -12,7 +12,9 @@ sys.dont_write_bytecode = True
 import programs
 
 ROOT = programs.ROOT
-LIBRARY, SECONDS = "sartrogheo", 400
+LIBRARY = "sartrogheo"
+# what a run of rt does, and how long that takes on two cores that have nothing else to do
+DOING, SECONDS = {"check": "proving", "staticlib": "compiling"}, {"check": 200, "staticlib": 60}
 REPLAY = os.path.join(ROOT, "target/library/replay")
 # C11 as any compiler takes it; the toolchain's has no headers of its own, and must not find the machine's
 PLAIN = ["-Wall", "-Wextra", "-Werror", "-O2", "-nostdinc", "-isystem", os.path.join(ROOT, "scripts/headers")]
@@ -26,7 +28,7 @@ def tools(*path):
 
 
 def rt(command, name):
-    """A run of rt, which may have to prove; its words are shown where it fails."""
+    """A run of rt, check or staticlib, which both may have to prove; its words are shown where it fails."""
     try:
         run = subprocess.Popen(["rt", command, name], cwd=ROOT, stdin=subprocess.DEVNULL, stdout=subprocess.PIPE, stderr=subprocess.STDOUT)
     except FileNotFoundError:
@@ -34,7 +36,7 @@ def rt(command, name):
     try:
         said = run.communicate(timeout=5)[0]
     except subprocess.TimeoutExpired:
-        print(f"proving {name}, once; up to {SECONDS} seconds", file=sys.stderr, flush=True)
+        print(f"{DOING[command]} {name}, once; about {SECONDS[command]} seconds", file=sys.stderr, flush=True)
         said = run.communicate()[0]
     if run.returncode != 0:
         print(b"\n".join(said.split(b"\n")[-20:]).decode(errors="replace"), file=sys.stderr)

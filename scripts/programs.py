@@ -10,6 +10,10 @@ ANSWERS = {word: name for name, words in COMMANDS.items() for word in words}
 VECTORS = {LIBRARY: "replay", "replay_parts": "crates/replay_parts"}
 
 
+# how a line begins that a command of bin/ may write to standard error while it makes ready: on a slow machine, or the first time
+MAKING_READY = ("waiting for another command of bin/", "proving ", "compiling ")
+
+
 def turn():
     """The lock of this directory, held until it is closed: two checks at once disturb each other, and the commands of a pipe begin at once."""
     lock, began, told = os.open(ROOT, os.O_RDONLY), time.monotonic(), False

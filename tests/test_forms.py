@@ -71,7 +71,7 @@ with tempfile.TemporaryDirectory() as tmp:
     wrong_answers.copied(tmp)
     layout = subprocess.run(["rt", "fmt", "--check"], cwd=tmp, capture_output=True, text=True)
     if layout.returncode != 0:
-        bad.append("not in the layout of rt fmt, of crates and tests/forms: " + layout.stdout[-500:])
+        bad.append("not in the layout of rt fmt, of crates and tests/forms: " + (layout.stdout + layout.stderr)[-500:])
     interpreted = sum(held(f"batch {k}", tmp, part) for k, part in enumerate(batches([*chosen, ("limits", wrong_answers.limits()[:-1])])))
 if interpreted < 50:
     bad.append(f"the interpreter gave {interpreted} answers")

@@ -428,8 +428,9 @@ def used(name, program, folder):
         held(f"{name} {words}", ran([*program, *words]), (2, f"usage: {name} [-h] [FILE]\n"))
     held(f"{name}, no file", ran([*program, os.path.join(folder, "none")]), (2, f"{name}: {folder}/none: No such file or directory\n"))
     held(f"{name}, a folder", ran([*program, folder]), (2, f"{name}: {folder}: Is a directory\n"))
-    full = subprocess.run([*program, os.path.join(folder, "damaged.bin")], stdout=open("/dev/full", "w"), stderr=subprocess.PIPE, text=True)
-    held(f"{name}, no room for the output", (full.returncode, full.stderr), (2, f"{name}: output: No space left on device\n"))
+    for word in (os.path.join(folder, "damaged.bin"), "-h"):
+        full = subprocess.run([*program, word], stdout=open("/dev/full", "w"), stderr=subprocess.PIPE, text=True)
+        held(f"{name} {os.path.basename(word)}, no room for the output", (full.returncode, full.stderr), (2, f"{name}: output: No space left on device\n"))
 
 
 def examples(folder):
@@ -520,9 +521,10 @@ def installed(folder):
         os.makedirs(os.path.dirname(os.path.join(first, old)), exist_ok=True)
         open(os.path.join(first, old), "w").close()
     for _ in range(2):
-        status, output = ran(["scripts/install", first])
+        status, output = ran(["sh", "-c", "umask 077; exec scripts/install \"$1\"", "sh", first])
         # a line before it tells where another command proves
         held("scripts/install", (status, output.split("\n")[-2:]), (0, [f"installed into {first}", ""]))
+    held("scripts/install, for all to read", {os.stat(os.path.join(at, name)).st_mode & 0o777 for at, folders, names in os.walk(os.path.join(first, "include")) for name in names + folders + ["."]}, {0o644, 0o755})
     held("scripts/install leaves what is another's", os.path.exists(os.path.join(first, "lib/other.a")), True)
     os.remove(os.path.join(first, "lib/other.a"))
     os.makedirs(os.path.dirname(moved))
@@ -627,7 +629,7 @@ def page_is(folder, moved, exports):
 def asked_wrongly():
     status, output = ran(["scripts/install", "-h"])
     held("scripts/install -h", (status, output[:8]), (0, "install "))
-    for words in ([], ["-x"], ["a", "b"]):
+    for words in ([], [""], ["-x"], ["a", "b"]):
         held(f"scripts/install {words}", ran(["scripts/install", *words]), (2, "usage: scripts/install [-h] FOLDER\n"))
 
 

@@ -4,7 +4,7 @@ import os, random, re, select, subprocess, sys
 sys.dont_write_bytecode = True
 os.chdir(os.path.join(os.path.dirname(os.path.abspath(__file__)), ".."))
 sys.path.append("scripts")
-from programs import COMMANDS, LIBRARY, VECTORS
+from programs import COMMANDS, LIBRARY, MAKING_READY, VECTORS
 
 faults, count = [], 0
 
@@ -18,7 +18,12 @@ def same(what, said, wanted):
 
 def started(name, given, *words):
     run = subprocess.run(["bin/" + name, *words], input=given, capture_output=True)
-    return run.returncode, run.stdout, run.stderr
+    return run.returncode, run.stdout, told(run.stderr)
+
+
+def told(errors):
+    """What is left on standard error beside what is said while a command makes ready."""
+    return b"".join(line for line in errors.splitlines(keepends=True) if not line.startswith(tuple(map(str.encode, MAKING_READY))))
 
 
 def live(name, parts, *words):
@@ -47,8 +52,8 @@ examples = re.findall(r"^    > (.*)\n    (.*)$", page, re.M)
 said = answers("".join(c + "\n" for c, _ in examples).encode()).decode().split("\n")
 for (command, answer), line in zip(examples, said + [""] * len(examples)):
     same(f"docs/REPLAY.md: {command}", line, answer)
-told = dict(re.findall(r"^\| `((?:replay|crates)/\w+).*\| (.*) \|$", page, re.M))
-same("who answers, on the page", {folder: re.findall(r"`(\w+)`", c) for folder, c in told.items()}, {"replay/replay": COMMANDS[LIBRARY], "crates/replay_parts": COMMANDS["replay_parts"]})
+named = dict(re.findall(r"^\| `((?:replay|crates)/\w+).*\| (.*) \|$", page, re.M))
+same("who answers, on the page", {folder: re.findall(r"`(\w+)`", c) for folder, c in named.items()}, {"replay/replay": COMMANDS[LIBRARY], "crates/replay_parts": COMMANDS["replay_parts"]})
 tables = {LIBRARY: re.findall(r'^    \{"(\w+)", takes_', open("replay/replay.c").read(), re.M)}
 tables["replay_parts"] = re.search(r'match find\(\s*b"([\w,]+)"', open("crates/replay_parts/src/main.rt").read()).group(1).split(",")
 same("the tables of commands", tables, COMMANDS)
@@ -105,14 +110,17 @@ for words in ["-3"], ["-22"], ["2"], ["-2", "-3"], ["-2", "target/compare/none.i
 same("replay -2", started("replay", b"crc 31", "-2")[:2], (2, b""))
 live("smlcat", [(frame, b"payload 12345678\n"), (b"\x1b" + frame[:8], b"discarded 1\n"), (frame[8:], b"payload 12345678\n")], "-2")
 for command in "bin/wrong | head -n 1", "yes crc 31 | head -n 20000 | bin/replay | head -n 1":
-    same(f"{command}, on standard error", subprocess.run(["sh", "-c", command], capture_output=True).stderr, b"")
-# the commands of a pipe begin at once, and each looks whether its program is proved; on a slow machine one may say that it waits
+    same(f"{command}, on standard error", told(subprocess.run(["sh", "-c", command], capture_output=True).stderr), b"")
+# a closed or full output and a closed input are told
+for words, said in ["bin/replay >/dev/full", b"replay: output: No space left on device\n"], ["bin/replay >&-", b"replay: output: Bad file descriptor\n"], ["bin/replay <&-", b"replay: input: Bad file descriptor\n"]:
+    run = subprocess.run(["sh", "-c", words], input=b"crc 31\n", capture_output=True)
+    same(words, (run.returncode, told(run.stderr)), (2, said))
+# the commands of a pipe begin at once, and each looks whether its program is proved
 pipe = "bin/smlcat captures/two-byte-length.bin | sed -n 's/^payload/places/p' | bin/replay | sed 's/ | .*//'"
 at_once = [subprocess.Popen(["sh", "-c", pipe], stdout=subprocess.PIPE, stderr=subprocess.PIPE) for _ in range(4)]
 for run in at_once:
     out, said = run.communicate()
-    told = [line for line in said.splitlines() if not line.startswith(b"waiting for another command of bin/")]
-    same(pipe, (out, told), (b"open tid=x032b180f group=0 abort=0 codepage=- client=- file=x010e5d5b server=x090149534b0004112233 time=- version=-\n", []))
+    same(pipe, (out, told(said)), (b"open tid=x032b180f group=0 abort=0 codepage=- client=- file=x010e5d5b server=x090149534b0004112233 time=- version=-\n", b""))
 same("bin/wrong of an unknown name", (lambda r: (r.returncode, r.stdout))(subprocess.run(["bin/wrong", "no_such_reading"], capture_output=True)), (2, b""))
 print("\n".join(faults[:20]))
 print(f"{count} answers held, {len(examples)} of them on the page, {len(faults)} faults")

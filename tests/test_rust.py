@@ -80,13 +80,15 @@ def script():
     cases = [(x86, "repository/rust", None, repository), (x86, "installed/share/sartrogheo/rust", None, installed), ("aarch64 linux 64", "repository/rust", installed, installed),
              ("x86_64 linux 32", "foreign/rust", installed, installed), (x86, "foreign/rust", None, none), (x86, "installed/share/other/rust", None, none), (x86, "installed/a/b/sartrogheo", None, none),
              (x86, "nowhere/share/sartrogheo/rust", None, f"in {room}/nowhere/lib: build it"), (x86, "repository/rust", room, f"SARTROGHEO_LIB_DIR, {room}"),
+             (x86, "repository/rust", "", repository), (x86, "repository/rust", "../../installed/lib", f"{room}/repository/rust/../../installed/lib"), (x86, "repository/rust", "lib", f"SARTROGHEO_LIB_DIR, {room}/repository/rust/lib\n"),
              *((other, "repository/rust", None, f"this is {other}: set") for other in ("aarch64 linux 64", "x86_64 windows 64", "x86_64 linux 32"))]
     for target, own, told, wanted in cases:
-        given = {"CARGO_MANIFEST_DIR": f"{room}/{own}", **{f"CARGO_CFG_TARGET_{part}": word for part, word in zip(("ARCH", "OS", "POINTER_WIDTH"), target.split())}, **({"SARTROGHEO_LIB_DIR": told} if told else {})}
-        done = subprocess.run([program], env=given, capture_output=True, text=True)
+        given = {"CARGO_MANIFEST_DIR": f"{room}/{own}", **{f"CARGO_CFG_TARGET_{part}": word for part, word in zip(("ARCH", "OS", "POINTER_WIDTH"), target.split())}, **({} if told is None else {"SARTROGHEO_LIB_DIR": told})}
+        os.makedirs(f"{room}/{own}", exist_ok=True)
+        done = subprocess.run([program], env=given, cwd=f"{room}/{own}", capture_output=True, text=True)
         linked = done.returncode == 0 and f"cargo:rustc-link-search=native={wanted}\ncargo:rustc-link-lib=static=sartrogheo\n" in done.stdout
         refused = done.returncode == 1 and wanted in done.stderr
-        if not (linked if wanted in (repository, installed) else refused):
+        if not (linked if os.path.normpath(wanted) in (repository, installed) else refused):
             faults.append(f"build.rs with {given}: {done}")
 
 

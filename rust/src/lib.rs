@@ -1,7 +1,7 @@
 //! SML meter frames (transport version 1) and messages: the names of crate sml-rs 0.4.0 over libsartrogheo.a, in which every function is proved.
 //!
 //! Any bytes may come in: no call here panics because of what was read, and every call ends, if an iterator that it is given does. The events of a
-//! [`Parser`](parser::streaming::Parser) need not end, as in sml-rs: behind a refusal inside a message it gives `UnexpectedEOF` for ever, and
+//! [`Parser`](parser::streaming::Parser) need not end, as in sml-rs: behind a refusal that comes once its message's start was given it gives `UnexpectedEOF` for ever, and
 //! [`until_refused`](parser::streaming::Parser::until_refused) is the form that ends. `transport::decode` alone, of feature `alloc`, ends the program where memory runs out.
 //!
 //! [`transport`] takes frames apart and makes them, [`parser`] reads the messages in a payload. docs/MOVING.md goes from sml-rs to this crate call by call.

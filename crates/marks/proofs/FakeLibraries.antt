@@ -2,13 +2,12 @@
 use mathlib.Core.Path.{_≡_, refl, ap}
 use mathlib.Core.List.{List, [], _∷_}
 use mathlib.Core.Option.{Option, some, none}
-use Prim.Native.Nat.{ℕ, zero, suc, _<_}
+use Prim.Native.Nat.{ℕ, zero, suc}
 use native.Mathlib.Omega.{arith}
 use lib.IntN.{ℤ, pos, negsuc}
 use lib.ListN.{length, getD, replicate}
 use Rattle.crc_x25.specs.Crc.{reflect, polynomial, bitStep, bitSteps, byteStep, register}
 use Rattle.refusals.specs.Read.{then, guard, need, byteAt, spanAt}
-use Rattle.refusals.specs.declared.Span.{Span}
 use Rattle.frame.specs.Frame.{same, escaped, closed, frameOf}
 use Rattle.encoder.specs.Encode.{EncodeAnswer, length-is, noFrame, AfterEncode, encodeTo}
 use Rattle.encoder.specs.Encoder.{NextAnswer, byte, finished, noByte, freshEncoder, stepFrom, badEncoder, nextStep}
@@ -27,14 +26,13 @@ use Rattle.common.specs.Fields.{entryAt}
 use Rattle.message.specs.Messages.{startAt}
 use Rattle.streaming.specs.Next.{startEvent, entryEvent, endEvent, Said, event, noEvent, failed, alone, onward, beginAt, entryNext, stepAt, nextAt}
 use Rattle.words.specs.Words.{withZeros}
-use Rattle.sartrogheo.specs.Calls.{sghDecoderNew, sghPushByte, sghPushSlice, sghPayload, sghFinalize, sghEncode}
+use Rattle.sartrogheo.specs.Calls.{sghDecoderNew, sghPushByte, sghPushSlice, sghFinalize}
 use Rattle.sartrogheo.specs.Streams.{encoderIn, sghEncoderNew, sghEncoderNext, sghNextEvent}
-use Rattle.marks.specs.Decoders.{answers, leftBehind}
 use Rattle.marks.specs.Encoders.{callsOf}
 use Rattle.marks.specs.Events.{saysAt}
 use Rattle.marks.specs.Packed.{AreBytes}
-use Rattle.marks.specs.Library.{KeptByCaller, keptByCaller, CallerBegins, HearsDecoder, HearsEncode, HearsEncoder, HearsReader}
-use Rattle.marks.specs.FakeLibraries.{keepsValues, handsBuffer, leavesLast, encodesNothing, forgetsCount, losesPlace, losesSign, FallLibraries}
+use Rattle.marks.specs.Library.{KeptByCaller, keptByCaller, oneOp, slice, HeardUse, heardUse, usesSay, usesLeave, CallerBegins, HearsDecoder, HearsEncode, HearsEncoder, HearsReader}
+use Rattle.marks.specs.FakeLibraries.{keepsValues, handsBuffer, leavesLast, forgetsSlice, encodesNothing, forgetsCount, losesPlace, losesSign, FallLibraries}
 
 abbrev blank : KeptByCaller
 blank = keptByCaller (replicate 28 0) (replicate 4 0)
@@ -47,26 +45,33 @@ zeros-bytes (suc k) (suc i) = zeros-bytes k i
 caller-begins : CallerBegins (sized 8) blank (replicate 8 0)
 caller-begins = record { way = isFirst refl; capacity = omega arith; bytes′ = refl; values′ = refl; buffer = zeros-bytes 8 }
 
--- the first value of the second answer
-secondValue : List DecoderAnswer → ℕ
-secondValue [] = 0
-secondValue (a ∷ []) = 0
-secondValue (a ∷ nothing ∷ more) = 0
-secondValue (a ∷ payload bytes ∷ more) = 0
-secondValue (a ∷ count n ∷ more) = n
-secondValue (a ∷ refusal n values ∷ more) = getD values 0 0
+-- the first value that an answer has
+valueOf′ : DecoderAnswer → ℕ
+valueOf′ nothing = 0
+valueOf′ (payload bytes) = 0
+valueOf′ (count n) = n
+valueOf′ (refusal n values) = getD values 0 0
+
+-- what the use with this number says
+nthUse : ℕ → List HeardUse → HeardUse
+nthUse n l = getD l n (heardUse nothing 0)
 
 keeps-values : HearsDecoder keepsValues → ⊥
-unfolding answers act sghDecoderNew sghPushByte sghFinalize unpackOf packInto badDecoder packedIn packedBytes lowFirst recordIn numberAt stateIn same pushPacked finalizePacked pushRecord finalizeRecord finalized pushed wrongBuffer wrote step searching secondValue
-keeps-values h = let n : _≡_ {A = ℕ} 0 1 = ap secondValue (h (sized 8) blank (replicate 8 0) (push 0 ∷ finalize ∷ []) caller-begins (omega arith, tt) .0) in omega (arith, n)
+unfolding usesSay act sghDecoderNew sghPushByte sghFinalize unpackOf packInto badDecoder packedIn packedBytes lowFirst recordIn numberAt stateIn same pushPacked finalizePacked pushRecord finalizeRecord finalized pushed wrongBuffer wrote step searching valueOf′ nthUse
+keeps-values h = let n : _≡_ {A = ℕ} 0 1 = ap (λ (l : List HeardUse). valueOf′ (nthUse 1 l .answer)) (h (sized 8) blank (replicate 8 0) (oneOp (push 0) ∷ oneOp finalize ∷ []) caller-begins ((omega arith, tt), (tt, tt)) .0) in omega (arith, n)
 
 hands-buffer : HearsDecoder handsBuffer → ⊥
-unfolding leftBehind payloadRecord hasPayload badDecoder wrongBuffer
+unfolding usesLeave payloadRecord hasPayload badDecoder wrongBuffer
 hands-buffer h = let n : _≡_ {A = ℕ} 8 0 = ap length (h (sized 8) blank (replicate 8 0) [] caller-begins tt .2) in omega (arith, n)
 
 leaves-last : HearsDecoder leavesLast → ⊥
-unfolding leftBehind sghDecoderNew sghPushSlice unpackOf packInto badDecoder packedIn packedBytes lowFirst recordIn numberAt stateIn same slicePacked sliceRecord pushesFrom pushRecord pushed wrongBuffer wrote step searching
-leaves-last h = let n : _≡_ {A = ℕ} 0 1 = h (sized 8) blank (replicate 8 0) [] caller-begins tt .3 (0 ∷ []) .1 in omega (arith, n)
+unfolding usesSay sghDecoderNew sghPushSlice unpackOf packInto badDecoder packedIn packedBytes lowFirst recordIn numberAt stateIn same slicePacked sliceRecord pushesFrom pushRecord pushed wrongBuffer wrote step searching nthUse
+leaves-last h = let n : _≡_ {A = ℕ} 0 1 = ap (λ (l : List HeardUse). nthUse 0 l .taken) (h (sized 8) blank (replicate 8 0) (slice (0 ∷ []) ∷ []) caller-begins (zeros-bytes 1, tt) .0) in omega (arith, n)
+
+-- 00 by a slice, and finalize: one byte is lost
+slice-forgets : HearsDecoder forgetsSlice → ⊥
+unfolding usesSay act sghDecoderNew sghPushSlice sghFinalize unpackOf packInto badDecoder packedIn packedBytes lowFirst recordIn numberAt stateIn same slicePacked finalizePacked sliceRecord pushesFrom pushRecord finalizeRecord finalized pushed wrongBuffer wrote step searching valueOf′ nthUse
+slice-forgets h = let n : _≡_ {A = ℕ} 0 1 = ap (λ (l : List HeardUse). valueOf′ (nthUse 1 l .answer)) (h (sized 8) blank (replicate 8 0) (slice (0 ∷ []) ∷ oneOp finalize ∷ []) caller-begins (zeros-bytes 1, (tt, tt)) .0) in omega (arith, n)
 
 lengthOf : EncodeAnswer → ℕ
 lengthOf (length-is n) = n
@@ -122,6 +127,7 @@ fall-libraries =
       keeps-values = keeps-values;
       hands-buffer = hands-buffer;
       leaves-last = leaves-last;
+      slice-forgets = slice-forgets;
       encodes-nothing = encodes-nothing;
       forgets-count = forgets-count;
       loses-place = loses-place;

@@ -1,10 +1,9 @@
 -- What a call's number, its values and the buffer say is the decoder's answer.
 use mathlib.Core.Path.{_≡_, refl, ap, sym, _∙_}
-use mathlib.Core.Bool.{true, false, cond}
-use mathlib.Core.List.{List, [], _∷_, _++_}
-use Prim.Native.Nat.{ℕ, zero, suc, _+_, _≤_, _<_}
+use mathlib.Core.Bool.{true, false}
+use mathlib.Core.List.{List, [], _∷_}
+use Prim.Native.Nat.{ℕ, suc, _+_, _≤_}
 use native.Mathlib.Omega.{arith}
-use native.Mathlib.Nat.{zero-add}
 use lib.ListN.{length, take, drop, getD, set}
 use lib.Seq.{sets, sets-eq, length-sets, take-append-seam}
 use lib.Dec.{eqb}
@@ -12,12 +11,12 @@ use borrow.Author.Tests.{ne-eqb}
 use Rattle.refusals.specs.Numbers.{badStateNo, wrongBufferNo}
 use Rattle.decoder.specs.Push as P
 use Rattle.decoder.specs.Push.{State, search, body, escape, done, step, finalized, resetCount}
-use Rattle.decoder.specs.Record.{DecoderAnswer, nothing, payload, count, refusal, After, after, numbered, setup, stateOf, badDecoder, wrongBuffer, pushed, pushRecord, finalizeRecord, resetRecord, hasPayload, payloadRecord}
+use Rattle.decoder.specs.Record.{DecoderAnswer, nothing, payload, count, refusal, after, numbered, setup, stateOf, badDecoder, wrongBuffer, pushRecord, finalizeRecord, resetRecord}
 use Rattle.decoder.specs.declared.Decoder.{Decoder}
 use Rattle.decoder.proofs.Split.{cases}
 use Rattle.decoder.proofs.Faithful.{Fit, push-is-step}
 use Rattle.decoder.proofs.Payload.{payload-leaves, got-done}
-use Rattle.decoder_slice.specs.Slice.{Took, saysNothing, pushesFrom, sliceRecord}
+use Rattle.decoder_slice.specs.Slice.{saysNothing, pushesFrom, sliceRecord}
 use Rattle.packed.specs.Packed.{Unpacked, holds, noRecord, unpackOf, pushHeld, pushPacked, sliceHeld, slicePacked, leftHeld, finalizePacked, resetPacked}
 use Rattle.sartrogheo.specs.Calls.{answerNo, answerValues, valuesBy}
 use Rattle.marks.specs.Library.{valuesOf, heardAnswer, heardReset}

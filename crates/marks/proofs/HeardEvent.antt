@@ -1,7 +1,7 @@
 -- What an event's numbers say is the event: every field is read back.
-use mathlib.Core.Path.{_≡_, refl, ap, sym, _∙_}
-use mathlib.Core.Bool.{Bool, true, false, cond}
-use mathlib.Core.List.{List, [], _∷_, _++_}
+use mathlib.Core.Path.{_≡_, refl, ap}
+use mathlib.Core.Bool.{true, false, cond}
+use mathlib.Core.List.{List, [], _∷_}
 use mathlib.Core.Option.{Option, some, none}
 use Prim.Native.Nat.{ℕ, zero, suc, _+_, _*_, _-_, _^_, _≤_, _<_}
 use native.Mathlib.Omega.{arith}
@@ -26,13 +26,13 @@ use Rattle.common.specs.Fields.{ListEntry, entryAt}
 use Rattle.decoder.proofs.Split.{cases}
 use Rattle.message.specs.Messages.{MessageStart, ListEnd, Body, openBody, closeBody, listBody, startAt, listEndAt}
 use Rattle.trailer.specs.Trailer.{trailerAt}
-use Rattle.streaming.specs.Next.{MessageEvent, startEvent, entryEvent, endEvent, Said, event, noEvent, failed, alone, ReaderAfter, onward, isSound, beginAt, trailerNext, endNext, entryNext, stepAt, nextAt}
-use Rattle.places.specs.Stands.{Stands, over, badLength, unwanted, messageTag, timeTag, otherCrc, otherEnd, Broke}
+use Rattle.streaming.specs.Next.{startEvent, entryEvent, endEvent, Said, event, noEvent, failed, alone, ReaderAfter, onward, isSound, beginAt, trailerNext, endNext, entryNext, stepAt, nextAt}
+use Rattle.places.specs.Stands.{Stands, over, badLength, unwanted, messageTag, timeTag, otherCrc, otherEnd}
 use Rattle.places.specs.Calls.{CallBroke, inStart, inTrailer, inNextStart, inListEnd, inEntry}
 use Rattle.places.proofs.Calls.{call-broke}
-use Rattle.words.specs.Words.{twosComplement, signedWord, spanWords, statusWords, numberWord, fieldWords, valueWords, bodyWords, startWords, endWords, entryWords, saidWords, withZeros, eventWords}
+use Rattle.words.specs.Words.{twosComplement, signedWord, spanWords, statusWords, numberWord, fieldWords, valueWords, startWords, endWords, entryWords, withZeros, eventWords}
 use Rattle.sartrogheo.specs.Streams.{readerNo}
-use Rattle.marks.specs.Library.{wordAt, signedIn, spanIn, statusIn, valueIn, fieldIn, bodyIn, eventIn, heardEvent}
+use Rattle.marks.specs.Library.{wordAt, eventIn, heardEvent}
 
 -- ---- numbers below 0
 

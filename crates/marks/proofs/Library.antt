@@ -1,15 +1,15 @@
 -- A caller of the library hears what is said of a decoder, an encode, an Encoder and a reader by value.
-use mathlib.Core.Path.{_≡_, refl, ap, sym, subst, _∙_}
-use mathlib.Core.Bool.{true, false, cond}
+use mathlib.Core.Path.{_≡_, refl, ap, sym, _∙_}
+use mathlib.Core.Bool.{false, cond}
 use mathlib.Core.List.{List, [], _∷_, _++_}
 use Prim.Native.Nat.{ℕ, zero, suc, _+_, _-_, _≤_, _<_}
 use native.Mathlib.Omega.{arith}
 use lib.IntN.{ℤ, pos, negsuc, sucℤ, negℤ, _-ℤ_}
 use lib.ListN.{length, take, getD, replicate}
 use lib.Dec.{eqb, ltb, leb}
-use borrow.Author.Tests.{le-ltb, ltb-false, ltb-true, leb-false, lt-ltb}
+use borrow.Author.Tests.{le-ltb, ltb-false, ltb-true, leb-false}
 use Rattle.refusals.specs.Numbers.{limit}
-use Rattle.crc_x25.specs.Crc.{start, register}
+use Rattle.crc_x25.specs.Crc.{start}
 use Rattle.crc_x25.proofs.Laws.{byte-fits}
 use Rattle.frame.specs.Frame.{escSeq, startSeq, missing, frameOf}
 use Rattle.encoder.specs.Encode.{encodeTo}
@@ -17,27 +17,22 @@ use Rattle.encoder.specs.Encoder.{NextAnswer, byte, finished, noByte, encoderAt
 use Rattle.encoder.specs.declared.Encoder.{Encoder}
 use Rattle.encoder.specs.declared.EncoderState.{EncoderState}
 use Rattle.encoder.specs.declared.EncoderState.the-variants.{Init, LookingForEscape, HandlingEscape, End}
-use Rattle.decoder.specs.Record.{DecoderAnswer, newRecord, hasPayload, payloadRecord}
+use Rattle.decoder.specs.Record.{newRecord, hasPayload, payloadRecord}
 use Rattle.decoder.specs.Run.{Op, push, finalize, reset}
-use Rattle.decoder.specs.declared.Decoder.{Decoder}
-use Rattle.decoder.specs.declared.Setup.{Setup}
 use Rattle.decoder.proofs.Split.{cases}
 use Rattle.since.specs.Since.{AllBytes}
-use Rattle.streaming.specs.Next.{Said, ReaderAfter, nextAt}
-use Rattle.decoder_slice.specs.Slice.{Took, sliceRecord}
-use Rattle.packed.specs.Packed.{Filled, packInto, KeptSlice, Unpacked, holds, noRecord, unpackOf, pushPacked, slicePacked, finalizePacked, resetPacked, payloadHeld, payloadPacked}
+use Rattle.packed.specs.Packed.{packInto, Unpacked, holds, noRecord, unpackOf, pushPacked, slicePacked, finalizePacked, resetPacked, payloadHeld, payloadPacked}
 use Rattle.sartrogheo.specs.Calls.{goodNo, finishedNo, sghDecoderNew, sghPushByte, sghPushSlice, sghPayload, sghFinalize, sghReset, sghEncode}
 use Rattle.sartrogheo.specs.Streams.{encoderKind, endCount, encoderCount, encoderWords, stateOfKind, encoderIn, sghEncoderNew, nextNo, wordsBehind, byteOr, sghEncoderNext, sghNextEvent}
-use Rattle.marks.specs.Decoders.{ours, answers, LeftBehind, leftBehind}
-use Rattle.marks.specs.Chunks.{GaveSlice}
-use Rattle.marks.specs.Packed.{AreBytes, actOver, ourHost, keptBy}
+use Rattle.marks.specs.Decoders.{LeftBehind}
+use Rattle.marks.specs.Packed.{AreBytes, actOver}
 use Rattle.marks.specs.Encoders.{ourEncoder, callsOf}
 use Rattle.marks.specs.Events.{Numbers, ourReader, saysAt, ReaderGives}
-use Rattle.marks.specs.Library.{ourLibrary, KeptByCaller, keptByCaller, actBy, decoderBy, sliceBy, HearsDecoder, encodeBy, HearsEncode, encoderBy, HearsEncoder, readerBy, threeOf, HearsReader, HearsOurs}
+use Rattle.marks.specs.Library.{ourLibrary, KeptByCaller, keptByCaller, actBy, decoderBy, sliceBy, slicerBy, Use, oneOp, slice, HeardUse, heardUse, usesSay, usesLeave, HearsDecoder, HearsEncode, encoderBy, HearsEncoder, readerBy, threeOf, HearsReader, HearsOurs}
 use Rattle.marks.proofs.Events.{reader-gives}
 use Rattle.marks.proofs.HeardEvent.{IsRefusal, not-good, not-finished, call-back}
 use Rattle.marks.proofs.HeardAnswer.{answer-heard, values-four, push-bytes-hearable, slice-bytes-hearable, finalize-bytes-hearable, reset-heard}
-use Rattle.marks.proofs.Packed.{KeptAlike, new-alike, kept-payload, slices-alike}
+use Rattle.marks.proofs.Packed.{hostSlicer, kept-payload, new-alike}
 use Rattle.marks.proofs.Narrow.{bytes-join, bytes-run, start-bytes, register-narrow}
 
 -- ---- a reader
@@ -200,25 +195,44 @@ acts-as k m finalize four =
 acts-as k m reset four =
     record { answer′ = reset-heard (k .bytes) (k .values) four; bytes′ = refl; memory′ = refl; four′ = values-four (resetPacked (k .bytes) .answer) (k .values) four }
 
--- operations one after another, too
-answers-as : (M : KeptByCaller) (os : List Op) (k : KeptByCaller) (m : List ℕ) → length (k .values) ≡ 4 → answers (decoderBy ourLibrary M) k m os ≡ answers (keptBy ourHost) (k .bytes) m os
-unfolding answers
-answers-as M [] k m four = refl
-answers-as M (o ∷ os) k m four =
+-- so is a push of a slice
+record SlicesAs (k : KeptByCaller) (m chunk : List ℕ) : Type 0 where
+  answer′ : sliceBy ourLibrary k m chunk .answer ≡ slicePacked (k .bytes) m chunk .answer
+  taken′ : sliceBy ourLibrary k m chunk .taken ≡ slicePacked (k .bytes) m chunk .taken
+  bytes′ : sliceBy ourLibrary k m chunk .decoder .bytes ≡ slicePacked (k .bytes) m chunk .bytes
+  memory′ : sliceBy ourLibrary k m chunk .memory ≡ slicePacked (k .bytes) m chunk .memory
+  four′ : length (sliceBy ourLibrary k m chunk .decoder .values) ≡ 4
+
+slices-as : (k : KeptByCaller) (m chunk : List ℕ) → length (k .values) ≡ 4 → SlicesAs k m chunk
+unfolding sghPushSlice
+slices-as k m chunk four =
+    record { answer′ = answer-heard _ (k .values) _ four (slice-bytes-hearable (k .bytes) m chunk); taken′ = refl; bytes′ = refl; memory′ = refl; four′ = values-four (slicePacked (k .bytes) m chunk .answer) (k .values) four }
+
+-- one after another, too
+uses-as : (M : KeptByCaller) (us : List Use) (k : KeptByCaller) (m : List ℕ) → length (k .values) ≡ 4 → usesSay (slicerBy ourLibrary M) k m us ≡ usesSay hostSlicer (k .bytes) m us
+unfolding usesSay
+uses-as M [] k m four = refl
+uses-as M (oneOp o ∷ us) k m four =
     let a = acts-as k m o four in
-    rw (a .answer′, ← a .bytes′, ← a .memory′) (ap (λ (l : List DecoderAnswer). actOver (k .bytes) m o .answer ∷ l) (answers-as M os (actBy ourLibrary k m o .decoder) (actBy ourLibrary k m o .memory) (a .four′)))
+    rw (a .answer′, ← a .bytes′, ← a .memory′) (ap (λ (l : List HeardUse). heardUse (actOver (k .bytes) m o .answer) 0 ∷ l) (uses-as M us (actBy ourLibrary k m o .decoder) (actBy ourLibrary k m o .memory) (a .four′)))
+uses-as M (slice chunk ∷ us) k m four =
+    let a = slices-as k m chunk four in
+    let t = slicePacked (k .bytes) m chunk in
+    rw (a .answer′, a .taken′, ← a .bytes′, ← a .memory′) (ap (λ (l : List HeardUse). heardUse (t .answer) (t .taken) ∷ l) (uses-as M us (sliceBy ourLibrary k m chunk .decoder) (sliceBy ourLibrary k m chunk .memory) (a .four′)))
 
 record LeavesAs (x : LeftBehind KeptByCaller) (y : LeftBehind (List ℕ)) : Type 0 where
   bytes″ : x .decoder .bytes ≡ y .decoder
   memory″ : x .memory ≡ y .memory
-  four″ : length (x .decoder .values) ≡ 4
 
-leaves-as : (M : KeptByCaller) (os : List Op) (k : KeptByCaller) (m : List ℕ) → length (k .values) ≡ 4 → LeavesAs (leftBehind (decoderBy ourLibrary M) k m os) (leftBehind (keptBy ourHost) (k .bytes) m os)
-unfolding leftBehind
-leaves-as M [] k m four = record { bytes″ = refl; memory″ = refl; four″ = four }
-leaves-as M (o ∷ os) k m four =
+leaves-as : (M : KeptByCaller) (us : List Use) (k : KeptByCaller) (m : List ℕ) → length (k .values) ≡ 4 → LeavesAs (usesLeave (slicerBy ourLibrary M) k m us) (usesLeave hostSlicer (k .bytes) m us)
+unfolding usesLeave
+leaves-as M [] k m four = record { bytes″ = refl; memory″ = refl }
+leaves-as M (oneOp o ∷ us) k m four =
     let a = acts-as k m o four in
-    rw (← a .bytes′, ← a .memory′) (leaves-as M os (actBy ourLibrary k m o .decoder) (actBy ourLibrary k m o .memory) (a .four′))
+    rw (← a .bytes′, ← a .memory′) (leaves-as M us (actBy ourLibrary k m o .decoder) (actBy ourLibrary k m o .memory) (a .four′))
+leaves-as M (slice chunk ∷ us) k m four =
+    let a = slices-as k m chunk four in
+    rw (← a .bytes′, ← a .memory′) (leaves-as M us (sliceBy ourLibrary k m chunk .decoder) (sliceBy ourLibrary k m chunk .memory) (a .four′))
 
 -- a payload is as long as the buffer's part that it is
 part-long : (n : ℕ) (m : List ℕ) → take (length (take n m)) m ≡ take n m
@@ -234,60 +248,17 @@ payload-part l m = by (unpackOf l)
     by (noRecord n) = refl
     by (holds d) = cases (hasPayload d m) (λ t. rw t (part-long (d .fill) m)) (λ t. rw t)
 
-payload-by : (M k : KeptByCaller) (m : List ℕ) → decoderBy ourLibrary M .payloadOf k m ≡ payloadPacked (k .bytes) m
+payload-as : (M : KeptByCaller) (x : LeftBehind KeptByCaller) (y : LeftBehind (List ℕ)) → LeavesAs x y → decoderBy ourLibrary M .payloadOf (x .decoder) (x .memory) ≡ payloadPacked (y .decoder) (y .memory)
 unfolding sghPayload
-payload-by M k m = payload-part (k .bytes) m
-
-slice-as : (k : KeptByCaller) (m chunk : List ℕ) → length (k .values) ≡ 4
-    → let t : GaveSlice KeptByCaller = sliceBy ourLibrary k m chunk in
-    let u : KeptSlice = slicePacked (k .bytes) m chunk in
-    (t .answer ≡ u .answer) × (t .taken ≡ u .taken) × (t .memory ≡ u .memory)
-unfolding sghPushSlice
-slice-as k m chunk four = (answer-heard _ (k .values) _ four (slice-bytes-hearable (k .bytes) m chunk), refl, refl)
-
--- behind operations
-module _ (x : LeftBehind KeptByCaller) (y : LeftBehind (List ℕ)) (a : LeavesAs x y) where
-  payload-as : (M : KeptByCaller) → decoderBy ourLibrary M .payloadOf (x .decoder) (x .memory) ≡ payloadPacked (y .decoder) (y .memory)
-  payload-as M = payload-by M (x .decoder) (x .memory) ∙ rw (a .bytes″, a .memory″)
-
-  slice-behind : (chunk : List ℕ)
-      → let t : GaveSlice KeptByCaller = sliceBy ourLibrary (x .decoder) (x .memory) chunk in
-      let u : KeptSlice = slicePacked (y .decoder) (y .memory) chunk in
-      (t .answer ≡ u .answer) × (t .taken ≡ u .taken) × (t .memory ≡ u .memory)
-  slice-behind chunk = rw (← a .bytes″, ← a .memory″) (slice-as (x .decoder) (x .memory) chunk (a .four″))
-
--- a slice over bytes that keep a record is that over the record
-slice-kept : (C : Setup) (b m : List ℕ) (os : List Op) (chunk : List ℕ) → KeptAlike C b m os
-    → let y : LeftBehind (List ℕ) = leftBehind (keptBy ourHost) b m os in
-    let z : LeftBehind Decoder = leftBehind ours (newRecord C) m os in
-    let u : KeptSlice = slicePacked (y .decoder) (y .memory) chunk in
-    let v : Took = sliceRecord (z .decoder) (z .memory) chunk in
-    (u .answer ≡ v .answer) × (u .taken ≡ v .taken) × (u .memory ≡ v .memory)
-slice-kept C b m os chunk a =
-    let y = leftBehind (keptBy ourHost) b m os in
-    let z = leftBehind ours (newRecord C) m os in
-    let s = slices-alike (z .decoder) (y .decoder) (y .memory) chunk (a .narrow′) (ap (λ (f : Filled). f .answer) (a .packs′)) in
-    let s0 : slicePacked (y .decoder) (y .memory) chunk .answer ≡ sliceRecord (z .decoder) (y .memory) chunk .answer = rw (a .packs′) at (s .0) in
-    let s1 : slicePacked (y .decoder) (y .memory) chunk .taken ≡ sliceRecord (z .decoder) (y .memory) chunk .taken = rw (a .packs′) at (s .1) in
-    let s2 : slicePacked (y .decoder) (y .memory) chunk .memory ≡ sliceRecord (z .decoder) (y .memory) chunk .memory = rw (a .packs′) at (s .2) in
-    let r : List ℕ → Took = λ n. sliceRecord (z .decoder) n chunk in
-    (s0 ∙ ap (λ (n : List ℕ). r n .answer) (a .memory′), s1 ∙ ap (λ (n : List ℕ). r n .taken) (a .memory′), s2 ∙ ap (λ (n : List ℕ). r n .memory) (a .memory′))
+payload-as M x y a = payload-part (x .decoder .bytes) (x .memory) ∙ rw (a .bytes″, a .memory″)
 
 pub hears-decoder : HearsDecoder ourLibrary
 unfolding sghDecoderNew
-hears-decoder C k m os g p =
+hears-decoder C k m us g p =
     let j : KeptByCaller = keptByCaller (packInto (newRecord C) (k .bytes) .output) (k .values) in
-    let a = new-alike C (k .bytes) m os (g .way) (g .capacity) (omega (arith, g .bytes′)) (g .buffer) p in
-    let x = leaves-as k os j m (g .values′) in (
-      answers-as k os j m (g .values′) ∙ a .says,
-      x .memory″ ∙ a .memory′,
-      payload-as _ _ x k ∙ kept-payload a,
-      λ chunk. (
-        slice-behind _ _ x chunk .0 ∙ slice-kept C (j .bytes) m os chunk a .0,
-        slice-behind _ _ x chunk .1 ∙ slice-kept C (j .bytes) m os chunk a .1,
-        slice-behind _ _ x chunk .2 ∙ slice-kept C (j .bytes) m os chunk a .2,
-      ),
-    )
+    let a = new-alike C (k .bytes) m us (g .way) (g .capacity) (omega (arith, g .bytes′)) (g .buffer) p in
+    let x = leaves-as k us j m (g .values′) in
+    (uses-as k us j m (g .values′) ∙ a .says, x .memory″ ∙ a .stays .memories, payload-as k _ _ x ∙ kept-payload _ _ (a .stays))
 
 pub hears-ours : HearsOurs ourLibrary
 hears-ours = record { decoder = hears-decoder; encode = hears-encode; encoder = hears-encoder; reader = hears-reader }

@@ -1,7 +1,7 @@
 -- The marks hold of what a collector links: a caller of the library hears what our record says, and of that they hold.
 use mathlib.Core.Path.{_≡_, refl, ap, sym, _∙_}
 use mathlib.Core.List.{List, [], _∷_, _++_, map}
-use Prim.Native.Nat.{ℕ, zero, suc, _+_, _%_, _/_, _≤_, _<_}
+use Prim.Native.Nat.{ℕ, zero, suc, _+_, _≤_, _<_}
 use native.Mathlib.Omega.{arith}
 use lib.ListN.{length, getD, replicate}
 use lib.Dec.{eqb}
@@ -16,12 +16,13 @@ use Rattle.decoder.specs.declared.Setup.{Setup}
 use Rattle.decoder.proofs.Split.{cases}
 use Rattle.since.specs.Since.{AllBytes}
 use Rattle.encoder.specs.Encode.{AfterEncode}
-use Rattle.marks.specs.Decoders.{Gave, Machine, ours, answers, behindOf, LeftBehind, leftBehind}
-use Rattle.marks.specs.Mark2.{PushesBytes, EndsFrame, SoundBehind}
-use Rattle.marks.specs.Mark3.{ourEncode, Job, Suits, AllSuit, part, wroteFor, framesFor, restSays, HeardBehindZeros}
-use Rattle.marks.specs.Packed.{AreBytes}
-use Rattle.marks.specs.Library.{ourLibrary, KeptByCaller, decoderBy, CallerBegins, encodeBy, JobsOfBytes, MarksBy}
+use Rattle.marks.specs.Decoders.{Machine, ours, answers, behindOf, LeftBehind, leftBehind}
+use Rattle.marks.specs.Mark2.{PushesBytes, SoundBehind}
+use Rattle.marks.specs.Mark3.{ourEncode, Job, AllSuit, part, wroteFor, framesFor, restSays, HeardBehindZeros}
+use Rattle.marks.specs.Chunks.{ourSlicer}
+use Rattle.marks.specs.Library.{ourLibrary, KeptByCaller, decoderBy, slicerBy, CallerBegins, encodeBy, JobsOfBytes, MarksBy}
 use Rattle.marks.proofs.Narrow.{bytes-join, bytes-run, bytes-at, bytes-all, start-bytes}
+use Rattle.marks.proofs.Packed.{singly, singly-bytes, singly-leaves, singly-answers}
 use Rattle.marks.proofs.Soundness.{soundness}
 use Rattle.marks.proofs.Recovery.{wrote-is, mark3}
 use Rattle.marks.proofs.Library.{end-bytes, hears-decoder, hears-encode}
@@ -77,20 +78,31 @@ module _ (C : Setup) (k : KeptByCaller) (m : List ℕ) (g : CallerBegins C k m) 
   abbrev M : Machine KeptByCaller
   M = decoderBy ourLibrary k
 
+  -- of operations alone
+  hears-answers : (os : List Op) → PushesBytes os → answers M (M .new C) m os ≡ answers ours (newRecord C) m os
+  hears-answers os p = singly-answers (slicerBy ourLibrary k) ourSlicer os (M .new C) (newRecord C) m (hears-decoder C k m (singly os) g (singly-bytes os p) .0)
+
+  hears-payload : (os : List Op) → PushesBytes os
+      → let x : LeftBehind KeptByCaller = leftBehind M (M .new C) m os in
+      let y : LeftBehind Decoder = leftBehind ours (newRecord C) m os in
+      M .payloadOf (x .decoder) (x .memory) ≡ ours .payloadOf (y .decoder) (y .memory)
+  hears-payload os p =
+      rw (← singly-leaves (slicerBy ourLibrary k) os (M .new C) m, ← singly-leaves ourSlicer os (newRecord C) m) (hears-decoder C k m (singly os) g (singly-bytes os p) .2)
+
   new-empty : M .payloadOf (M .new C) m ≡ []
   unfolding leftBehind
-  new-empty = hears-decoder C k m [] g tt .2 ∙ soundness C m .0
+  new-empty = hears-payload [] tt ∙ soundness C m .0
 
   answer-same : (os : List Op) (o : Op) → PushesBytes (os ++ o ∷ []) → behindOf M (M .new C) m os o .answer ≡ behindOf ours (newRecord C) m os o .answer
   answer-same os o p =
-      last-same _ _ _ _ (hears-decoder C k m os g (pushes-front os (o ∷ []) p) .0)
-      (sym (answers-more M o os (M .new C) m) ∙ hears-decoder C k m (os ++ o ∷ []) g p .0 ∙ answers-more ours o os (newRecord C) m)
+      last-same _ _ _ _ (hears-answers os (pushes-front os (o ∷ []) p))
+      (sym (answers-more M o os (M .new C) m) ∙ hears-answers (os ++ o ∷ []) p ∙ answers-more ours o os (newRecord C) m)
 
   payload-same : (os : List Op) (o : Op) → PushesBytes (os ++ o ∷ [])
       → M .payloadOf (behindOf M (M .new C) m os o .decoder) (behindOf M (M .new C) m os o .memory) ≡ ours .payloadOf (behindOf ours (newRecord C) m os o .decoder) (behindOf ours (newRecord C) m os o .memory)
   payload-same os o p =
       ap (λ (x : LeftBehind KeptByCaller). M .payloadOf (x .decoder) (x .memory)) (sym (left-more M o os (M .new C) m))
-      ∙ hears-decoder C k m (os ++ o ∷ []) g p .2
+      ∙ hears-payload (os ++ o ∷ []) p
       ∙ ap (λ (x : LeftBehind Decoder). ours .payloadOf (x .decoder) (x .memory)) (left-more ours o os (newRecord C) m)
 
   sound-behind : (os : List Op) (o : Op) → PushesBytes (os ++ o ∷ []) → SoundBehind M C m os o
@@ -98,7 +110,7 @@ module _ (C : Setup) (k : KeptByCaller) (m : List ℕ) (g : CallerBegins C k m) 
       let a = answer-same os o p in
       let s = soundness C m .1 os o in (
         payload-same os o p ∙ s .0 ∙ ap brought (sym a),
-        λ P bytes e. rw (hears-decoder C k m os g (pushes-front os (o ∷ []) p) .0) (s .1 P bytes (sym a ∙ e)),
+        λ P bytes e. rw (hears-answers os (pushes-front os (o ∷ []) p)) (s .1 P bytes (sym a ∙ e)),
       )
 
 -- ---- frames are bytes
@@ -150,7 +162,7 @@ mark3-by C k m g long before j js p b s =
     let po : PushesBytes os = pushes-join before _ p (pushes-zeros (C .capacity + 5)) in
     let frames : List ℕ = framesFor ourEncode (j ∷ js) in
     let pf : PushesBytes (os ++ map push frames) = pushes-join os _ po (pushes-bytes frames (frames-bytes C (j ∷ js) (g .capacity) b s)) in
-    rw (frames-alike (j ∷ js), wrote-alike j, rest-alike js, hears-decoder C k m (os ++ map push frames) g pf .0, hears-decoder C k m os g po .0)
+    rw (frames-alike (j ∷ js), wrote-alike j, rest-alike js, hears-answers C k m g (os ++ map push frames) pf, hears-answers C k m g os po)
     (mark3 C m (g .way) long (g .capacity) before j js s)
 
 pub marks-by : MarksBy ourLibrary

@@ -19,6 +19,7 @@ use Rattle.decoder.specs.declared.Decoder.{Decoder}
 use Rattle.decoder.specs.declared.Setup.{Setup}
 use Rattle.decoder.proofs.Saw.{saw}
 use Rattle.decoder.proofs.Split.{cases}
+use Rattle.decoder_slice.specs.Slice.{saysNothing, pushesFrom, sliceRecord}
 use Rattle.since.specs.Since.{AllBytes}
 use Rattle.packed.specs.Layout.{Narrow}
 use Rattle.marks.specs.Mark2.{PushesBytes}
@@ -161,3 +162,19 @@ unfolding act finalizeRecord resetRecord
 act-tame d m (push b) os w h p = (push-tame d m b w h (p .0), p .1)
 act-tame d m finalize os w h p = (cases (badDecoder d) (λ e. rw e (record { decoder = w; memory = h })) (λ e. rw e (record { decoder = new-narrow (setup d); memory = h })), p)
 act-tame d m reset os w h p = (record { decoder = new-narrow (setup d); memory = h }, p)
+
+-- so does a slice
+pushes-tame : (bs : List ℕ) (n : ℕ) (d : Decoder) (m : List ℕ) → Narrow d → AllBytes m → AllBytes bs → Narrow (pushesFrom n d m bs .decoder) × AllBytes (pushesFrom n d m bs .memory)
+unfolding pushesFrom
+pushes-tame [] n d m w h b = (w, h)
+pushes-tame (x ∷ bs) n d m w h b =
+    let t = push-tame d m x w h (b .0) in
+    cases (saysNothing (pushRecord d m x .answer))
+    (λ e. rw e (pushes-tame bs (suc n) (pushRecord d m x .decoder) (pushRecord d m x .memory) (t .decoder) (t .memory) (b .1)))
+    (λ e. rw e (t .decoder, t .memory))
+
+pub slice-tame : (d : Decoder) (m bs : List ℕ) → Narrow d → AllBytes m → AllBytes bs → Narrow (sliceRecord d m bs .decoder) × AllBytes (sliceRecord d m bs .memory)
+unfolding sliceRecord
+slice-tame d m bs w h b =
+    cases (badDecoder d) (λ e. rw e (w, h)) (λ e.
+    cases (wrongBuffer (d .capacity) (length m)) (λ f. rw (e, f) (w, h)) (λ f. rw (e, f) (pushes-tame bs 0 d m w h b)))

@@ -1,7 +1,7 @@
 -- A state in 28 bytes: what is claimed of it holds of ours.
 use mathlib.Core.Path.{_≡_, refl, ap, sym, subst, _∙_}
 use mathlib.Core.Bool.{Bool, true, false}
-use mathlib.Core.List.{List, [], _∷_}
+use mathlib.Core.List.{List, [], _∷_, map}
 use Prim.Native.Nat.{ℕ, zero, suc, _≤_}
 use native.Mathlib.Omega.{arith}
 use lib.ListN.{length, take, replicate}
@@ -30,7 +30,9 @@ use Rattle.packed.proofs.RoundTrip.{tidy-is, packed-over, packed-room, packed-l
 use Rattle.marks.specs.Decoders.{ours, answers, LeftBehind, leftBehind}
 use Rattle.marks.specs.Mark2.{PushesBytes}
 use Rattle.marks.specs.Packed.{AreBytes, asItWas, actOver, ourHost, RoundTrip, Exactly, PacksWhatPushes, PacksInOrder, ActsAlike, SlicesAlike, HandsAlike, Serves, LeavesRefused, LeavesTidy, keptBy, AnswersAlike}
-use Rattle.marks.proofs.Narrow.{bytes-all, new-narrow, Tame, act-tame}
+use Rattle.marks.specs.Chunks.{Slicer, ourSlicer}
+use Rattle.marks.specs.Library.{Use, oneOp, slice, UsesBytes, HeardUse, heardUse, usesSay, usesLeave}
+use Rattle.marks.proofs.Narrow.{bytes-all, new-narrow, act-tame, slice-tame}
 
 -- ---- packing and unpacking
 
@@ -276,73 +278,124 @@ keeps-on d b k e =
     let is : packedIn d b ≡ k = ap (λ (f : Filled). f .output) (sym (filled-with d b (ap (λ (f : Filled). f .answer) e)) ∙ e) in
     rw (← is) (pack-good d (packedIn d b) (p .good) (p .small) (packed-room d b) ∙ ap (answering nothing) (packed-over d b d))
 
--- a record and bytes that keep it, with a memory of bytes, behind operations
-record StaysKept (j : LeftBehind Decoder) (k : LeftBehind (List ℕ)) : Type 0 where
-  narrow : Narrow (j .decoder)
-  keeps : Keeps (j .decoder) (k .decoder)
-  memories : k .memory ≡ j .memory
-
-record StepKept (d : Decoder) (b m : List ℕ) (o : Op) (os : List Op) : Type 0 where
+record StepKept (d : Decoder) (b m : List ℕ) (o : Op) : Type 0 where
   answers′ : actOver b m o .answer ≡ R.act d m o .answer
   memories′ : actOver b m o .memory ≡ R.act d m o .memory
   keeps′ : Keeps (R.act d m o .decoder) (actOver b m o .decoder)
-  tame : Tame (R.act d m o)
-  more : PushesBytes os
 
-step-kept : (d : Decoder) (b m : List ℕ) (o : Op) (os : List Op) → Keeps d b → Narrow d → AllBytes m → PushesBytes (o ∷ os) → StepKept d b m o os
+step-kept : (d : Decoder) (b m : List ℕ) (o : Op) → Keeps d b → Narrow d → StepKept d b m o
 unfolding Keeps
-step-kept d b m o os k n h p =
-    let t = act-tame d m o os n h p in
+step-kept d b m o k n =
     let a = acts-alike d b m o n (ap (λ (f : Filled). f .answer) k) in
     let a2 : packInto (R.act d m o .decoder) b ≡ answering nothing (actOver b m o .decoder) = rw k at (a .2) in
-    record { answers′ = rw k at (a .0); memories′ = rw k at (a .1); keeps′ = keeps-on _ _ _ a2; tame = t .0; more = t .1 }
+    record { answers′ = rw k at (a .0); memories′ = rw k at (a .1); keeps′ = keeps-on _ _ _ a2 }
 
-run-alike : (os : List Op) (d : Decoder) (b m : List ℕ) → Keeps d b → Narrow d → AllBytes m → PushesBytes os → answers (keptBy ourHost) b m os ≡ answers ours d m os
-unfolding answers
-run-alike [] d b m k n h p = refl
-run-alike (o ∷ os) d b m k n h p =
-    let s = step-kept d b m o os k n h p in
-    let rest = run-alike os (R.act d m o .decoder) (actOver b m o .decoder) (R.act d m o .memory) (s .keeps′) (s .tame .decoder) (s .tame .memory) (s .more) in
-    rw (s .answers′, s .memories′, rest)
+record SliceKept (d : Decoder) (b m chunk : List ℕ) : Type 0 where
+  answers′ : slicePacked b m chunk .answer ≡ sliceRecord d m chunk .answer
+  takens′ : slicePacked b m chunk .taken ≡ sliceRecord d m chunk .taken
+  memories′ : slicePacked b m chunk .memory ≡ sliceRecord d m chunk .memory
+  keeps′ : Keeps (sliceRecord d m chunk .decoder) (slicePacked b m chunk .bytes)
 
-left-alike : (os : List Op) (d : Decoder) (b m : List ℕ) → Keeps d b → Narrow d → AllBytes m → PushesBytes os → StaysKept (leftBehind ours d m os) (leftBehind (keptBy ourHost) b m os)
-unfolding leftBehind
-left-alike [] d b m k n h p = record { narrow = n; keeps = k; memories = refl }
-left-alike (o ∷ os) d b m k n h p =
-    let s = step-kept d b m o os k n h p in
-    rw (s .memories′) (left-alike os (R.act d m o .decoder) (actOver b m o .decoder) (R.act d m o .memory) (s .keeps′) (s .tame .decoder) (s .tame .memory) (s .more))
-
--- a new decoder's bytes, whatever stood there before, behind operations: what they answer, and what is left
-pub record KeptAlike (C : Setup) (b m : List ℕ) (os : List Op) : Type 0 where
-  pub says : answers (keptBy ourHost) b m os ≡ answers ours (newRecord C) m os
-  pub memory′ : leftBehind (keptBy ourHost) b m os .memory ≡ leftBehind ours (newRecord C) m os .memory
-  pub narrow′ : Narrow (leftBehind ours (newRecord C) m os .decoder)
-  pub packs′ : packInto (leftBehind ours (newRecord C) m os .decoder) (leftBehind (keptBy ourHost) b m os .decoder) ≡ answering nothing (leftBehind (keptBy ourHost) b m os .decoder)
-
-pub new-alike : (C : Setup) (l m : List ℕ) (os : List Op) → KnownWay (C .way) → C .capacity ≤ limit → 28 ≤ length l → AreBytes m → PushesBytes os → KeptAlike C (packInto (newRecord C) l .output) m os
+slice-kept : (d : Decoder) (b m chunk : List ℕ) → Keeps d b → Narrow d → SliceKept d b m chunk
 unfolding Keeps
-new-alike C l m os w small room h p =
+slice-kept d b m chunk k n =
+    let a = slices-alike d b m chunk n (ap (λ (f : Filled). f .answer) k) in
+    let a3 : packInto (sliceRecord d m chunk .decoder) b ≡ answering nothing (slicePacked b m chunk .bytes) = rw k at (a .3) in
+    record { answers′ = rw k at (a .0); takens′ = rw k at (a .1); memories′ = rw k at (a .2); keeps′ = keeps-on _ _ _ a3 }
+
+-- a record and bytes that keep it, with one memory
+pub record StaysKept (j : LeftBehind Decoder) (k : LeftBehind (List ℕ)) : Type 0 where
+  pub narrow : Narrow (j .decoder)
+  pub keeps : packInto (j .decoder) (k .decoder) ≡ answering nothing (k .decoder)
+  pub memories : k .memory ≡ j .memory
+
+-- the payload there is that of the record
+pub kept-payload : (j : LeftBehind Decoder) (k : LeftBehind (List ℕ)) → StaysKept j k → payloadPacked (k .decoder) (k .memory) ≡ payloadRecord (j .decoder) (j .memory)
+kept-payload j k a =
+    let y = hands-out-alike (j .decoder) (k .decoder) (k .memory) (a .narrow) (ap (λ (x : Filled). x .answer) (a .keeps)) in
+    let q : payloadPacked (k .decoder) (k .memory) ≡ payloadRecord (j .decoder) (k .memory) = rw (a .keeps) at (y .0) in
+    q ∙ ap (payloadRecord (j .decoder)) (a .memories)
+
+-- operations and slices
+
+abbrev pub hostSlicer : Slicer (List ℕ)
+hostSlicer = record { machine = keptBy ourHost; pushSlice = ourHost .pushSlice }
+
+uses-alike : (us : List Use) (d : Decoder) (b m : List ℕ) → Keeps d b → Narrow d → AllBytes m → UsesBytes us → usesSay hostSlicer b m us ≡ usesSay ourSlicer d m us
+unfolding usesSay
+uses-alike [] d b m k n h p = refl
+uses-alike (oneOp o ∷ us) d b m k n h p =
+    let s = step-kept d b m o k n in
+    let t = act-tame d m o [] n h (p .0) .0 in
+    rw (s .answers′, s .memories′) (ap (λ (l : List HeardUse). heardUse (R.act d m o .answer) 0 ∷ l) (uses-alike us (R.act d m o .decoder) (actOver b m o .decoder) (R.act d m o .memory) (s .keeps′) (t .decoder) (t .memory) (p .1)))
+uses-alike (slice chunk ∷ us) d b m k n h p =
+    let s = slice-kept d b m chunk k n in
+    let t = slice-tame d m chunk n h (bytes-all chunk (p .0)) in
+    rw (s .answers′, s .takens′, s .memories′) (ap (λ (l : List HeardUse). heardUse (sliceRecord d m chunk .answer) (sliceRecord d m chunk .taken) ∷ l)
+    (uses-alike us (sliceRecord d m chunk .decoder) (slicePacked b m chunk .bytes) (sliceRecord d m chunk .memory) (s .keeps′) (t .0) (t .1) (p .1)))
+
+uses-kept : (us : List Use) (d : Decoder) (b m : List ℕ) → Keeps d b → Narrow d → AllBytes m → UsesBytes us → StaysKept (usesLeave ourSlicer d m us) (usesLeave hostSlicer b m us)
+unfolding usesLeave Keeps
+uses-kept [] d b m k n h p = record { narrow = n; keeps = k; memories = refl }
+uses-kept (oneOp o ∷ us) d b m k n h p =
+    let s = step-kept d b m o k n in
+    let t = act-tame d m o [] n h (p .0) .0 in
+    rw (s .memories′) (uses-kept us (R.act d m o .decoder) (actOver b m o .decoder) (R.act d m o .memory) (s .keeps′) (t .decoder) (t .memory) (p .1))
+uses-kept (slice chunk ∷ us) d b m k n h p =
+    let s = slice-kept d b m chunk k n in
+    let t = slice-tame d m chunk n h (bytes-all chunk (p .0)) in
+    rw (s .memories′) (uses-kept us (sliceRecord d m chunk .decoder) (slicePacked b m chunk .bytes) (sliceRecord d m chunk .memory) (s .keeps′) (t .0) (t .1) (p .1))
+
+-- of a new decoder, whatever stood in its bytes before
+pub record UsedAlike (C : Setup) (b m : List ℕ) (us : List Use) : Type 0 where
+  pub says : usesSay hostSlicer b m us ≡ usesSay ourSlicer (newRecord C) m us
+  pub stays : StaysKept (usesLeave ourSlicer (newRecord C) m us) (usesLeave hostSlicer b m us)
+
+pub new-alike : (C : Setup) (l m : List ℕ) (us : List Use) → KnownWay (C .way) → C .capacity ≤ limit → 28 ≤ length l → AreBytes m → UsesBytes us → UsedAlike C (packInto (newRecord C) l .output) m us
+unfolding Keeps
+new-alike C l m us w small room h p =
     let good = reached-good C (newRecord C) (known-is (C .way) w) byNew .0 in
     let f = pack-good (newRecord C) l good small room in
     let b = packInto (newRecord C) l .output in
     let k : Keeps (newRecord C) b = keeps-on (newRecord C) l b (f ∙ ap (λ (x : Filled). answering nothing (x .output)) (sym f)) in
-    let a = left-alike os (newRecord C) b m k (new-narrow C) (bytes-all m h) p in
-    record { says = run-alike os (newRecord C) b m k (new-narrow C) (bytes-all m h) p; memory′ = a .memories; narrow′ = a .narrow; packs′ = a .keeps }
+    record { says = uses-alike us (newRecord C) b m k (new-narrow C) (bytes-all m h) p; stays = uses-kept us (newRecord C) b m k (new-narrow C) (bytes-all m h) p }
 
--- the payload there is that of the record
-pub kept-payload : {C : Setup} {b m : List ℕ} {os : List Op} → KeptAlike C b m os
-    → payloadPacked (leftBehind (keptBy ourHost) b m os .decoder) (leftBehind (keptBy ourHost) b m os .memory) ≡ payloadRecord (leftBehind ours (newRecord C) m os .decoder) (leftBehind ours (newRecord C) m os .memory)
-kept-payload {C} {b} {m} {os} a =
-    let j = leftBehind ours (newRecord C) m os .decoder in
-    let k = leftBehind (keptBy ourHost) b m os in
-    let y = hands-out-alike j (k .decoder) (k .memory) (a .narrow′) (ap (λ (x : Filled). x .answer) (a .packs′)) in
-    let q : payloadPacked (k .decoder) (k .memory) ≡ payloadRecord j (k .memory) = rw (a .packs′) at (y .0) in
-    q ∙ ap (payloadRecord j) (a .memory′)
+-- operations alone are such uses
+
+pub singly : List Op → List Use
+singly os = map oneOp os
+
+pub singly-bytes : (os : List Op) → PushesBytes os → UsesBytes (singly os)
+unfolding singly
+singly-bytes [] p = tt
+singly-bytes (push b ∷ os) p = ((p .0, tt), singly-bytes os (p .1))
+singly-bytes (finalize ∷ os) p = (tt, singly-bytes os p)
+singly-bytes (reset ∷ os) p = (tt, singly-bytes os p)
+
+abbrev usedAnswer : HeardUse → DecoderAnswer
+usedAnswer h = h .answer
+
+module _ {S : Type 0} (M : Slicer S) where
+  pub singly-says : (os : List Op) (d : S) (m : List ℕ) → map usedAnswer (usesSay M d m (singly os)) ≡ answers (M .machine) d m os
+  unfolding singly usesSay answers
+  singly-says [] d m = refl
+  singly-says (o ∷ os) d m = ap (λ (l : List DecoderAnswer). M .machine .act d m o .answer ∷ l) (singly-says os (M .machine .act d m o .decoder) (M .machine .act d m o .memory))
+
+  pub singly-leaves : (os : List Op) (d : S) (m : List ℕ) → usesLeave M d m (singly os) ≡ leftBehind (M .machine) d m os
+  unfolding singly usesLeave leftBehind
+  singly-leaves [] d m = refl
+  singly-leaves (o ∷ os) d m = singly-leaves os (M .machine .act d m o .decoder) (M .machine .act d m o .memory)
+
+-- what two decoders say alike of uses, they answer alike of operations
+pub singly-answers : {S T : Type 0} (M : Slicer S) (N : Slicer T) (os : List Op) (d : S) (e : T) (m : List ℕ) → usesSay M d m (singly os) ≡ usesSay N e m (singly os) → answers (M .machine) d m os ≡ answers (N .machine) e m os
+singly-answers M N os d e m h = sym (singly-says M os d m) ∙ ap (map usedAnswer) h ∙ singly-says N os e m
 
 pub answers-alike : AnswersAlike ourHost
 answers-alike C m os w small h p =
-    let a = new-alike C (replicate 28 0) m os w small (omega arith) h p in
-    (a .says, a .memory′, a .packs′, kept-payload a)
+    let a = new-alike C (replicate 28 0) m (singly os) w small (omega arith) h (singly-bytes os p) in
+    let b = packInto (newRecord C) (replicate 28 0) .output in
+    let s : StaysKept (leftBehind ours (newRecord C) m os) (leftBehind (keptBy ourHost) b m os) = rw (← singly-leaves ourSlicer os (newRecord C) m, ← singly-leaves hostSlicer os b m) (a .stays) in
+    (singly-answers hostSlicer ourSlicer os b (newRecord C) m (a .says), s .memories, s .keeps, kept-payload _ _ s)
 
 -- ---- unused counts
 

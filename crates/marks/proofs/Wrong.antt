@@ -15,7 +15,7 @@ use Rattle.marks.specs.Fakes.{refusesAll, constant, idle, invents, once,
 use Rattle.marks.specs.FakeHosts.{unpacksNothing, packsConstants, packsAny, unpacksAny, onlyAnswers, saysNothingEver, handsNothing, clearsRefused, growsOutput, clearsRest}
 use Rattle.marks.proofs.Fakes.{not-ours, fall}
 use Rattle.marks.specs.Library.{HearsDecoder, HearsEncode, HearsEncoder, HearsReader}
-use Rattle.marks.specs.FakeLibraries.{keepsValues, handsBuffer, leavesLast, encodesNothing, forgetsCount, losesPlace, losesSign}
+use Rattle.marks.specs.FakeLibraries.{keepsValues, handsBuffer, leavesLast, forgetsSlice, encodesNothing, forgetsCount, losesPlace, losesSign}
 use Rattle.marks.proofs.FakeHosts.{fall-hosts}
 use Rattle.marks.proofs.FakeLibraries.{fall-libraries}
 
@@ -138,6 +138,9 @@ fake-payload-is-the-whole-buffer = fall-libraries .hands-buffer
 
 fake-slice-leaves-its-last-byte : HearsDecoder leavesLast → ⊥
 fake-slice-leaves-its-last-byte = fall-libraries .leaves-last
+
+fake-slice-leaves-the-decoder-as-it-was : HearsDecoder forgetsSlice → ⊥
+fake-slice-leaves-the-decoder-as-it-was = fall-libraries .slice-forgets
 
 fake-good-encode-writes-nothing : HearsEncode encodesNothing → ⊥
 fake-good-encode-writes-nothing = fall-libraries .encodes-nothing

@@ -1,7 +1,7 @@
 -- check: fakes of a library, and which claim is false of each.
 use mathlib.Core.List.{List, [], _∷_}
 use Prim.Native.Nat.{ℕ, _-_, _%_}
-use lib.ListN.{length, getD, set}
+use lib.ListN.{length, set}
 use Rattle.sartrogheo.specs.Calls.{Reply, reply, sghDecoderNew, sghPushByte, sghPushSlice, sghPayload, sghFinalize, sghReset, sghEncode}
 use Rattle.sartrogheo.specs.Streams.{sghEncoderNew, sghEncoderNext, sghNextEvent}
 use Rattle.marks.specs.Library.{Library, lentAt, firstAt, wordAt, HearsDecoder, HearsEncode, HearsEncoder, HearsReader}
@@ -50,6 +50,11 @@ abbrev pub leavesLast : Library
 leavesLast =
     withDecoder (λ l m chunk v. (let r : Reply = sghPushSlice l m chunk v in reply (r .number) (lentAt r 0 ∷ lentAt r 1 ∷ ((firstAt r 2 - 1) ∷ []) ∷ lentAt r 3 ∷ []))) sghPayload sghFinalize
 
+-- a slice is answered rightly, and the decoder stays as it was
+abbrev pub forgetsSlice : Library
+forgetsSlice =
+    withDecoder (λ l m chunk v. (let r : Reply = sghPushSlice l m chunk v in reply (r .number) (l ∷ lentAt r 1 ∷ lentAt r 2 ∷ lentAt r 3 ∷ []))) sghPayload sghFinalize
+
 -- encode does nothing, and says that all is good
 abbrev pub encodesNothing : Library
 encodesNothing = withFrames (λ p out. reply 0 (out ∷ (0 ∷ []) ∷ [])) sghEncoderNext sghNextEvent
@@ -70,6 +75,7 @@ pub record FallLibraries : Type 0 where
   pub keeps-values : HearsDecoder keepsValues → ⊥
   pub hands-buffer : HearsDecoder handsBuffer → ⊥
   pub leaves-last : HearsDecoder leavesLast → ⊥
+  pub slice-forgets : HearsDecoder forgetsSlice → ⊥
   pub encodes-nothing : HearsEncode encodesNothing → ⊥
   pub forgets-count : HearsEncoder forgetsCount → ⊥
   pub loses-place : HearsReader losesPlace → ⊥

@@ -9,8 +9,8 @@ use lib.ListN.{length, take, getD}
 use lib.Dec.{eqb, ltb}
 use Rattle.refusals.specs.Numbers.{discardedBytesNo, invalidEscNo, invalidMessageNo, limit}
 use Rattle.refusals.specs.declared.Span.{Span}
-use Rattle.encoder.specs.Encode.{AfterEncode, afterEncode, length-is, noFrame}
-use Rattle.encoder.specs.Encoder.{NextAnswer, byte, finished, noByte}
+use Rattle.encoder.specs.Encode.{afterEncode, length-is, noFrame}
+use Rattle.encoder.specs.Encoder.{byte, finished, noByte}
 use Rattle.decoder.specs.Record.{DecoderAnswer, nothing, payload, count, refusal, payloadRecord}
 use Rattle.decoder.specs.Run.{KnownWay, Op, push, finalize, reset}
 use Rattle.decoder.specs.declared.Decoder.{Decoder}
@@ -20,10 +20,10 @@ use Rattle.message.specs.Messages.{Body, openBody, closeBody, listBody}
 use Rattle.streaming.specs.Next.{MessageEvent, startEvent, entryEvent, endEvent, Said, event, noEvent, failed, alone}
 use Rattle.sartrogheo.specs.Calls.{goodNo, payloadNo, finishedNo, Reply, sghDecoderNew, sghPushByte, sghPushSlice, sghPayload, sghFinalize, sghReset, sghEncode}
 use Rattle.sartrogheo.specs.Streams.{sghEncoderNew, sghEncoderNext, sghNextEvent}
-use Rattle.marks.specs.Decoders.{Gave, Machine, ours, answers, LeftBehind, leftBehind}
+use Rattle.marks.specs.Decoders.{Gave, Machine, ours, LeftBehind}
 use Rattle.marks.specs.Mark2.{PushesBytes, SoundBehind}
 use Rattle.marks.specs.Mark3.{Encode, ourEncode, Job, AllSuit, HeardBehindZeros}
-use Rattle.marks.specs.Chunks.{GaveSlice, ourSlicer}
+use Rattle.marks.specs.Chunks.{GaveSlice, Slicer, ourSlicer}
 use Rattle.marks.specs.Packed.{AreBytes}
 use Rattle.marks.specs.Encoders.{Caller, ourEncoder, callsOf}
 use Rattle.marks.specs.Events.{Reader, Numbers, ourReader, saysAt}
@@ -115,6 +115,47 @@ sliceBy L k m chunk =
     let r : Reply = L .pushSlice (k .bytes) m chunk (k .values) in
     record { answer = heardAnswer (r .number) (lentAt r 3) (lentAt r 1); taken = firstAt r 2; decoder = keptByCaller (lentAt r 0) (lentAt r 3); memory = lentAt r 1 }
 
+abbrev pub slicerBy : Library → KeptByCaller → Slicer KeptByCaller
+slicerBy L k = record { machine = decoderBy L k; pushSlice = sliceBy L }
+
+-- what a caller does with a decoder, one after another: operations, and pushes of slices
+pub data Use : Type 0 where
+  oneOp : Op → Use
+  slice : List ℕ → Use
+
+abbrev pub UsesBytes : List Use → Type 0
+UsesBytes [] = Unit {0}
+UsesBytes (oneOp o ∷ us) = PushesBytes (o ∷ []) × UsesBytes us
+UsesBytes (slice chunk ∷ us) = AreBytes chunk × UsesBytes us
+
+-- what is heard: the answer, and how many bytes a slice took
+pub record HeardUse : Type 0 where
+  pub answer : DecoderAnswer
+  pub taken : ℕ
+
+abbrev pub heardUse : DecoderAnswer → ℕ → HeardUse
+heardUse a n = record { answer = a; taken = n }
+
+-- of each use, with the decoder and the memory that the one before left
+unfoldable pub usesSay : {S : Type 0} → Slicer S → S → List ℕ → List Use → List HeardUse
+usesSay M d m [] = []
+usesSay M d m (oneOp o ∷ us) =
+    let a = M .machine .act d m o in
+    heardUse (a .answer) 0 ∷ usesSay M (a .decoder) (a .memory) us
+usesSay M d m (slice chunk ∷ us) =
+    let t = M .pushSlice d m chunk in
+    heardUse (t .answer) (t .taken) ∷ usesSay M (t .decoder) (t .memory) us
+
+-- and what they leave
+unfoldable pub usesLeave : {S : Type 0} → Slicer S → S → List ℕ → List Use → LeftBehind S
+usesLeave M d m [] = record { decoder = d; memory = m }
+usesLeave M d m (oneOp o ∷ us) =
+    let a = M .machine .act d m o in
+    usesLeave M (a .decoder) (a .memory) us
+usesLeave M d m (slice chunk ∷ us) =
+    let t = M .pushSlice d m chunk in
+    usesLeave M (t .decoder) (t .memory) us
+
 -- how a caller begins: a decoder of either way and of a capacity that is no refusal, in 28 bytes, with four values and a buffer, whatever stood in them before
 pub record CallerBegins (C : Setup) (k : KeptByCaller) (m : List ℕ) : Type 0 where
   pub way : KnownWay (C .way)
@@ -123,19 +164,15 @@ pub record CallerBegins (C : Setup) (k : KeptByCaller) (m : List ℕ) : Type 0 w
   pub values′ : length (k .values) ≡ 4
   pub buffer : AreBytes m
 
--- Any pushes, finalize and reset calls on a new decoder, with one buffer of any length: a caller hears the answers that our record gives, payloads with them;
--- and behind them the buffer and the payload that is handed out are the same, and so is what a push of a slice says, takes and leaves
+-- Any pushes, pushes of slices, finalize and reset calls on a new decoder, with one buffer of any length: a caller hears the answers that our record gives, payloads with them, and of a slice how many bytes it took;
+-- and behind them the buffer and the payload that is handed out are the same
 abbrev pub HearsDecoder : Library → Type 0
 HearsDecoder L =
-    (C : Setup) (k : KeptByCaller) (m : List ℕ) (os : List Op) → CallerBegins C k m → PushesBytes os
-    → let M : Machine KeptByCaller = decoderBy L k in
-    let x : LeftBehind KeptByCaller = leftBehind M (M .new C) m os in
-    let y : LeftBehind Decoder = leftBehind ours (ours .new C) m os in
-    (answers M (M .new C) m os ≡ answers ours (ours .new C) m os) × (x .memory ≡ y .memory) × (M .payloadOf (x .decoder) (x .memory) ≡ payloadRecord (y .decoder) (y .memory))
-    × ((chunk : List ℕ)
-    → let t : GaveSlice KeptByCaller = sliceBy L (x .decoder) (x .memory) chunk in
-    let u : GaveSlice Decoder = ourSlicer .pushSlice (y .decoder) (y .memory) chunk in
-    (t .answer ≡ u .answer) × (t .taken ≡ u .taken) × (t .memory ≡ u .memory))
+    (C : Setup) (k : KeptByCaller) (m : List ℕ) (us : List Use) → CallerBegins C k m → UsesBytes us
+    → let M : Slicer KeptByCaller = slicerBy L k in
+    let x : LeftBehind KeptByCaller = usesLeave M (M .machine .new C) m us in
+    let y : LeftBehind Decoder = usesLeave ourSlicer (ours .new C) m us in
+    (usesSay M (M .machine .new C) m us ≡ usesSay ourSlicer (ours .new C) m us) × (x .memory ≡ y .memory) × (M .machine .payloadOf (x .decoder) (x .memory) ≡ payloadRecord (y .decoder) (y .memory))
 
 -- ---- frames
 
