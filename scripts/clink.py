@@ -14,7 +14,7 @@ import programs
 ROOT = programs.ROOT
 LIBRARY = "sartrogheo"
 # what a run of rt does, and how long that takes on two cores that have nothing else to do
-DOING, SECONDS = {"check": "proving", "staticlib": "compiling"}, {"check": 200, "staticlib": 60}
+DOING, SECONDS = {"check": "proving", "staticlib": "compiling"}, {"check": 240, "staticlib": 40}
 REPLAY = os.path.join(ROOT, "target/library/replay")
 # C11 as any compiler takes it; the toolchain's has no headers of its own, and must not find the machine's
 PLAIN = ["-Wall", "-Wextra", "-Werror", "-O2", "-nostdinc", "-isystem", os.path.join(ROOT, "scripts/headers")]

@@ -12,7 +12,7 @@ use Rattle.frame.specs.Frame.{same, escaped, closed, frameOf}
 use Rattle.encoder.specs.Encode.{EncodeAnswer, length-is, noFrame, AfterEncode, encodeTo}
 use Rattle.encoder.specs.Encoder.{NextAnswer, byte, finished, noByte, freshEncoder, stepFrom, badEncoder, nextStep}
 use Rattle.decoder.specs.Push.{sized, searching, step, finalized}
-use Rattle.decoder.specs.Record.{DecoderAnswer, nothing, payload, count, refusal, wrote, badDecoder, wrongBuffer, hasPayload, pushed, pushRecord, finalizeRecord, payloadRecord}
+use Rattle.decoder.specs.Record.{DecoderAnswer, nothing, payload, count, refusal, wrote, badDecoder, wrongBuffer, hasPayload, pushed, pushRecord, finalizeRecord, payloadRecord, askRecord}
 use Rattle.decoder.specs.Run.{isFirst, push, finalize, act}
 use Rattle.decoder_slice.specs.Slice.{pushesFrom, sliceRecord}
 use Rattle.packed.specs.Layout.{lowFirst, numberAt, stateIn, packedBytes, packedIn, recordIn}
@@ -29,13 +29,13 @@ use Rattle.words.specs.Words.{withZeros}
 use Rattle.sartrogheo.specs.Calls.{sghDecoderNew, sghPushByte, sghPushSlice, sghFinalize}
 use Rattle.sartrogheo.specs.Streams.{encoderIn, sghEncoderNew, sghEncoderNext, sghNextEvent}
 use Rattle.marks.specs.Encoders.{callsOf}
-use Rattle.marks.specs.Events.{saysAt}
+use Rattle.marks.specs.Events.{Numbers, saysAt}
 use Rattle.marks.specs.Packed.{AreBytes}
-use Rattle.marks.specs.Library.{KeptByCaller, keptByCaller, oneOp, slice, HeardUse, heardUse, usesSay, usesLeave, CallerBegins, HearsDecoder, HearsEncode, HearsEncoder, HearsReader}
-use Rattle.marks.specs.FakeLibraries.{keepsValues, handsBuffer, leavesLast, forgetsSlice, encodesNothing, forgetsCount, losesPlace, losesSign, FallLibraries}
+use Rattle.marks.specs.Library.{HearsNew, LentByCaller, oneOp, slice, HeardUse, heardUse, usesSay, usesLeave, CallerBegins, HearsDecoder, HearsEncode, HearsEncoder, HearsReader}
+use Rattle.marks.specs.FakeLibraries.{deniesNew, keepsValues, handsBuffer, paysAlways, leavesLast, forgetsSlice, encodesNothing, forgetsCount, losesPlace, losesSign, losesKind, FallLibraries}
 
-abbrev blank : KeptByCaller
-blank = keptByCaller (replicate 28 0) (replicate 4 0)
+abbrev blank : LentByCaller
+blank = record { bytes = replicate 28 0; values = λ i. replicate 4 0 }
 
 zeros-bytes : (k : ℕ) → AreBytes (replicate k 0)
 zeros-bytes zero i = omega arith
@@ -43,7 +43,10 @@ zeros-bytes (suc k) zero = omega arith
 zeros-bytes (suc k) (suc i) = zeros-bytes k i
 
 caller-begins : CallerBegins (sized 8) blank (replicate 8 0)
-caller-begins = record { way = isFirst refl; capacity = omega arith; bytes′ = refl; values′ = refl; buffer = zeros-bytes 8 }
+caller-begins = record { way = isFirst refl; capacity = omega arith; bytes′ = refl; values′ = λ i. refl; buffer = zeros-bytes 8 }
+
+denies-new : HearsNew deniesNew → ⊥
+denies-new h = let n : _≡_ {A = ℕ} 4 0 = h .made (replicate 28 0) 8 1 refl (isFirst refl) (omega arith) in omega (arith, n)
 
 -- the first value that an answer has
 valueOf′ : DecoderAnswer → ℕ
@@ -62,7 +65,12 @@ keeps-values h = let n : _≡_ {A = ℕ} 0 1 = ap (λ (l : List HeardUse). value
 
 hands-buffer : HearsDecoder handsBuffer → ⊥
 unfolding usesLeave payloadRecord hasPayload badDecoder wrongBuffer
-hands-buffer h = let n : _≡_ {A = ℕ} 8 0 = ap length (h (sized 8) blank (replicate 8 0) [] caller-begins tt .2) in omega (arith, n)
+hands-buffer h = let n : _≡_ {A = ℕ} 8 0 = ap length (h (sized 8) blank (replicate 8 0) [] caller-begins tt .2 .bytes′) in omega (arith, n)
+
+-- of a new decoder it is 16
+pays-always : HearsDecoder paysAlways → ⊥
+unfolding usesLeave askRecord hasPayload badDecoder wrongBuffer
+pays-always h = let n : _≡_ {A = ℕ} 0 16 = h (sized 8) blank (replicate 8 0) [] caller-begins tt .2 .number′ in omega (arith, n)
 
 leaves-last : HearsDecoder leavesLast → ⊥
 unfolding usesSay sghDecoderNew sghPushSlice unpackOf packInto badDecoder packedIn packedBytes lowFirst recordIn numberAt stateIn same slicePacked sliceRecord pushesFrom pushRecord pushed wrongBuffer wrote step searching nthUse
@@ -79,7 +87,7 @@ lengthOf (noFrame n) = 0
 
 encodes-nothing : HearsEncode encodesNothing → ⊥
 unfolding lengthOf encodeTo frameOf closed escaped
-encodes-nothing h = let n : _≡_ {A = ℕ} 0 16 = ap (λ (a : AfterEncode). lengthOf (a .answer)) (h [] (replicate 16 0)) in omega (arith, n)
+encodes-nothing h = let n : _≡_ {A = ℕ} 0 16 = ap (λ (a : AfterEncode). lengthOf (a .answer)) (h [] (replicate 16 0) .0) in omega (arith, n)
 
 byteOf : NextAnswer → ℕ
 byteOf (byte n) = n
@@ -88,7 +96,7 @@ byteOf (noByte n) = 0
 
 forgets-count : HearsEncoder forgetsCount → ⊥
 unfolding byteOf callsOf sghEncoderNew sghEncoderNext encoderIn freshEncoder nextStep badEncoder stepFrom reflect polynomial bitStep bitSteps byteStep register
-forgets-count h = let n : _≡_ {A = ℕ} 0x1b 0x01 = ap (λ (l : List NextAnswer). byteOf (getD l 4 finished)) (h [] 0 5 (zeros-bytes 0)) in omega (arith, n)
+forgets-count h = let n : _≡_ {A = ℕ} 0x1b 0x01 = ap (λ (l : List NextAnswer). byteOf (getD l 4 finished)) (h [] (λ i. 0) 5 (zeros-bytes 0)) in omega (arith, n)
 
 placeOf : Said → ℕ
 placeOf (failed f) = f .place
@@ -98,7 +106,7 @@ placeOf (alone n) = 0
 
 -- 76 10: the fault stands at 1
 loses-place : HearsReader losesPlace → ⊥
-unfolding placeOf saysAt sghNextEvent withZeros then guard need byteAt spanAt tlfAt lengthFrom lessOwn listOfAt octetsAt startAt onward beginAt stepAt nextAt
+unfolding placeOf saysAt sghNextEvent withZeros same then guard need byteAt spanAt tlfAt lengthFrom lessOwn listOfAt octetsAt startAt onward beginAt stepAt nextAt
 loses-place h = let n : _≡_ {A = ℕ} 0 1 = ap placeOf (h (0x76 ∷ 0x10 ∷ []) (record { place = 0; start = 0; pending = 0 }) 0) in omega (arith, n)
 
 sizeOf : Option ℤ → ℕ
@@ -115,21 +123,40 @@ scalerOf (failed f) = 0
 scalerOf (alone n) = 0
 
 -- an entry with the scaler -1
+abbrev entryBytes : List ℕ
+entryBytes = 0x77 ∷ 0x02 ∷ 0x05 ∷ 0x01 ∷ 0x01 ∷ 0x01 ∷ 0x52 ∷ 0xff ∷ 0x62 ∷ 0x01 ∷ 0x01 ∷ []
+
+abbrev atEntry : Numbers
+atEntry = record { place = 0; start = 0; pending = 3 }
+
 loses-sign : HearsReader losesSign → ⊥
-unfolding sizeOf scalerOf saysAt sghNextEvent withZeros then guard need byteAt spanAt tlfAt lengthFrom lessOwn listOfAt number bytesAt rawFrom rawAt unsignedAt signedOf signedAt boolFrom boolAt octetsAt absentAt optional timeAt statusOf statusAt signedValue unsignedValue listTypeAt valueOf valueAt entryAt onward entryNext stepAt nextAt
-loses-sign h =
-    let n : _≡_ {A = ℕ} 255 0 = ap scalerOf (h (0x77 ∷ 0x02 ∷ 0x05 ∷ 0x01 ∷ 0x01 ∷ 0x01 ∷ 0x52 ∷ 0xff ∷ 0x62 ∷ 0x01 ∷ 0x01 ∷ []) (record { place = 0; start = 0; pending = 3 }) 0) in
-    omega (arith, n)
+unfolding sizeOf scalerOf saysAt sghNextEvent withZeros same then guard need byteAt spanAt tlfAt lengthFrom lessOwn listOfAt number bytesAt rawFrom rawAt unsignedAt signedOf signedAt boolFrom boolAt octetsAt absentAt optional timeAt statusOf statusAt signedValue unsignedValue listTypeAt valueOf valueAt entryAt onward entryNext stepAt nextAt
+loses-sign h = let n : _≡_ {A = ℕ} 255 0 = ap scalerOf (h entryBytes atEntry 0) in omega (arith, n)
+
+entryCount : Said → ℕ
+entryCount (event (entryEvent e)) = 1
+entryCount (event (startEvent m)) = 0
+entryCount (event (endEvent e)) = 0
+entryCount noEvent = 0
+entryCount (failed f) = 0
+entryCount (alone n) = 0
+
+loses-kind : HearsReader losesKind → ⊥
+unfolding entryCount saysAt sghNextEvent withZeros same then guard need byteAt spanAt tlfAt lengthFrom lessOwn listOfAt number bytesAt rawFrom rawAt unsignedAt signedOf signedAt boolFrom boolAt octetsAt absentAt optional timeAt statusOf statusAt signedValue unsignedValue listTypeAt valueOf valueAt entryAt onward entryNext stepAt nextAt
+loses-kind h = let n : _≡_ {A = ℕ} 0 1 = ap entryCount (h entryBytes atEntry 0) in omega (arith, n)
 
 pub fall-libraries : FallLibraries
 fall-libraries =
     record {
+      denies-new = denies-new;
       keeps-values = keeps-values;
       hands-buffer = hands-buffer;
+      pays-always = pays-always;
       leaves-last = leaves-last;
       slice-forgets = slice-forgets;
       encodes-nothing = encodes-nothing;
       forgets-count = forgets-count;
       loses-place = loses-place;
       loses-sign = loses-sign;
+      loses-kind = loses-kind;
     }

@@ -5,7 +5,7 @@ use mathlib.Core.List.{List, [], _∷_}
 use Prim.Native.Nat.{ℕ, suc, _+_, _≤_}
 use native.Mathlib.Omega.{arith}
 use lib.ListN.{length, take, drop, getD, set}
-use lib.Seq.{sets, sets-eq, length-sets, take-append-seam}
+use lib.Seq.{sets, sets-eq, take-append-seam}
 use lib.Dec.{eqb}
 use borrow.Author.Tests.{ne-eqb}
 use Rattle.refusals.specs.Numbers.{badStateNo, wrongBufferNo}
@@ -18,7 +18,7 @@ use Rattle.decoder.proofs.Faithful.{Fit, push-is-step}
 use Rattle.decoder.proofs.Payload.{payload-leaves, got-done}
 use Rattle.decoder_slice.specs.Slice.{saysNothing, pushesFrom, sliceRecord}
 use Rattle.packed.specs.Packed.{Unpacked, holds, noRecord, unpackOf, pushHeld, pushPacked, sliceHeld, slicePacked, leftHeld, finalizePacked, resetPacked}
-use Rattle.sartrogheo.specs.Calls.{answerNo, answerValues, valuesBy}
+use Rattle.sartrogheo.specs.Calls.{answerNo, valuesBy}
 use Rattle.marks.specs.Library.{valuesOf, heardAnswer, heardReset}
 use Rattle.marks.proofs.Packed.{exactly}
 use Rattle.marks.proofs.Soundness.{got-back}
@@ -45,10 +45,6 @@ answer-heard (payload p) v m four h = ap payload (ap (λ (n : ℕ). take n m) (f
 answer-heard (count n) v m four h = absurd h
 answer-heard (refusal n values) v m four h =
     rw (not-good n (h .0), ne-eqb n 100 (λ e. omega (arith, h .0, e)), ← h .1) (ap (refusal n) (values-front v values four (h .2)))
-
--- the values are four again
-pub values-four : (a : DecoderAnswer) (v : List ℕ) → length v ≡ 4 → length (valuesBy a v) ≡ 4
-values-four a v h = length-sets v 0 (answerValues a) ∙ h
 
 -- ---- our answers can be heard
 

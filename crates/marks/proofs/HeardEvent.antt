@@ -9,11 +9,12 @@ use lib.IntN.{ℤ, pos, negsuc}
 use lib.Dec.{eqb, ltb, leb}
 use lib.Signed.{mag}
 use lib.ListN.{length}
-use borrow.Author.Tests.{lt-ltb, le-ltb, ne-eqb, ltb-true, ltb-false}
+use borrow.Author.Tests.{eq-eqb, lt-ltb, le-ltb, ne-eqb, ltb-true, ltb-false}
 use Rattle.refusals.specs.Numbers.{limit}
 use Rattle.refusals.specs.Read.{Read, got, refused, Refusal}
 use Rattle.refusals.proofs.Read.{Ok, ok-any, ok-got, ok-at, ok-then, ok-guard, ok-cond}
 use Rattle.refusals.specs.declared.Span.{Span}
+use Rattle.frame.proofs.Same.{same-self}
 use Rattle.tlf.specs.Lengths.{tlfAt, listOfAt}
 use Rattle.tlf.specs.declared.Ty.{Ty}
 use Rattle.tlf.specs.declared.Ty.the-variants.{OctetString, Boolean, Integer, Unsigned, ListOf}
@@ -32,7 +33,7 @@ use Rattle.places.specs.Calls.{CallBroke, inStart, inTrailer, inNextStart, inLi
 use Rattle.places.proofs.Calls.{call-broke}
 use Rattle.words.specs.Words.{twosComplement, signedWord, spanWords, statusWords, numberWord, fieldWords, valueWords, startWords, endWords, entryWords, withZeros, eventWords}
 use Rattle.sartrogheo.specs.Streams.{readerNo}
-use Rattle.marks.specs.Library.{wordAt, eventIn, heardEvent}
+use Rattle.marks.specs.Library.{wordAt, eventIn, saidBy, heardEvent}
 
 -- ---- numbers below 0
 
@@ -208,7 +209,7 @@ Tellable noEvent = Unit {0}
 Tellable (failed f) = Unit {0}
 Tellable (alone n) = IsRefusal n
 
-event-back : (x : Said) → Tellable x → ((f : Refusal) → x ≡ failed f → IsRefusal (f .number)) → heardEvent (readerNo x) (eventWords x) ≡ x
+event-back : (x : Said) → Tellable x → ((f : Refusal) → x ≡ failed f → IsRefusal (f .number)) → saidBy (readerNo x) (eventWords x) ≡ x
 unfolding withZeros
 event-back (event (startEvent m)) h g = ap event (body-back m (m .«message_body») refl)
 event-back (event (endEvent e)) h g = ap event (end-back e)
@@ -314,6 +315,10 @@ call-refuses s at start pending f (inNextStart f′ n e l b) = stands-refuses f 
 call-refuses s at start pending f (inListEnd f′ b) = stands-refuses f _ (b .stands)
 call-refuses s at start pending f (inEntry f′ left b) = stands-refuses f _ (b .stands)
 
+-- number and words that are those of what they say are heard so
+heard-is : (number : ℕ) (w : List ℕ) (x : Said) → saidBy number w ≡ x → readerNo x ≡ number → eventWords x ≡ w → heardEvent number w ≡ x
+heard-is number w x h a b = rw (h, a, b, eq-eqb number number refl, same-self w)
+
 -- so what a call's number and words say is what the call says
 pub call-back : (s : List ℕ) (at start pending : ℕ) → let x : Said = nextAt s at start pending .answer in heardEvent (readerNo x) (eventWords x) ≡ x
-call-back s at start pending = event-back _ (next-tells s at start pending) (λ f e. call-refuses s at start pending f (call-broke s at start pending f e))
+call-back s at start pending = heard-is _ _ _ (event-back _ (next-tells s at start pending) (λ f e. call-refuses s at start pending f (call-broke s at start pending f e))) refl refl

@@ -17,22 +17,28 @@ use Rattle.encoder.specs.Encoder.{NextAnswer, byte, finished, noByte, encoderAt
 use Rattle.encoder.specs.declared.Encoder.{Encoder}
 use Rattle.encoder.specs.declared.EncoderState.{EncoderState}
 use Rattle.encoder.specs.declared.EncoderState.the-variants.{Init, LookingForEscape, HandlingEscape, End}
-use Rattle.decoder.specs.Record.{newRecord, hasPayload, payloadRecord}
-use Rattle.decoder.specs.Run.{Op, push, finalize, reset}
+use Rattle.decoder.specs.Push.{inWay}
+use Rattle.decoder.specs.Record.{badDecoder, newRecord, hasPayload, payloadRecord, askRecord}
+use Rattle.decoder.specs.Run.{KnownWay, Op, push, finalize, reset}
+use Rattle.decoder.specs.declared.Decoder.{Decoder}
+use Rattle.decoder.proofs.Search.{known-is}
+use Rattle.decoder.proofs.Reached.{byNew, reached-good}
 use Rattle.decoder.proofs.Split.{cases}
 use Rattle.since.specs.Since.{AllBytes}
-use Rattle.packed.specs.Packed.{packInto, Unpacked, holds, noRecord, unpackOf, pushPacked, slicePacked, finalizePacked, resetPacked, payloadHeld, payloadPacked}
-use Rattle.sartrogheo.specs.Calls.{goodNo, finishedNo, sghDecoderNew, sghPushByte, sghPushSlice, sghPayload, sghFinalize, sghReset, sghEncode}
+use Rattle.packed.specs.Packed.{packInto, Unpacked, holds, noRecord, unpackOf, slicePacked, payloadHeld, payloadPacked, askPacked}
+use Rattle.packed.proofs.Held.{pack-bad, pack-over, pack-good}
+use Rattle.sartrogheo.specs.Calls.{goodNo, finishedNo, answerNo, sghDecoderNew, sghPushByte, sghPushSlice, sghPayload, sghFinalize, sghReset, sghEncode}
 use Rattle.sartrogheo.specs.Streams.{encoderKind, endCount, encoderCount, encoderWords, stateOfKind, encoderIn, sghEncoderNew, nextNo, wordsBehind, byteOr, sghEncoderNext, sghNextEvent}
 use Rattle.marks.specs.Decoders.{LeftBehind}
 use Rattle.marks.specs.Packed.{AreBytes, actOver}
-use Rattle.marks.specs.Encoders.{ourEncoder, callsOf}
+use Rattle.marks.specs.Encoders.{CalledOnce, ourEncoder, callsOf}
 use Rattle.marks.specs.Events.{Numbers, ourReader, saysAt, ReaderGives}
-use Rattle.marks.specs.Library.{ourLibrary, KeptByCaller, keptByCaller, actBy, decoderBy, sliceBy, slicerBy, Use, oneOp, slice, HeardUse, heardUse, usesSay, usesLeave, HearsDecoder, HearsEncode, encoderBy, HearsEncoder, readerBy, threeOf, HearsReader, HearsOurs}
+use Rattle.marks.specs.Library.{ourLibrary, HearsNew, LentByCaller, KeptByCaller, keptByCaller, actBy, sliceBy, slicerBy, Use, oneOp, slice, HeardUse, heardUse, usesSay, usesLeave, HearsPayload, HearsDecoder, HearsEncode, KeptEncoder, encoderBy, HearsEncoder, readerBy, threeOf, HearsReader, HearsOurs}
 use Rattle.marks.proofs.Events.{reader-gives}
 use Rattle.marks.proofs.HeardEvent.{IsRefusal, not-good, not-finished, call-back}
-use Rattle.marks.proofs.HeardAnswer.{answer-heard, values-four, push-bytes-hearable, slice-bytes-hearable, finalize-bytes-hearable, reset-heard}
-use Rattle.marks.proofs.Packed.{hostSlicer, kept-payload, new-alike}
+use Rattle.marks.proofs.HeardAnswer.{answer-heard, push-bytes-hearable, slice-bytes-hearable, finalize-bytes-hearable, reset-heard}
+use Rattle.marks.proofs.Packed.{hostSlicer, StaysKept, kept-payload, new-alike}
+use Rattle.marks.proofs.Ways.{unknown-bad}
 use Rattle.marks.proofs.Narrow.{bytes-join, bytes-run, start-bytes, register-narrow}
 
 -- ---- a reader
@@ -52,8 +58,8 @@ pub hears-encode : HearsEncode ourLibrary
 unfolding sghEncode encodeTo
 hears-encode p out =
     cases (leb (length p) limit)
-    (λ t. cases (leb (length (frameOf p)) (length out)) (λ u. rw (t, u)) (λ u. rw (t, u)))
-    (λ t. rw t)
+    (λ t. cases (leb (length (frameOf p)) (length out)) (λ u. rw (t, u) (refl, refl)) (λ u. rw (t, u) (refl, refl)))
+    (λ t. rw t (refl, refl))
 
 -- a count, and the state that it stands for
 end-count : (z : ℤ) → badEnd z ≡ false → (endCount z ≤ 11) × (pos (endCount z) -ℤ pos 3 ≡ z)
@@ -113,10 +119,13 @@ answer-alike e (byte b) f old h = (refl, refl)
 answer-alike e finished f old h = (refl, ap encoderWords (sym h))
 answer-alike e (noByte n) f old h = (rw (not-good n (h .1), not-finished n (h .1)), ap encoderWords (sym (h .0)))
 
-next-alike : (e : Encoder) (p : List ℕ) (old : ℕ) → GoodEncoder e
-    → let t = encoderBy ourLibrary old .next (encoderWords e) p in (t .answer ≡ nextStep e p .answer) × (t .encoder ≡ encoderWords (nextStep e p .encoder))
+next-alike : (e : Encoder) (p : List ℕ) (old : ℕ → ℕ) (n : ℕ) → GoodEncoder e
+    → let t : CalledOnce KeptEncoder = encoderBy ourLibrary old .next (record { words = encoderWords e; calls = n }) p in
+    (t .answer ≡ nextStep e p .answer) × (t .encoder ≡ record { words = encoderWords (nextStep e p .encoder); calls = suc n })
 unfolding sghEncoderNext
-next-alike e p old g = rw (words-back e g) (answer-alike e (nextStep e p .answer) (nextStep e p .encoder) old (next-leaves e p))
+next-alike e p old n g =
+    let a = answer-alike e (nextStep e p .answer) (nextStep e p .encoder) (old n) (next-leaves e p) in
+    rw (words-back e g) (a .0, ap (λ (w : List ℕ). record { words = w; calls = suc n }) (a .1))
 
 -- what an Encoder's numbers hold stays good
 end-next : (z : ℤ) → lastEnd z ≡ false → badEnd z ≡ false → badEnd (sucℤ z) ≡ false
@@ -166,73 +175,80 @@ next-good′ e p b g =
     (λ t. cases (badEncoder e (length p)) (λ u. rw (t, u) g) (λ u. rw (t, u) (step-good (e .state) (e .place) (e .crc) p (g .counts) b (g .narrow))))
     (λ t. rw t g)
 
-calls-alike : (n : ℕ) (e : Encoder) (p : List ℕ) (old : ℕ) → AreBytes p → GoodEncoder e → callsOf (encoderBy ourLibrary old) n (encoderWords e) p ≡ callsOf ourEncoder n e p
+calls-alike : (i : ℕ) (e : Encoder) (p : List ℕ) (old : ℕ → ℕ) (n : ℕ) → AreBytes p → GoodEncoder e → callsOf (encoderBy ourLibrary old) i (record { words = encoderWords e; calls = n }) p ≡ callsOf ourEncoder i e p
 unfolding callsOf
-calls-alike zero e p old b g = refl
-calls-alike (suc n) e p old b g =
-    let t = next-alike e p old g in
-    rw (t .0, t .1) (ap (λ (l : List NextAnswer). nextStep e p .answer ∷ l) (calls-alike n (nextStep e p .encoder) p old b (next-good′ e p b g)))
+calls-alike zero e p old n b g = refl
+calls-alike (suc i) e p old n b g =
+    let t = next-alike e p old n g in
+    rw (t .0, t .1) (ap (λ (l : List NextAnswer). nextStep e p .answer ∷ l) (calls-alike i (nextStep e p .encoder) p old (suc n) b (next-good′ e p b g)))
 
 pub hears-encoder : HearsEncoder ourLibrary
 unfolding sghEncoderNew freshEncoder
-hears-encoder p old n b = calls-alike n freshEncoder p old b (record { counts = refl; narrow = register-narrow start startSeq (omega arith) start-bytes })
+hears-encoder p old n b = calls-alike n freshEncoder p old 0 b (record { counts = refl; narrow = register-narrow start startSeq (omega arith) start-bytes })
 
 -- ---- a decoder
 
--- an operation by its call is that over the bytes, and the values are four again
-record ActsAs (k : KeptByCaller) (m : List ℕ) (o : Op) : Type 0 where
-  answer′ : actBy ourLibrary k m o .answer ≡ actOver (k .bytes) m o .answer
-  bytes′ : actBy ourLibrary k m o .decoder .bytes ≡ actOver (k .bytes) m o .decoder
-  memory′ : actBy ourLibrary k m o .memory ≡ actOver (k .bytes) m o .memory
-  four′ : length (actBy ourLibrary k m o .decoder .values) ≡ 4
+hears-new : HearsNew ourLibrary
+unfolding sghDecoderNew
+hears-new =
+    record {
+      made = λ l capacity way long w small. rw (pack-good (newRecord (inWay way capacity)) l (good-new way capacity w) small (omega (arith, long)));
+      unknown = λ l capacity way u. rw (pack-bad (newRecord (inWay way capacity)) l (unknown-bad (newRecord (inWay way capacity)) u));
+      large = λ l capacity way w over. rw (pack-over (newRecord (inWay way capacity)) l (good-new way capacity w) over);
+    }
+  where
+    good-new : (way capacity : ℕ) → KnownWay way → badDecoder (newRecord (inWay way capacity)) ≡ false
+    good-new way capacity w = reached-good (inWay way capacity) (newRecord (inWay way capacity)) (known-is way w) byNew .0
 
-acts-as : (k : KeptByCaller) (m : List ℕ) (o : Op) → length (k .values) ≡ 4 → ActsAs k m o
+-- an operation by its call is that over the bytes
+record ActsAs (c : LentByCaller) (k : KeptByCaller) (m : List ℕ) (o : Op) : Type 0 where
+  answer′ : actBy ourLibrary c k m o .answer ≡ actOver (k .bytes) m o .answer
+  bytes′ : actBy ourLibrary c k m o .decoder .bytes ≡ actOver (k .bytes) m o .decoder
+  memory′ : actBy ourLibrary c k m o .memory ≡ actOver (k .bytes) m o .memory
+
+acts-as : (c : LentByCaller) (k : KeptByCaller) (m : List ℕ) (o : Op) → length (c .values (k .calls)) ≡ 4 → ActsAs c k m o
 unfolding sghPushByte sghFinalize sghReset
-acts-as k m (push b) four =
-    record { answer′ = answer-heard _ (k .values) _ four (push-bytes-hearable (k .bytes) m b); bytes′ = refl; memory′ = refl; four′ = values-four (pushPacked (k .bytes) m b .answer) (k .values) four }
-acts-as k m finalize four =
-    record { answer′ = answer-heard _ (k .values) m four (finalize-bytes-hearable (k .bytes) m); bytes′ = refl; memory′ = refl; four′ = values-four (finalizePacked (k .bytes) .answer) (k .values) four }
-acts-as k m reset four =
-    record { answer′ = reset-heard (k .bytes) (k .values) four; bytes′ = refl; memory′ = refl; four′ = values-four (resetPacked (k .bytes) .answer) (k .values) four }
+acts-as c k m (push b) four = record { answer′ = answer-heard _ (c .values (k .calls)) _ four (push-bytes-hearable (k .bytes) m b); bytes′ = refl; memory′ = refl }
+acts-as c k m finalize four = record { answer′ = answer-heard _ (c .values (k .calls)) m four (finalize-bytes-hearable (k .bytes) m); bytes′ = refl; memory′ = refl }
+acts-as c k m reset four = record { answer′ = reset-heard (k .bytes) (c .values (k .calls)) four; bytes′ = refl; memory′ = refl }
 
 -- so is a push of a slice
-record SlicesAs (k : KeptByCaller) (m chunk : List ℕ) : Type 0 where
-  answer′ : sliceBy ourLibrary k m chunk .answer ≡ slicePacked (k .bytes) m chunk .answer
-  taken′ : sliceBy ourLibrary k m chunk .taken ≡ slicePacked (k .bytes) m chunk .taken
-  bytes′ : sliceBy ourLibrary k m chunk .decoder .bytes ≡ slicePacked (k .bytes) m chunk .bytes
-  memory′ : sliceBy ourLibrary k m chunk .memory ≡ slicePacked (k .bytes) m chunk .memory
-  four′ : length (sliceBy ourLibrary k m chunk .decoder .values) ≡ 4
+record SlicesAs (c : LentByCaller) (k : KeptByCaller) (m chunk : List ℕ) : Type 0 where
+  answer′ : sliceBy ourLibrary c k m chunk .answer ≡ slicePacked (k .bytes) m chunk .answer
+  taken′ : sliceBy ourLibrary c k m chunk .taken ≡ slicePacked (k .bytes) m chunk .taken
+  bytes′ : sliceBy ourLibrary c k m chunk .decoder .bytes ≡ slicePacked (k .bytes) m chunk .bytes
+  memory′ : sliceBy ourLibrary c k m chunk .memory ≡ slicePacked (k .bytes) m chunk .memory
 
-slices-as : (k : KeptByCaller) (m chunk : List ℕ) → length (k .values) ≡ 4 → SlicesAs k m chunk
+slices-as : (c : LentByCaller) (k : KeptByCaller) (m chunk : List ℕ) → length (c .values (k .calls)) ≡ 4 → SlicesAs c k m chunk
 unfolding sghPushSlice
-slices-as k m chunk four =
-    record { answer′ = answer-heard _ (k .values) _ four (slice-bytes-hearable (k .bytes) m chunk); taken′ = refl; bytes′ = refl; memory′ = refl; four′ = values-four (slicePacked (k .bytes) m chunk .answer) (k .values) four }
-
--- one after another, too
-uses-as : (M : KeptByCaller) (us : List Use) (k : KeptByCaller) (m : List ℕ) → length (k .values) ≡ 4 → usesSay (slicerBy ourLibrary M) k m us ≡ usesSay hostSlicer (k .bytes) m us
-unfolding usesSay
-uses-as M [] k m four = refl
-uses-as M (oneOp o ∷ us) k m four =
-    let a = acts-as k m o four in
-    rw (a .answer′, ← a .bytes′, ← a .memory′) (ap (λ (l : List HeardUse). heardUse (actOver (k .bytes) m o .answer) 0 ∷ l) (uses-as M us (actBy ourLibrary k m o .decoder) (actBy ourLibrary k m o .memory) (a .four′)))
-uses-as M (slice chunk ∷ us) k m four =
-    let a = slices-as k m chunk four in
-    let t = slicePacked (k .bytes) m chunk in
-    rw (a .answer′, a .taken′, ← a .bytes′, ← a .memory′) (ap (λ (l : List HeardUse). heardUse (t .answer) (t .taken) ∷ l) (uses-as M us (sliceBy ourLibrary k m chunk .decoder) (sliceBy ourLibrary k m chunk .memory) (a .four′)))
+slices-as c k m chunk four = record { answer′ = answer-heard _ (c .values (k .calls)) _ four (slice-bytes-hearable (k .bytes) m chunk); taken′ = refl; bytes′ = refl; memory′ = refl }
 
 record LeavesAs (x : LeftBehind KeptByCaller) (y : LeftBehind (List ℕ)) : Type 0 where
   bytes″ : x .decoder .bytes ≡ y .decoder
   memory″ : x .memory ≡ y .memory
 
-leaves-as : (M : KeptByCaller) (us : List Use) (k : KeptByCaller) (m : List ℕ) → length (k .values) ≡ 4 → LeavesAs (usesLeave (slicerBy ourLibrary M) k m us) (usesLeave hostSlicer (k .bytes) m us)
-unfolding usesLeave
-leaves-as M [] k m four = record { bytes″ = refl; memory″ = refl }
-leaves-as M (oneOp o ∷ us) k m four =
-    let a = acts-as k m o four in
-    rw (← a .bytes′, ← a .memory′) (leaves-as M us (actBy ourLibrary k m o .decoder) (actBy ourLibrary k m o .memory) (a .four′))
-leaves-as M (slice chunk ∷ us) k m four =
-    let a = slices-as k m chunk four in
-    rw (← a .bytes′, ← a .memory′) (leaves-as M us (sliceBy ourLibrary k m chunk .decoder) (sliceBy ourLibrary k m chunk .memory) (a .four′))
+-- one after another, too
+module _ (c : LentByCaller) (four : (i : ℕ) → length (c .values i) ≡ 4) where
+  uses-as : (us : List Use) (k : KeptByCaller) (m : List ℕ) → usesSay (slicerBy ourLibrary c) k m us ≡ usesSay hostSlicer (k .bytes) m us
+  unfolding usesSay
+  uses-as [] k m = refl
+  uses-as (oneOp o ∷ us) k m =
+      let a = acts-as c k m o (four (k .calls)) in
+      rw (a .answer′, ← a .bytes′, ← a .memory′) (ap (λ (l : List HeardUse). heardUse (actOver (k .bytes) m o .answer) 0 ∷ l) (uses-as us (actBy ourLibrary c k m o .decoder) (actBy ourLibrary c k m o .memory)))
+  uses-as (slice chunk ∷ us) k m =
+      let a = slices-as c k m chunk (four (k .calls)) in
+      let t = slicePacked (k .bytes) m chunk in
+      rw (a .answer′, a .taken′, ← a .bytes′, ← a .memory′) (ap (λ (l : List HeardUse). heardUse (t .answer) (t .taken) ∷ l) (uses-as us (sliceBy ourLibrary c k m chunk .decoder) (sliceBy ourLibrary c k m chunk .memory)))
+
+  leaves-as : (us : List Use) (k : KeptByCaller) (m : List ℕ) → LeavesAs (usesLeave (slicerBy ourLibrary c) k m us) (usesLeave hostSlicer (k .bytes) m us)
+  unfolding usesLeave
+  leaves-as [] k m = record { bytes″ = refl; memory″ = refl }
+  leaves-as (oneOp o ∷ us) k m =
+      let a = acts-as c k m o (four (k .calls)) in
+      rw (← a .bytes′, ← a .memory′) (leaves-as us (actBy ourLibrary c k m o .decoder) (actBy ourLibrary c k m o .memory))
+  leaves-as (slice chunk ∷ us) k m =
+      let a = slices-as c k m chunk (four (k .calls)) in
+      rw (← a .bytes′, ← a .memory′) (leaves-as us (sliceBy ourLibrary c k m chunk .decoder) (sliceBy ourLibrary c k m chunk .memory))
 
 -- a payload is as long as the buffer's part that it is
 part-long : (n : ℕ) (m : List ℕ) → take (length (take n m)) m ≡ take n m
@@ -248,20 +264,25 @@ payload-part l m = by (unpackOf l)
     by (noRecord n) = refl
     by (holds d) = cases (hasPayload d m) (λ t. rw t (part-long (d .fill) m)) (λ t. rw t)
 
-payload-as : (M : KeptByCaller) (x : LeftBehind KeptByCaller) (y : LeftBehind (List ℕ)) → LeavesAs x y → decoderBy ourLibrary M .payloadOf (x .decoder) (x .memory) ≡ payloadPacked (y .decoder) (y .memory)
+payload-as : (x : LeftBehind KeptByCaller) (k : LeftBehind (List ℕ)) (y : LeftBehind Decoder) → LeavesAs x k → StaysKept y k
+    → HearsPayload (sghPayload (x .decoder .bytes) (x .memory)) x y
 unfolding sghPayload
-payload-as M x y a = payload-part (x .decoder .bytes) (x .memory) ∙ rw (a .bytes″, a .memory″)
+payload-as x k y a s =
+    let q = kept-payload y k s in
+    let p : payloadPacked (x .decoder .bytes) (x .memory) ≡ payloadRecord (y .decoder) (y .memory) = rw (a .bytes″, a .memory″) (q .0) in
+    let n : askPacked (x .decoder .bytes) (x .memory) ≡ askRecord (y .decoder) (y .memory) = rw (a .bytes″, a .memory″) (q .1) in
+    record { number′ = ap answerNo n; length′ = ap length p; bytes′ = payload-part (x .decoder .bytes) (x .memory) ∙ p }
 
 pub hears-decoder : HearsDecoder ourLibrary
 unfolding sghDecoderNew
-hears-decoder C k m us g p =
-    let j : KeptByCaller = keptByCaller (packInto (newRecord C) (k .bytes) .output) (k .values) in
-    let a = new-alike C (k .bytes) m us (g .way) (g .capacity) (omega (arith, g .bytes′)) (g .buffer) p in
-    let x = leaves-as k us j m (g .values′) in
-    (uses-as k us j m (g .values′) ∙ a .says, x .memory″ ∙ a .stays .memories, payload-as k _ _ x ∙ kept-payload _ _ (a .stays))
+hears-decoder C c m us g p =
+    let j : KeptByCaller = keptByCaller (packInto (newRecord C) (c .bytes) .output) 0 in
+    let a = new-alike C (c .bytes) m us (g .way) (g .capacity) (omega (arith, g .bytes′)) (g .buffer) p in
+    let x = leaves-as c (g .values′) us j m in
+    (uses-as c (g .values′) us j m ∙ a .says, x .memory″ ∙ a .stays .memories, payload-as _ _ _ x (a .stays))
 
 pub hears-ours : HearsOurs ourLibrary
-hears-ours = record { decoder = hears-decoder; encode = hears-encode; encoder = hears-encoder; reader = hears-reader }
+hears-ours = record { new = hears-new; decoder = hears-decoder; encode = hears-encode; encoder = hears-encoder; crc = λ l. refl; reader = hears-reader }
 
 pub library-gives : ReaderGives (readerBy ourLibrary)
 library-gives s k = hears-reader s (record { place = 0; start = 0; pending = 0 }) k ∙ reader-gives s k

@@ -1,4 +1,4 @@
--- The marks hold of what a collector links: a caller of the library hears what our record says, and of that they hold.
+-- The marks hold of every library through which a caller hears what our record says.
 use mathlib.Core.Path.{_≡_, refl, ap, sym, _∙_}
 use mathlib.Core.List.{List, [], _∷_, _++_, map}
 use Prim.Native.Nat.{ℕ, zero, suc, _+_, _≤_, _<_}
@@ -20,12 +20,12 @@ use Rattle.marks.specs.Decoders.{Machine, ours, answers, behindOf, LeftB
 use Rattle.marks.specs.Mark2.{PushesBytes, SoundBehind}
 use Rattle.marks.specs.Mark3.{ourEncode, Job, AllSuit, part, wroteFor, framesFor, restSays, HeardBehindZeros}
 use Rattle.marks.specs.Chunks.{ourSlicer}
-use Rattle.marks.specs.Library.{ourLibrary, KeptByCaller, decoderBy, slicerBy, CallerBegins, encodeBy, JobsOfBytes, MarksBy}
+use Rattle.marks.specs.Library.{Library, LentByCaller, KeptByCaller, decoderBy, slicerBy, CallerBegins, encodeBy, HearsOurs, JobsOfBytes, MarksBy}
 use Rattle.marks.proofs.Narrow.{bytes-join, bytes-run, bytes-at, bytes-all, start-bytes}
 use Rattle.marks.proofs.Packed.{singly, singly-bytes, singly-leaves, singly-answers}
 use Rattle.marks.proofs.Soundness.{soundness}
 use Rattle.marks.proofs.Recovery.{wrote-is, mark3}
-use Rattle.marks.proofs.Library.{end-bytes, hears-decoder, hears-encode}
+use Rattle.marks.proofs.Library.{end-bytes}
 
 -- ---- operations that push bytes
 
@@ -74,20 +74,20 @@ last-same l k a b same e = sym (last-of l a) ∙ ap (λ (x : List DecoderAnswer)
     last-from [] a b = refl
     last-from (x ∷ l) a b = last-from l a b
 
-module _ (C : Setup) (k : KeptByCaller) (m : List ℕ) (g : CallerBegins C k m) where
+module _ (L : Library) (h : HearsOurs L) (C : Setup) (c : LentByCaller) (m : List ℕ) (g : CallerBegins C c m) where
   abbrev M : Machine KeptByCaller
-  M = decoderBy ourLibrary k
+  M = decoderBy L c
 
   -- of operations alone
   hears-answers : (os : List Op) → PushesBytes os → answers M (M .new C) m os ≡ answers ours (newRecord C) m os
-  hears-answers os p = singly-answers (slicerBy ourLibrary k) ourSlicer os (M .new C) (newRecord C) m (hears-decoder C k m (singly os) g (singly-bytes os p) .0)
+  hears-answers os p = singly-answers (slicerBy L c) ourSlicer os (M .new C) (newRecord C) m (h .decoder C c m (singly os) g (singly-bytes os p) .0)
 
   hears-payload : (os : List Op) → PushesBytes os
       → let x : LeftBehind KeptByCaller = leftBehind M (M .new C) m os in
       let y : LeftBehind Decoder = leftBehind ours (newRecord C) m os in
       M .payloadOf (x .decoder) (x .memory) ≡ ours .payloadOf (y .decoder) (y .memory)
   hears-payload os p =
-      rw (← singly-leaves (slicerBy ourLibrary k) os (M .new C) m, ← singly-leaves ourSlicer os (newRecord C) m) (hears-decoder C k m (singly os) g (singly-bytes os p) .2)
+      rw (← singly-leaves (slicerBy L c) os (M .new C) m, ← singly-leaves ourSlicer os (newRecord C) m) (h .decoder C c m (singly os) g (singly-bytes os p) .2 .bytes′)
 
   new-empty : M .payloadOf (M .new C) m ≡ []
   unfolding leftBehind
@@ -142,28 +142,29 @@ frames-bytes C (j ∷ js) small b s =
 
 -- ---- the library's encode writes them
 
-wrote-alike : (j : Job) → wroteFor (encodeBy ourLibrary) j ≡ wroteFor ourEncode j
-wrote-alike j = ap (λ (l : AfterEncode). part (l .answer) (l .output)) (hears-encode (j .payload) (j .output))
+module _ (L : Library) (h : HearsOurs L) where
+  wrote-alike : (j : Job) → wroteFor (encodeBy L) j ≡ wroteFor ourEncode j
+  wrote-alike j = ap (λ (l : AfterEncode). part (l .answer) (l .output)) (h .encode (j .payload) (j .output) .0)
 
-frames-alike : (js : List Job) → framesFor (encodeBy ourLibrary) js ≡ framesFor ourEncode js
-unfolding framesFor
-frames-alike [] = refl
-frames-alike (j ∷ js) = rw (wrote-alike j, frames-alike js)
+  frames-alike : (js : List Job) → framesFor (encodeBy L) js ≡ framesFor ourEncode js
+  unfolding framesFor
+  frames-alike [] = refl
+  frames-alike (j ∷ js) = rw (wrote-alike j, frames-alike js)
 
-rest-alike : (js : List Job) → restSays (encodeBy ourLibrary) js ≡ restSays ourEncode js
-unfolding restSays
-rest-alike [] = refl
-rest-alike (j ∷ js) = rw (wrote-alike j, rest-alike js)
+  rest-alike : (js : List Job) → restSays (encodeBy L) js ≡ restSays ourEncode js
+  unfolding restSays
+  rest-alike [] = refl
+  rest-alike (j ∷ js) = rw (wrote-alike j, rest-alike js)
 
-mark3-by : (C : Setup) (k : KeptByCaller) (m : List ℕ) → CallerBegins C k m → length m ≡ C .capacity
-    → (before : List Op) (j : Job) (js : List Job) → PushesBytes before → JobsOfBytes (j ∷ js) → AllSuit C (j ∷ js) → HeardBehindZeros (decoderBy ourLibrary k) (encodeBy ourLibrary) C m before j js
-mark3-by C k m g long before j js p b s =
-    let os : List Op = before ++ replicate (C .capacity + 5) (push 0x00) in
-    let po : PushesBytes os = pushes-join before _ p (pushes-zeros (C .capacity + 5)) in
-    let frames : List ℕ = framesFor ourEncode (j ∷ js) in
-    let pf : PushesBytes (os ++ map push frames) = pushes-join os _ po (pushes-bytes frames (frames-bytes C (j ∷ js) (g .capacity) b s)) in
-    rw (frames-alike (j ∷ js), wrote-alike j, rest-alike js, hears-answers C k m g (os ++ map push frames) pf, hears-answers C k m g os po)
-    (mark3 C m (g .way) long (g .capacity) before j js s)
+  mark3-by : (C : Setup) (c : LentByCaller) (m : List ℕ) → CallerBegins C c m → length m ≡ C .capacity
+      → (before : List Op) (j : Job) (js : List Job) → PushesBytes before → JobsOfBytes (j ∷ js) → AllSuit C (j ∷ js) → HeardBehindZeros (decoderBy L c) (encodeBy L) C m before j js
+  mark3-by C c m g long before j js p b s =
+      let os : List Op = before ++ replicate (C .capacity + 5) (push 0x00) in
+      let po : PushesBytes os = pushes-join before _ p (pushes-zeros (C .capacity + 5)) in
+      let frames : List ℕ = framesFor ourEncode (j ∷ js) in
+      let pf : PushesBytes (os ++ map push frames) = pushes-join os _ po (pushes-bytes frames (frames-bytes C (j ∷ js) (g .capacity) b s)) in
+      rw (frames-alike (j ∷ js), wrote-alike j, rest-alike js, hears-answers L h C c m g (os ++ map push frames) pf, hears-answers L h C c m g os po)
+      (mark3 C m (g .way) long (g .capacity) before j js s)
 
-pub marks-by : MarksBy ourLibrary
-marks-by = record { soundness = λ C k m g. (new-empty C k m g, sound-behind C k m g); mark3 = mark3-by }
+pub marks-by : (L : Library) → HearsOurs L → MarksBy L
+marks-by L h = record { soundness = λ C c m g. (new-empty L h C c m g, sound-behind L h C c m g); mark3 = mark3-by L h }

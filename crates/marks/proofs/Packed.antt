@@ -309,12 +309,14 @@ pub record StaysKept (j : LeftBehind Decoder) (k : LeftBehind (List ℕ)) : Type
   pub keeps : packInto (j .decoder) (k .decoder) ≡ answering nothing (k .decoder)
   pub memories : k .memory ≡ j .memory
 
--- the payload there is that of the record
-pub kept-payload : (j : LeftBehind Decoder) (k : LeftBehind (List ℕ)) → StaysKept j k → payloadPacked (k .decoder) (k .memory) ≡ payloadRecord (j .decoder) (j .memory)
+-- the payload there is that of the record, and so is its question
+pub kept-payload : (j : LeftBehind Decoder) (k : LeftBehind (List ℕ)) → StaysKept j k
+    → (payloadPacked (k .decoder) (k .memory) ≡ payloadRecord (j .decoder) (j .memory)) × (askPacked (k .decoder) (k .memory) ≡ askRecord (j .decoder) (j .memory))
 kept-payload j k a =
     let y = hands-out-alike (j .decoder) (k .decoder) (k .memory) (a .narrow) (ap (λ (x : Filled). x .answer) (a .keeps)) in
     let q : payloadPacked (k .decoder) (k .memory) ≡ payloadRecord (j .decoder) (k .memory) = rw (a .keeps) at (y .0) in
-    q ∙ ap (payloadRecord (j .decoder)) (a .memories)
+    let r : askPacked (k .decoder) (k .memory) ≡ askRecord (j .decoder) (k .memory) = rw (a .keeps) at (y .1) in
+    (q ∙ ap (payloadRecord (j .decoder)) (a .memories), r ∙ ap (askRecord (j .decoder)) (a .memories))
 
 -- operations and slices
 
@@ -395,7 +397,7 @@ answers-alike C m os w small h p =
     let a = new-alike C (replicate 28 0) m (singly os) w small (omega arith) h (singly-bytes os p) in
     let b = packInto (newRecord C) (replicate 28 0) .output in
     let s : StaysKept (leftBehind ours (newRecord C) m os) (leftBehind (keptBy ourHost) b m os) = rw (← singly-leaves ourSlicer os (newRecord C) m, ← singly-leaves hostSlicer os b m) (a .stays) in
-    (singly-answers hostSlicer ourSlicer os b (newRecord C) m (a .says), s .memories, s .keeps, kept-payload _ _ s)
+    (singly-answers hostSlicer ourSlicer os b (newRecord C) m (a .says), s .memories, s .keeps, kept-payload _ _ s .0)
 
 -- ---- unused counts
 

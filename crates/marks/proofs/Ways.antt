@@ -58,7 +58,7 @@ keeps-way = record {
 
 -- ---- an unknown way
 
-unknown-bad : (d : Decoder) → (KnownWay (d .way) → ⊥) → badDecoder d ≡ true
+pub unknown-bad : (d : Decoder) → (KnownWay (d .way) → ⊥) → badDecoder d ≡ true
 unfolding badDecoder
 unknown-bad d no-way = rw (unknown-is (d .way) no-way)
 

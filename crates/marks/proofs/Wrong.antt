@@ -14,8 +14,8 @@ use Rattle.marks.specs.Events.{ReaderGives, GoesOn, readerWith, ListsEnt
 use Rattle.marks.specs.Fakes.{refusesAll, constant, idle, invents, once, stale, hasty, forgiving, firstOnly, countsEight, deaf, forgetsWay, servesAnyWay, swallows, takesNone, withholds, shrugs, forgetful, blamesTheMessage, saysItAgain, writesNothing, finishedAtOnce, withoutEvents, noEntries}
 use Rattle.marks.specs.FakeHosts.{unpacksNothing, packsConstants, packsAny, unpacksAny, onlyAnswers, saysNothingEver, handsNothing, clearsRefused, growsOutput, clearsRest}
 use Rattle.marks.proofs.Fakes.{not-ours, fall}
-use Rattle.marks.specs.Library.{HearsDecoder, HearsEncode, HearsEncoder, HearsReader}
-use Rattle.marks.specs.FakeLibraries.{keepsValues, handsBuffer, leavesLast, forgetsSlice, encodesNothing, forgetsCount, losesPlace, losesSign}
+use Rattle.marks.specs.Library.{HearsNew, HearsDecoder, HearsEncode, HearsEncoder, HearsReader}
+use Rattle.marks.specs.FakeLibraries.{deniesNew, keepsValues, handsBuffer, paysAlways, leavesLast, forgetsSlice, encodesNothing, forgetsCount, losesPlace, losesSign, losesKind}
 use Rattle.marks.proofs.FakeHosts.{fall-hosts}
 use Rattle.marks.proofs.FakeLibraries.{fall-libraries}
 
@@ -130,11 +130,17 @@ fake-output-grows = fall-hosts .grows-output
 fake-refused-output-cleared : LeavesRefused clearsRefused → ⊥
 fake-refused-output-cleared = fall-hosts .clears-refused
 
+fake-new-decoder-denied : HearsNew deniesNew → ⊥
+fake-new-decoder-denied = fall-libraries .denies-new
+
 fake-finalize-leaves-the-values : HearsDecoder keepsValues → ⊥
 fake-finalize-leaves-the-values = fall-libraries .keeps-values
 
 fake-payload-is-the-whole-buffer : HearsDecoder handsBuffer → ⊥
 fake-payload-is-the-whole-buffer = fall-libraries .hands-buffer
+
+fake-payload-always-stands : HearsDecoder paysAlways → ⊥
+fake-payload-always-stands = fall-libraries .pays-always
 
 fake-slice-leaves-its-last-byte : HearsDecoder leavesLast → ⊥
 fake-slice-leaves-its-last-byte = fall-libraries .leaves-last
@@ -153,3 +159,6 @@ fake-refusal-without-its-place = fall-libraries .loses-place
 
 fake-scaler-without-its-sign : HearsReader losesSign → ⊥
 fake-scaler-without-its-sign = fall-libraries .loses-sign
+
+fake-entry-without-its-kind : HearsReader losesKind → ⊥
+fake-entry-without-its-kind = fall-libraries .loses-kind

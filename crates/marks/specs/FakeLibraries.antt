@@ -2,15 +2,16 @@
 use mathlib.Core.List.{List, [], _∷_}
 use Prim.Native.Nat.{ℕ, _-_, _%_}
 use lib.ListN.{length, set}
+use Rattle.crc_x25.specs.Crc.{crcOf}
 use Rattle.sartrogheo.specs.Calls.{Reply, reply, sghDecoderNew, sghPushByte, sghPushSlice, sghPayload, sghFinalize, sghReset, sghEncode}
 use Rattle.sartrogheo.specs.Streams.{sghEncoderNew, sghEncoderNext, sghNextEvent}
-use Rattle.marks.specs.Library.{Library, lentAt, firstAt, wordAt, HearsDecoder, HearsEncode, HearsEncoder, HearsReader}
+use Rattle.marks.specs.Library.{Library, lentAt, firstAt, wordAt, HearsNew, HearsDecoder, HearsEncode, HearsEncoder, HearsReader}
 
--- ours, but for the calls over a decoder; over frames; over messages
-abbrev pub withDecoder : (List ℕ → List ℕ → List ℕ → List ℕ → Reply) → (List ℕ → List ℕ → Reply) → (List ℕ → List ℕ → Reply) → Library
-withDecoder slice payload finalize =
+-- ours, but for the calls that make a decoder, push a slice, ask for the payload and finalize; or for those over frames and messages
+abbrev pub withDecoder : (List ℕ → ℕ → ℕ → Reply) → (List ℕ → List ℕ → List ℕ → List ℕ → Reply) → (List ℕ → List ℕ → Reply) → (List ℕ → List ℕ → Reply) → Library
+withDecoder new slice payload finalize =
     record {
-      decoderNew = sghDecoderNew;
+      decoderNew = new;
       pushByte = sghPushByte;
       pushSlice = slice;
       payloadLen = payload;
@@ -19,6 +20,7 @@ withDecoder slice payload finalize =
       encodes = sghEncode;
       encoderNew = sghEncoderNew;
       encoderNext = sghEncoderNext;
+      crc = crcOf;
       nextEvent = sghNextEvent;
     }
 
@@ -34,26 +36,35 @@ withFrames encode next event =
       encodes = encode;
       encoderNew = sghEncoderNew;
       encoderNext = next;
+      crc = crcOf;
       nextEvent = event;
     }
 
+-- makes a decoder, and says that it didn't
+abbrev pub deniesNew : Library
+deniesNew = withDecoder (λ l capacity way. reply 4 (lentAt (sghDecoderNew l capacity way) 0 ∷ [])) sghPushSlice sghPayload sghFinalize
+
 -- finalize says 6 and leaves the values as they were
 abbrev pub keepsValues : Library
-keepsValues = withDecoder sghPushSlice sghPayload (λ l v. reply (sghFinalize l v .number) (lentAt (sghFinalize l v) 0 ∷ v ∷ []))
+keepsValues = withDecoder sghDecoderNew sghPushSlice sghPayload (λ l v. reply (sghFinalize l v .number) (lentAt (sghFinalize l v) 0 ∷ v ∷ []))
 
 -- the payload is the whole buffer
 abbrev pub handsBuffer : Library
-handsBuffer = withDecoder sghPushSlice (λ l m. reply 0 ((length m ∷ []) ∷ [])) sghFinalize
+handsBuffer = withDecoder sghDecoderNew sghPushSlice (λ l m. reply 0 ((length m ∷ []) ∷ [])) sghFinalize
+
+-- a payload always stands there, an empty one too
+abbrev pub paysAlways : Library
+paysAlways = withDecoder sghDecoderNew sghPushSlice (λ l m. reply 0 (lentAt (sghPayload l m) 0 ∷ [])) sghFinalize
 
 -- a slice doesn't count its last byte as taken
 abbrev pub leavesLast : Library
 leavesLast =
-    withDecoder (λ l m chunk v. (let r : Reply = sghPushSlice l m chunk v in reply (r .number) (lentAt r 0 ∷ lentAt r 1 ∷ ((firstAt r 2 - 1) ∷ []) ∷ lentAt r 3 ∷ []))) sghPayload sghFinalize
+    withDecoder sghDecoderNew (λ l m chunk v. (let r : Reply = sghPushSlice l m chunk v in reply (r .number) (lentAt r 0 ∷ lentAt r 1 ∷ ((firstAt r 2 - 1) ∷ []) ∷ lentAt r 3 ∷ []))) sghPayload sghFinalize
 
 -- a slice is answered rightly, and the decoder stays as it was
 abbrev pub forgetsSlice : Library
 forgetsSlice =
-    withDecoder (λ l m chunk v. (let r : Reply = sghPushSlice l m chunk v in reply (r .number) (l ∷ lentAt r 1 ∷ lentAt r 2 ∷ lentAt r 3 ∷ []))) sghPayload sghFinalize
+    withDecoder sghDecoderNew (λ l m chunk v. (let r : Reply = sghPushSlice l m chunk v in reply (r .number) (l ∷ lentAt r 1 ∷ lentAt r 2 ∷ lentAt r 3 ∷ []))) sghPayload sghFinalize
 
 -- encode does nothing, and says that all is good
 abbrev pub encodesNothing : Library
@@ -71,12 +82,19 @@ losesPlace = withFrames sghEncode sghEncoderNext (λ s r. reply (sghNextEvent s 
 abbrev pub losesSign : Library
 losesSign = withFrames sghEncode sghEncoderNext (λ s r. reply (sghNextEvent s r .number) (lentAt (sghNextEvent s r) 0 ∷ set (lentAt (sghNextEvent s r) 1) 11 (wordAt (lentAt (sghNextEvent s r) 1) 11 % 256) ∷ []))
 
+-- an entry whose kind is left out
+abbrev pub losesKind : Library
+losesKind = withFrames sghEncode sghEncoderNext (λ s r. reply (sghNextEvent s r .number) (lentAt (sghNextEvent s r) 0 ∷ set (lentAt (sghNextEvent s r) 1) 0 0 ∷ []))
+
 pub record FallLibraries : Type 0 where
+  pub denies-new : HearsNew deniesNew → ⊥
   pub keeps-values : HearsDecoder keepsValues → ⊥
   pub hands-buffer : HearsDecoder handsBuffer → ⊥
+  pub pays-always : HearsDecoder paysAlways → ⊥
   pub leaves-last : HearsDecoder leavesLast → ⊥
   pub slice-forgets : HearsDecoder forgetsSlice → ⊥
   pub encodes-nothing : HearsEncode encodesNothing → ⊥
   pub forgets-count : HearsEncoder forgetsCount → ⊥
   pub loses-place : HearsReader losesPlace → ⊥
   pub loses-sign : HearsReader losesSign → ⊥
+  pub loses-kind : HearsReader losesKind → ⊥

@@ -1,25 +1,28 @@
--- claim: the library, as a caller in C hears it. What is read out of the numbers that its calls give and leave is what is said of a decoder, an encode, an Encoder and a reader by value, call by call. So all that is claimed of these stands for what a collector links.
+-- claim: the library, as a caller in C hears it. What is read out of the numbers that its calls give and leave is what is said of a decoder, an encode, an Encoder and a reader by value, call by call. So what is claimed of new decoders in use stands for what a collector links.
 use mathlib.Core.Path.{_≡_}
 use mathlib.Core.Bool.{cond}
 use mathlib.Core.List.{List, [], _∷_, _++_}
 use mathlib.Core.Option.{Option, some, none}
-use Prim.Native.Nat.{ℕ, _+_, _-_, _^_, _≤_}
+use Prim.Native.Nat.{ℕ, suc, _+_, _-_, _^_, _≤_, _<_}
 use lib.IntN.{ℤ, pos, negsuc}
 use lib.ListN.{length, take, getD}
 use lib.Dec.{eqb, ltb}
-use Rattle.refusals.specs.Numbers.{discardedBytesNo, invalidEscNo, invalidMessageNo, limit}
+use Rattle.refusals.specs.Numbers.{badStateNo, wrongBufferNo, discardedBytesNo, invalidEscNo, invalidMessageNo, limit}
 use Rattle.refusals.specs.declared.Span.{Span}
+use Rattle.crc_x25.specs.Crc.{crcOf}
+use Rattle.frame.specs.Frame.{same}
 use Rattle.encoder.specs.Encode.{afterEncode, length-is, noFrame}
 use Rattle.encoder.specs.Encoder.{byte, finished, noByte}
-use Rattle.decoder.specs.Record.{DecoderAnswer, nothing, payload, count, refusal, payloadRecord}
+use Rattle.decoder.specs.Record.{DecoderAnswer, nothing, payload, count, refusal, payloadRecord, askRecord}
 use Rattle.decoder.specs.Run.{KnownWay, Op, push, finalize, reset}
 use Rattle.decoder.specs.declared.Decoder.{Decoder}
 use Rattle.decoder.specs.declared.Setup.{Setup}
 use Rattle.value.specs.Values.{Status, Value, truth, bytes, signed, unsigned, listTime}
 use Rattle.message.specs.Messages.{Body, openBody, closeBody, listBody}
 use Rattle.streaming.specs.Next.{MessageEvent, startEvent, entryEvent, endEvent, Said, event, noEvent, failed, alone}
-use Rattle.sartrogheo.specs.Calls.{goodNo, payloadNo, finishedNo, Reply, sghDecoderNew, sghPushByte, sghPushSlice, sghPayload, sghFinalize, sghReset, sghEncode}
-use Rattle.sartrogheo.specs.Streams.{sghEncoderNew, sghEncoderNext, sghNextEvent}
+use Rattle.words.specs.Words.{eventWords}
+use Rattle.sartrogheo.specs.Calls.{goodNo, payloadNo, finishedNo, Reply, reply, answerNo, encodeLen, sghDecoderNew, sghPushByte, sghPushSlice, sghPayload, sghFinalize, sghReset, sghEncode}
+use Rattle.sartrogheo.specs.Streams.{readerNo, sghEncoderNew, sghEncoderNext, sghNextEvent}
 use Rattle.marks.specs.Decoders.{Gave, Machine, ours, LeftBehind}
 use Rattle.marks.specs.Mark2.{PushesBytes, SoundBehind}
 use Rattle.marks.specs.Mark3.{Encode, ourEncode, Job, AllSuit, HeardBehindZeros}
@@ -39,6 +42,7 @@ pub record Library : Type 0 where
   pub encodes : List ℕ → List ℕ → Reply  -- payload, output
   pub encoderNew : List ℕ
   pub encoderNext : List ℕ → List ℕ → ℕ → Reply  -- the Encoder's numbers, the payload, what the byte was
+  pub crc : List ℕ → ℕ
   pub nextEvent : List ℕ → List ℕ → Reply  -- the input, the reader's numbers
 
 -- ours, by the definitions that the contracts of the exports cite
@@ -54,17 +58,27 @@ ourLibrary =
       encodes = sghEncode;
       encoderNew = sghEncoderNew;
       encoderNext = sghEncoderNext;
+      crc = crcOf;
       nextEvent = sghNextEvent;
     }
 
--- what the k-th thing that may be written holds behind a call, counted from 0, and its first number
+-- what the k-th thing that may be written holds behind a call, counted from 0; a number in it; the first one
 abbrev pub lentAt : Reply → ℕ → List ℕ
 lentAt r k = getD (r .lent) k []
 
+abbrev pub wordAt : List ℕ → ℕ → ℕ
+wordAt w k = getD w k 0
+
 abbrev pub firstAt : Reply → ℕ → ℕ
-firstAt r k = getD (lentAt r k) 0 0
+firstAt r k = wordAt (lentAt r k) 0
 
 -- ---- a decoder
+
+-- a new one, whatever stood in its bytes: 0 for a known way and a capacity up to the limit; an unknown way is 4, else a larger capacity 5, and the bytes stay
+pub record HearsNew (L : Library) : Type 0 where
+  pub made : (l : List ℕ) (capacity way : ℕ) → length l ≡ 28 → KnownWay way → capacity ≤ limit → L .decoderNew l capacity way .number ≡ goodNo
+  pub unknown : (l : List ℕ) (capacity way : ℕ) → (KnownWay way → ⊥) → L .decoderNew l capacity way ≡ reply badStateNo (l ∷ [])
+  pub large : (l : List ℕ) (capacity way : ℕ) → KnownWay way → limit < capacity → L .decoderNew l capacity way ≡ reply wrongBufferNo (l ∷ [])
 
 -- how many values a refusal has
 abbrev pub valuesOf : ℕ → ℕ
@@ -81,42 +95,47 @@ heardAnswer number values m =
 abbrev pub heardReset : ℕ → List ℕ → DecoderAnswer
 heardReset number values = cond (eqb number goodNo) (count (getD values 0 0)) (refusal number [])
 
--- what a caller keeps: the decoder's bytes, and the values as the last call left them
+-- what a caller lends beside the buffer: 28 bytes for the decoder, as they were before it is made, and four values at each call, counted from 0. They may be new ones, or as the call before left them
+pub record LentByCaller : Type 0 where
+  pub bytes : List ℕ
+  pub values : ℕ → List ℕ
+
+-- what is kept between calls: the decoder's bytes; and how many calls were made
 pub record KeptByCaller : Type 0 where
   pub bytes : List ℕ
-  pub values : List ℕ
+  pub calls : ℕ
 
-abbrev pub keptByCaller : List ℕ → List ℕ → KeptByCaller
-keptByCaller l v = record { bytes = l; values = v }
+abbrev pub keptByCaller : List ℕ → ℕ → KeptByCaller
+keptByCaller l n = record { bytes = l; calls = n }
 
 -- an operation by its call; finalize and reset are lent no buffer
-abbrev pub actBy : Library → KeptByCaller → List ℕ → Op → Gave KeptByCaller
-actBy L k m (push b) =
-    let r : Reply = L .pushByte (k .bytes) m b (k .values) in
-    record { answer = heardAnswer (r .number) (lentAt r 2) (lentAt r 1); decoder = keptByCaller (lentAt r 0) (lentAt r 2); memory = lentAt r 1 }
-actBy L k m finalize =
-    let r : Reply = L .finalizes (k .bytes) (k .values) in
-    record { answer = heardAnswer (r .number) (lentAt r 1) m; decoder = keptByCaller (lentAt r 0) (lentAt r 1); memory = m }
-actBy L k m reset =
-    let r : Reply = L .resets (k .bytes) (k .values) in
-    record { answer = heardReset (r .number) (lentAt r 1); decoder = keptByCaller (lentAt r 0) (lentAt r 1); memory = m }
+abbrev pub actBy : Library → LentByCaller → KeptByCaller → List ℕ → Op → Gave KeptByCaller
+actBy L c k m (push b) =
+    let r : Reply = L .pushByte (k .bytes) m b (c .values (k .calls)) in
+    record { answer = heardAnswer (r .number) (lentAt r 2) (lentAt r 1); decoder = keptByCaller (lentAt r 0) (suc (k .calls)); memory = lentAt r 1 }
+actBy L c k m finalize =
+    let r : Reply = L .finalizes (k .bytes) (c .values (k .calls)) in
+    record { answer = heardAnswer (r .number) (lentAt r 1) m; decoder = keptByCaller (lentAt r 0) (suc (k .calls)); memory = m }
+actBy L c k m reset =
+    let r : Reply = L .resets (k .bytes) (c .values (k .calls)) in
+    record { answer = heardReset (r .number) (lentAt r 1); decoder = keptByCaller (lentAt r 0) (suc (k .calls)); memory = m }
 
--- a decoder by the library's calls; what its bytes and the values were before is told
-abbrev pub decoderBy : Library → KeptByCaller → Machine KeptByCaller
-decoderBy L k =
+-- a decoder by the library's calls
+abbrev pub decoderBy : Library → LentByCaller → Machine KeptByCaller
+decoderBy L c =
     record {
-      new = λ C. keptByCaller (lentAt (L .decoderNew (k .bytes) (C .capacity) (C .way)) 0) (k .values);
-      act = actBy L;
-      payloadOf = λ j m. take (firstAt (L .payloadLen (j .bytes) m) 0) m;
+      new = λ C. keptByCaller (lentAt (L .decoderNew (c .bytes) (C .capacity) (C .way)) 0) 0;
+      act = actBy L c;
+      payloadOf = λ k m. take (firstAt (L .payloadLen (k .bytes) m) 0) m;
     }
 
-abbrev pub sliceBy : Library → KeptByCaller → List ℕ → List ℕ → GaveSlice KeptByCaller
-sliceBy L k m chunk =
-    let r : Reply = L .pushSlice (k .bytes) m chunk (k .values) in
-    record { answer = heardAnswer (r .number) (lentAt r 3) (lentAt r 1); taken = firstAt r 2; decoder = keptByCaller (lentAt r 0) (lentAt r 3); memory = lentAt r 1 }
+abbrev pub sliceBy : Library → LentByCaller → KeptByCaller → List ℕ → List ℕ → GaveSlice KeptByCaller
+sliceBy L c k m chunk =
+    let r : Reply = L .pushSlice (k .bytes) m chunk (c .values (k .calls)) in
+    record { answer = heardAnswer (r .number) (lentAt r 3) (lentAt r 1); taken = firstAt r 2; decoder = keptByCaller (lentAt r 0) (suc (k .calls)); memory = lentAt r 1 }
 
-abbrev pub slicerBy : Library → KeptByCaller → Slicer KeptByCaller
-slicerBy L k = record { machine = decoderBy L k; pushSlice = sliceBy L }
+abbrev pub slicerBy : Library → LentByCaller → Slicer KeptByCaller
+slicerBy L c = record { machine = decoderBy L c; pushSlice = sliceBy L c }
 
 -- what a caller does with a decoder, one after another: operations, and pushes of slices
 pub data Use : Type 0 where
@@ -156,23 +175,29 @@ usesLeave M d m (slice chunk ∷ us) =
     let t = M .pushSlice d m chunk in
     usesLeave M (t .decoder) (t .memory) us
 
--- how a caller begins: a decoder of either way and of a capacity that is no refusal, in 28 bytes, with four values and a buffer, whatever stood in them before
-pub record CallerBegins (C : Setup) (k : KeptByCaller) (m : List ℕ) : Type 0 where
+-- how a caller begins: a decoder of either way and of a capacity that is no refusal, in 28 bytes, four values at each call, and a buffer of bytes, of any length
+pub record CallerBegins (C : Setup) (c : LentByCaller) (m : List ℕ) : Type 0 where
   pub way : KnownWay (C .way)
   pub capacity : C .capacity ≤ limit
-  pub bytes′ : length (k .bytes) ≡ 28
-  pub values′ : length (k .values) ≡ 4
+  pub bytes′ : length (c .bytes) ≡ 28
+  pub values′ : (i : ℕ) → length (c .values i) ≡ 4
   pub buffer : AreBytes m
 
--- Any pushes, pushes of slices, finalize and reset calls on a new decoder, with one buffer of any length: a caller hears the answers that our record gives, payloads with them, and of a slice how many bytes it took;
--- and behind them the buffer and the payload that is handed out are the same
+-- what sgh_payload says of the decoder and the buffer that are left: 0 or 16, and the payload's length, whose bytes are the buffer's first
+pub record HearsPayload (r : Reply) (x : LeftBehind KeptByCaller) (y : LeftBehind Decoder) : Type 0 where
+  pub number′ : r .number ≡ answerNo (askRecord (y .decoder) (y .memory))
+  pub length′ : firstAt r 0 ≡ length (payloadRecord (y .decoder) (y .memory))
+  pub bytes′ : take (firstAt r 0) (x .memory) ≡ payloadRecord (y .decoder) (y .memory)
+
+-- Any pushes, pushes of slices, finalize and reset calls on a new decoder, with one buffer: a caller hears the answers that our record gives, payloads with them, and of a slice how many bytes it took;
+-- and behind them the buffer is the same, and so is what is said of the payload
 abbrev pub HearsDecoder : Library → Type 0
 HearsDecoder L =
-    (C : Setup) (k : KeptByCaller) (m : List ℕ) (us : List Use) → CallerBegins C k m → UsesBytes us
-    → let M : Slicer KeptByCaller = slicerBy L k in
+    (C : Setup) (c : LentByCaller) (m : List ℕ) (us : List Use) → CallerBegins C c m → UsesBytes us
+    → let M : Slicer KeptByCaller = slicerBy L c in
     let x : LeftBehind KeptByCaller = usesLeave M (M .machine .new C) m us in
     let y : LeftBehind Decoder = usesLeave ourSlicer (ours .new C) m us in
-    (usesSay M (M .machine .new C) m us ≡ usesSay ourSlicer (ours .new C) m us) × (x .memory ≡ y .memory) × (M .machine .payloadOf (x .decoder) (x .memory) ≡ payloadRecord (y .decoder) (y .memory))
+    (usesSay M (M .machine .new C) m us ≡ usesSay ourSlicer (ours .new C) m us) × (x .memory ≡ y .memory) × HearsPayload (L .payloadLen (x .decoder .bytes) (x .memory)) x y
 
 -- ---- frames
 
@@ -181,30 +206,36 @@ encodeBy L p out =
     let r : Reply = L .encodes p out in
     afterEncode (cond (eqb (r .number) goodNo) (length-is (firstAt r 1)) (noFrame (r .number))) (lentAt r 0)
 
+-- the frame's length is told too, 0 where there is none
 abbrev pub HearsEncode : Library → Type 0
-HearsEncode L = (p out : List ℕ) → encodeBy L p out ≡ ourEncode p out
+HearsEncode L = (p out : List ℕ) → (encodeBy L p out ≡ ourEncode p out) × (firstAt (L .encodes p out) 1 ≡ encodeLen (ourEncode p out .answer))
 
--- an Encoder by the library's calls, whatever the byte was before
-abbrev pub encoderBy : Library → ℕ → Caller (List ℕ)
+-- what is kept of an Encoder between calls: its numbers; and how many calls were made
+pub record KeptEncoder : Type 0 where
+  pub words : List ℕ
+  pub calls : ℕ
+
+-- an Encoder by the library's calls; `old` is what the byte was before each
+abbrev pub encoderBy : Library → (ℕ → ℕ) → Caller KeptEncoder
 encoderBy L old =
     record {
-      new = L .encoderNew;
+      new = record { words = L .encoderNew; calls = 0 };
       next =
-          λ w p.
-          let r : Reply = L .encoderNext w p old in
-          record { answer = cond (eqb (r .number) goodNo) (byte (firstAt r 1)) (cond (eqb (r .number) finishedNo) finished (noByte (r .number))); encoder = lentAt r 0 };
+          λ e p.
+          let r : Reply = L .encoderNext (e .words) p (old (e .calls)) in
+          record { answer = cond (eqb (r .number) goodNo) (byte (firstAt r 1)) (cond (eqb (r .number) finishedNo) finished (noByte (r .number))); encoder = record { words = lentAt r 0; calls = suc (e .calls) } };
     }
 
 -- of any payload of bytes, too long or not, n calls on a new Encoder answer what n calls on our record do
 abbrev pub HearsEncoder : Library → Type 0
-HearsEncoder L = (p : List ℕ) (old n : ℕ) → AreBytes p → callsOf (encoderBy L old) n (L .encoderNew) p ≡ callsOf ourEncoder n (ourEncoder .new) p
+HearsEncoder L = (p : List ℕ) (old : ℕ → ℕ) (n : ℕ) → AreBytes p → callsOf (encoderBy L old) n (encoderBy L old .new) p ≡ callsOf ourEncoder n (ourEncoder .new) p
+
+abbrev pub HearsCrc : Library → Type 0
+HearsCrc L = (l : List ℕ) → L .crc l ≡ crcOf l
 
 -- ---- messages
 
--- what stands in an event's words from a place on: a number, a number in two's complement, a span, a status, a value
-abbrev pub wordAt : List ℕ → ℕ → ℕ
-wordAt w k = getD w k 0
-
+-- what stands in an event's words from a place on: a number in two's complement, a span, a status, a value
 abbrev pub signedIn : List ℕ → ℕ → ℤ
 signedIn w k = cond (ltb (wordAt w k) (2 ^ 63)) (pos (wordAt w k)) (negsuc (2 ^ 64 - 1 - wordAt w k))
 
@@ -247,11 +278,17 @@ eventIn w =
     })))
 
 -- what the number of a call says, and the event's words
-abbrev pub heardEvent : ℕ → List ℕ → Said
-heardEvent number w =
+abbrev pub saidBy : ℕ → List ℕ → Said
+saidBy number w =
     cond (eqb number goodNo) (event (eventIn w))
     (cond (eqb number finishedNo) noEvent
-    (cond (eqb (wordAt w 0) 4) (failed (record { number = number; kind = wordAt w 2; place = wordAt w 3 })) (alone number)))
+    (cond (eqb (wordAt w 0) 4) (failed (record { number = wordAt w 1; kind = wordAt w 2; place = wordAt w 3 })) (alone (wordAt w 1))))
+
+-- that is heard where number and words are those of what they say, every kind, flag and unused word with them; all else is heard as a refusal that no reader gives
+abbrev pub heardEvent : ℕ → List ℕ → Said
+heardEvent number w =
+    let x : Said = saidBy number w in
+    cond (eqb (readerNo x) number) (cond (same (eventWords x) w) x (alone 0)) (alone 0)
 
 -- a reader by the library's calls: three zeros are a new one
 abbrev pub readerBy : Library → Reader (List ℕ) (List ℕ)
@@ -273,9 +310,11 @@ abbrev pub HearsReader : Library → Type 0
 HearsReader L = (s : List ℕ) (n : Numbers) (k : ℕ) → saysAt (readerBy L) s (threeOf n) k ≡ saysAt ourReader s n k
 
 pub record HearsOurs (L : Library) : Type 0 where
+  pub new : HearsNew L
   pub decoder : HearsDecoder L
   pub encode : HearsEncode L
   pub encoder : HearsEncoder L
+  pub crc : HearsCrc L
   pub reader : HearsReader L
 
 -- ---- the marks, of what is linked
@@ -285,9 +324,9 @@ abbrev pub JobsOfBytes : List Job → Type 0
 JobsOfBytes [] = Unit {0}
 JobsOfBytes (j ∷ js) = AreBytes (j .payload) × JobsOfBytes js
 
--- mark 2's soundness, and mark 3 with the library's own encode
+-- mark 2's soundness, and mark 3 with the library's own encode, both by single pushes. What a slice says is what single pushes say (`HearsDecoder`, and `Chunks` of ours)
 pub record MarksBy (L : Library) : Type 0 where
-  pub soundness : (C : Setup) (k : KeptByCaller) (m : List ℕ) → CallerBegins C k m
-      → (decoderBy L k .payloadOf (decoderBy L k .new C) m ≡ []) × ((os : List Op) (o : Op) → PushesBytes (os ++ o ∷ []) → SoundBehind (decoderBy L k) C m os o)
-  pub mark3 : (C : Setup) (k : KeptByCaller) (m : List ℕ) → CallerBegins C k m → length m ≡ C .capacity
-      → (before : List Op) (j : Job) (js : List Job) → PushesBytes before → JobsOfBytes (j ∷ js) → AllSuit C (j ∷ js) → HeardBehindZeros (decoderBy L k) (encodeBy L) C m before j js
+  pub soundness : (C : Setup) (c : LentByCaller) (m : List ℕ) → CallerBegins C c m
+      → (decoderBy L c .payloadOf (decoderBy L c .new C) m ≡ []) × ((os : List Op) (o : Op) → PushesBytes (os ++ o ∷ []) → SoundBehind (decoderBy L c) C m os o)
+  pub mark3 : (C : Setup) (c : LentByCaller) (m : List ℕ) → CallerBegins C c m → length m ≡ C .capacity
+      → (before : List Op) (j : Job) (js : List Job) → PushesBytes before → JobsOfBytes (j ∷ js) → AllSuit C (j ∷ js) → HeardBehindZeros (decoderBy L c) (encodeBy L) C m before j js
