@@ -1,6 +1,6 @@
 -- The Encoder gives the frame's bytes, one a call, then says finished: by the bytes that are still to come.
 use mathlib.Core.Path.{_≡_, refl, ap, sym, _∙_, subst}
-use mathlib.Core.Bool.{true, false, cond}
+use mathlib.Core.Bool.{Bool, true, false, cond, false≢true}
 use mathlib.Core.List.{List, [], _∷_, _++_, map, append-assoc}
 use Prim.Native.Nat.{ℕ, zero, suc, _+_, _-_, _%_, _/_, _≤_, _<_}
 use native.Mathlib.Omega.{arith}
@@ -8,7 +8,7 @@ use native.Mathlib.Nat.{zero-add, suc-add}
 use lib.IntN.{ℤ, pos, negsuc, negℤ}
 use lib.ListN.{length, replicate, drop, getD, getD-replicate, drop-of-length-le}
 use lib.Seq.{drop-cons}
-use lib.Dec.{ltb}
+use lib.Dec.{ltb, leb}
 use borrow.Author.Tests.{ne-eqb, lt-ltb, le-ltb, leb-true, leb-false, ltb-false}
 use Rattle.crc_x25.specs.Crc.{start, byteStep, register, finalXor}
 use Rattle.crc_x25.proofs.Laws.{register-append, register-one, register-none, crc-is}
@@ -20,7 +20,7 @@ use Rattle.encoder.specs.declared.Encoder.{Encoder}
 use Rattle.encoder.specs.declared.EncoderState.{EncoderState}
 use Rattle.encoder.specs.declared.EncoderState.the-variants.{Init, LookingForEscape, HandlingEscape, End}
 use Rattle.refusals.specs.Numbers.{limit}
-use Rattle.encoder.specs.Encoder.{NextAnswer, byte, finished, Step, stepTo, encoderAt, freshEncoder, endOf, badEnd, lastEnd, ended, runOf, looked, stepFrom, badCount, nextStep}
+use Rattle.encoder.specs.Encoder.{NextAnswer, byte, finished, Step, stepTo, encoderAt, freshEncoder, endOf, badEnd, lastEnd, ended, runOf, looked, stepFrom, badCount, badEncoder, nextStep}
 use Rattle.encoder.specs.Calls.{calls, GivesTheFrame}
 use Rattle.encoder.proofs.Ends.{not-last}
 use Rattle.encoder.proofs.Steps.{next-good, bad-inside}
@@ -137,6 +137,23 @@ next-is : (P : List ℕ) (s : EncoderState) (place reg : ℕ) → length P ≤ l
     → Gives P (coming s place reg P) (nextStep (encoderAt s place reg) P)
 next-is P s place reg lim b h =
     subst (Gives P (coming s place reg P)) (next-good (encoderAt s place reg) P lim (sym (bad-inside (encoderAt s place reg) (length P) h) ∙ b)) (gives-step P s place reg b h)
+
+-- a call leaves good counts where they were good, whatever it answers
+gives-counts : {P l : List ℕ} {x : Step} → Gives P l x → badCount (x .encoder .state) ≡ false
+gives-counts (gives b s place reg e g h) = g
+gives-counts (gaveAll s place reg e k g h) = g
+
+place-within : (e : Encoder) (len : ℕ) → badEncoder e len ≡ false → e .place ≤ len
+unfolding badEncoder
+place-within e len = by-lt (λ (t : Bool). t ≡ false → e .place ≤ len) len (e .place) _ _ (λ beyond h. absurd (false≢true (sym h))) (λ within h. within)
+
+pub next-counts : (e : Encoder) (P : List ℕ) → badCount (e .state) ≡ false → badCount (nextStep e P .encoder .state) ≡ false
+unfolding nextStep
+next-counts e P b =
+    by-test (λ (x : Step). badCount (x .encoder .state) ≡ false) (leb (length P) limit) _ _
+    (λ short. by-test (λ (x : Step). badCount (x .encoder .state) ≡ false) (badEncoder e (length P)) _ _ (λ bad. b)
+    (λ good. gives-counts (gives-step P (e .state) (e .place) (e .crc) b (place-within e (length P) good))))
+    (λ long. b)
 
 -- calls give the bytes to come, then finished
 module _ (P : List ℕ) (lim : length P ≤ limit) where

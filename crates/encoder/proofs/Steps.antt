@@ -16,7 +16,7 @@ use Rattle.encoder.specs.declared.Encoder.{Encoder}
 use Rattle.encoder.specs.declared.EncoderState.{EncoderState}
 use Rattle.encoder.specs.declared.EncoderState.the-variants.{Init, LookingForEscape, HandlingEscape, End}
 use Rattle.refusals.specs.Numbers.{limit}
-use Rattle.encoder.specs.Encoder.{NextAnswer, Step, byte, finished, noByte, stepTo, encoderAt, freshEncoder, endOf, endByte, lastEnd, ended, runOf, looked, stepFrom, badCount, badEncoder, nextStep}
+use Rattle.encoder.specs.Encoder.{Step, byte, finished, noByte, stepTo, encoderAt, freshEncoder, endOf, endByte, lastEnd, ended, runOf, looked, stepFrom, badCount, badEncoder, nextStep}
 use Rattle.encoder.proofs.Stores.{zeros-take}
 
 -- the register over the end, part by part
@@ -101,10 +101,12 @@ module _ (e : Encoder) (p : List ℕ) where
   unfolding nextStep
   next-good h b = rw (le-leb (length p) limit h, b)
 
--- a call that gives no byte leaves the Encoder as it was
+-- a call that gives no byte leaves the Encoder as it was: finished, 1 or 4
 pub data StepsKept (e : Encoder) : Step → Type 0 where
   moves : (b : ℕ) (e′ : Encoder) → StepsKept e (stepTo (byte b) e′)
-  stays : (a : NextAnswer) → StepsKept e (stepTo a e)
+  finishes : StepsKept e (stepTo finished e)
+  isLong : StepsKept e (stepTo (noByte 1) e)
+  isBad : StepsKept e (stepTo (noByte 4) e)
 
 ended-moves : (e : Encoder) (n : ℤ) (place reg : ℕ) → StepsKept e (ended n place reg)
 unfolding ended
@@ -121,12 +123,12 @@ step-keeps e p (LookingForEscape n) q = by-test (StepsKept e) (ltb n 4) _ _ (λ 
 step-keeps e p (HandlingEscape n) q = by-test (StepsKept e) (ltb n 4) _ _ (λ t. moves _ _) (λ f. looked-moves e 0 (e .place) (e .crc) p)
 step-keeps e p (End n) q =
     by-test (StepsKept e) (lastEnd n) _ _
-    (λ t. subst (λ (s : EncoderState). StepsKept e (stepTo finished (encoderAt s (e .place) (e .crc)))) q (stays finished))
+    (λ t. subst (λ (s : EncoderState). StepsKept e (stepTo finished (encoderAt s (e .place) (e .crc)))) q finishes)
     (λ f. ended-moves e n (e .place) (e .crc))
 
 pub next-keeps : (e : Encoder) (p : List ℕ) → StepsKept e (nextStep e p)
 unfolding nextStep
 next-keeps e p =
     by-test (StepsKept e) (leb (length p) limit) _ _
-    (λ t. by-test (StepsKept e) (badEncoder e (length p)) _ _ (λ b. stays (noByte 4)) (λ g. step-keeps e p (e .state) refl))
-    (λ f. stays (noByte 1))
+    (λ t. by-test (StepsKept e) (badEncoder e (length p)) _ _ (λ b. isBad) (λ g. step-keeps e p (e .state) refl))
+    (λ f. isLong)

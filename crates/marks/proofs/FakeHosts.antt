@@ -1,7 +1,7 @@
 -- Each fake of a host falls: one small call, computed, is not what the claim says.
 use mathlib.Core.Path.{_≡_, refl, ap}
 use mathlib.Core.List.{List, [], _∷_, _++_}
-use Prim.Native.Nat.{ℕ, zero, suc, _<_}
+use Prim.Native.Nat.{ℕ}
 use native.Mathlib.Omega.{arith}
 use lib.ListN.{length, getD, replicate}
 use Rattle.frame.specs.Frame.{same}
@@ -15,7 +15,7 @@ use Rattle.packed.specs.Packed.{Filled, Unpacked, holds, noRecord, packInto, un
 use Rattle.marks.specs.Decoders.{Gave, answers}
 use Rattle.marks.specs.Packed.{RoundTrip, Exactly, PacksWhatPushes, PacksInOrder, ActsAlike, SlicesAlike, HandsAlike, Serves, LeavesRefused, AnswersAlike}
 use Rattle.marks.specs.FakeHosts.{unpacksNothing, packsConstants, newBytes, packsAny, unpacksAny, onlyAnswers, saysNothingEver, handsNothing, clearsRefused, growsOutput, roomFirst, clearsRest, refusesLonger, resetsAny, FallHosts}
-use Rattle.marks.proofs.Narrow.{new-narrow}
+use Rattle.marks.proofs.Narrow.{zeros-bytes, new-narrow}
 
 abbrev hostNew : Decoder
 hostNew = newRecord (sized 8)
@@ -76,17 +76,9 @@ only-answers-slice : SlicesAlike onlyAnswers → ⊥
 unfolding packInto badDecoder packedIn packedBytes lowFirst sliceRecord pushesFrom pushRecord pushed wrongBuffer wrote step searching
 only-answers-slice h = let n : _≡_ {A = ℕ} 1 0 = ap (λ (f : Filled). getD (f .output) 16 0) (h hostNew zeros28 eightBytes (0 ∷ []) (new-narrow (sized 8)) refl .3) in omega (arith, n)
 
-zeros-are-bytes : (i : ℕ) → getD eightBytes i 0 < 256
-zeros-are-bytes i = eight-zeros 8 i
-  where
-    eight-zeros : (k i : ℕ) → getD (replicate k 0) i 0 < 256
-    eight-zeros zero i = omega arith
-    eight-zeros (suc k) zero = omega arith
-    eight-zeros (suc k) (suc i) = eight-zeros k i
-
 only-answers-run : AnswersAlike onlyAnswers → ⊥
 unfolding answers act unpackOf packInto badDecoder packedIn packedBytes lowFirst recordIn numberAt stateIn same pushPacked resetPacked pushRecord resetRecord resetCount pushed wrongBuffer wrote step searching secondOf
-only-answers-run h = let n : _≡_ {A = ℕ} 0 1 = ap secondOf (h (sized 8) eightBytes (push 0 ∷ reset ∷ []) (isFirst refl) (omega arith) zeros-are-bytes (omega arith, tt) .0) in omega (arith, n)
+only-answers-run h = let n : _≡_ {A = ℕ} 0 1 = ap secondOf (h (sized 8) eightBytes (push 0 ∷ reset ∷ []) (isFirst refl) (omega arith) (zeros-bytes 8) (omega arith, tt) .0) in omega (arith, n)
 
 says-nothing : Serves saysNothingEver → ⊥
 unfolding unpackOf packInto badDecoder packedIn packedBytes lowFirst recordIn numberAt stateIn same codeOf

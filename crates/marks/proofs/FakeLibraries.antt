@@ -2,7 +2,7 @@
 use mathlib.Core.Path.{_≡_, refl, ap}
 use mathlib.Core.List.{List, [], _∷_}
 use mathlib.Core.Option.{Option, some, none}
-use Prim.Native.Nat.{ℕ, zero, suc}
+use Prim.Native.Nat.{ℕ}
 use native.Mathlib.Omega.{arith}
 use lib.IntN.{ℤ, pos, negsuc}
 use lib.ListN.{length, getD, replicate}
@@ -30,17 +30,12 @@ use Rattle.sartrogheo.specs.Calls.{sghDecoderNew, sghPushByte, sghPushSlice, sg
 use Rattle.sartrogheo.specs.Streams.{encoderIn, sghEncoderNew, sghEncoderNext, sghNextEvent}
 use Rattle.marks.specs.Encoders.{callsOf}
 use Rattle.marks.specs.Events.{Numbers, saysAt}
-use Rattle.marks.specs.Packed.{AreBytes}
 use Rattle.marks.specs.Library.{HearsNew, LentByCaller, oneOp, slice, HeardUse, heardUse, usesSay, usesLeave, CallerBegins, HearsDecoder, HearsEncode, HearsEncoder, HearsReader}
 use Rattle.marks.specs.FakeLibraries.{deniesNew, keepsValues, handsBuffer, paysAlways, leavesLast, forgetsSlice, encodesNothing, forgetsCount, losesPlace, losesSign, losesKind, FallLibraries}
+use Rattle.marks.proofs.Narrow.{zeros-bytes}
 
 abbrev blank : LentByCaller
 blank = record { bytes = replicate 28 0; values = λ i. replicate 4 0 }
-
-zeros-bytes : (k : ℕ) → AreBytes (replicate k 0)
-zeros-bytes zero i = omega arith
-zeros-bytes (suc k) zero = omega arith
-zeros-bytes (suc k) (suc i) = zeros-bytes k i
 
 caller-begins : CallerBegins (sized 8) blank (replicate 8 0)
 caller-begins = record { way = isFirst refl; capacity = omega arith; bytes′ = refl; values′ = λ i. refl; buffer = zeros-bytes 8 }

@@ -5,13 +5,12 @@ use mathlib.Core.List.{List, [], _∷_}
 use Prim.Native.Nat.{ℕ, suc, _+_, _≤_}
 use native.Mathlib.Omega.{arith}
 use lib.ListN.{length, take, drop, getD, set}
-use lib.Seq.{sets, sets-eq, take-append-seam}
+use lib.Seq.{getD-set-same, sets, sets-eq, take-append-seam}
 use lib.Dec.{eqb}
 use borrow.Author.Tests.{ne-eqb}
-use Rattle.refusals.specs.Numbers.{badStateNo, wrongBufferNo}
 use Rattle.decoder.specs.Push as P
 use Rattle.decoder.specs.Push.{State, search, body, escape, done, step, finalized, resetCount}
-use Rattle.decoder.specs.Record.{DecoderAnswer, nothing, payload, count, refusal, after, numbered, setup, stateOf, badDecoder, wrongBuffer, pushRecord, finalizeRecord, resetRecord}
+use Rattle.decoder.specs.Record.{DecoderAnswer, nothing, payload, count, refusal, numbered, setup, stateOf, badDecoder, wrongBuffer, pushRecord, finalizeRecord, resetRecord}
 use Rattle.decoder.specs.declared.Decoder.{Decoder}
 use Rattle.decoder.proofs.Split.{cases}
 use Rattle.decoder.proofs.Faithful.{Fit, push-is-step}
@@ -20,7 +19,7 @@ use Rattle.decoder_slice.specs.Slice.{saysNothing, pushesFrom, sliceRecord}
 use Rattle.packed.specs.Packed.{Unpacked, holds, noRecord, unpackOf, pushHeld, pushPacked, sliceHeld, slicePacked, leftHeld, finalizePacked, resetPacked}
 use Rattle.sartrogheo.specs.Calls.{answerNo, valuesBy}
 use Rattle.marks.specs.Library.{valuesOf, heardAnswer, heardReset}
-use Rattle.marks.proofs.Packed.{exactly}
+use Rattle.marks.proofs.Packed.{exactly, bad-push, wrong-push}
 use Rattle.marks.proofs.Soundness.{got-back}
 use Rattle.marks.proofs.HeardEvent.{IsRefusal, not-good}
 
@@ -32,8 +31,7 @@ Hearable (count n) m = ⊥
 Hearable (refusal n values) m = IsRefusal n × (length values ≡ valuesOf n) × (length values ≤ 4)
 
 first-set : (v : List ℕ) (n : ℕ) → length v ≡ 4 → getD (set v 0 n) 0 0 ≡ n
-first-set [] n h = absurd (omega (arith, h))
-first-set (x ∷ v) n h = refl
+first-set v n h = getD-set-same v 0 n 0 (omega (arith, h))
 
 values-front : (v l : List ℕ) → length v ≡ 4 → length l ≤ 4 → take (length l) (sets v 0 l) ≡ l
 values-front v l h k = rw (sets-eq l v 0 (omega (arith, h, k))) (take-append-seam l (drop (0 + length l) v))
@@ -56,14 +54,6 @@ event-hearable P.memory m h = ((omega arith, omega arith), refl, omega arith)
 event-hearable (P.discarded n) m h = ((omega arith, omega arith), refl, omega arith)
 event-hearable (P.badEscape a b c d) m h = ((omega arith, omega arith), refl, omega arith)
 event-hearable (P.badMessage a b c d) m h = ((omega arith, omega arith), refl, omega arith)
-
-bad-push : (d : Decoder) (m : List ℕ) (b : ℕ) → badDecoder d ≡ true → pushRecord d m b ≡ after (refusal badStateNo []) d m
-unfolding pushRecord
-bad-push d m b t = rw t
-
-wrong-push : (d : Decoder) (m : List ℕ) (b : ℕ) → badDecoder d ≡ false → wrongBuffer (d .capacity) (length m) ≡ true → pushRecord d m b ≡ after (refusal wrongBufferNo []) d m
-unfolding pushRecord
-wrong-push d m b g t = rw (g, t)
 
 -- a payload that is given stands at the buffer's front
 payload-front : (d : Decoder) (m : List ℕ) (b : ℕ) → Fit d m → (p : List ℕ) → pushRecord d m b .answer ≡ payload p → take (length p) (pushRecord d m b .memory) ≡ p

@@ -4,17 +4,20 @@ use mathlib.Core.Bool.{false, cond}
 use mathlib.Core.List.{List, [], _∷_, _++_}
 use Prim.Native.Nat.{ℕ, zero, suc, _+_, _-_, _≤_, _<_}
 use native.Mathlib.Omega.{arith}
-use lib.IntN.{ℤ, pos, negsuc, sucℤ, negℤ, _-ℤ_}
-use lib.ListN.{length, take, getD, replicate}
+use lib.IntN.{ℤ, pos, negsuc, _-ℤ_}
+use lib.ListN.{length, take, drop, getD, replicate, take-append-drop}
+use lib.Seq.{take-append-seam}
 use lib.Dec.{eqb, ltb, leb}
-use borrow.Author.Tests.{le-ltb, ltb-false, ltb-true, leb-false}
+use borrow.Author.Tests.{le-ltb, ltb-false}
 use Rattle.refusals.specs.Numbers.{limit}
 use Rattle.crc_x25.specs.Crc.{start}
 use Rattle.crc_x25.proofs.Laws.{byte-fits}
 use Rattle.frame.specs.Frame.{escSeq, startSeq, missing, frameOf}
 use Rattle.encoder.specs.Encode.{encodeTo}
-use Rattle.encoder.specs.Encoder.{NextAnswer, byte, finished, noByte, encoderAt, freshEncoder, endOf, badEnd, lastEnd, ended, runOf, looked, stepFrom, badCount, badEncoder, nextStep}
+use Rattle.encoder.specs.Encoder.{NextAnswer, byte, finished, noByte, Step, freshEncoder, endOf, badEnd, lastEnd, ended, looked, stepFrom, badCount, badEncoder, nextStep}
 use Rattle.encoder.specs.declared.Encoder.{Encoder}
+use Rattle.encoder.proofs.Steps.{StepsKept, moves, finishes, isLong, isBad, next-keeps}
+use Rattle.encoder.proofs.Calls.{next-counts}
 use Rattle.encoder.specs.declared.EncoderState.{EncoderState}
 use Rattle.encoder.specs.declared.EncoderState.the-variants.{Init, LookingForEscape, HandlingEscape, End}
 use Rattle.decoder.specs.Push.{inWay}
@@ -35,7 +38,7 @@ use Rattle.marks.specs.Encoders.{CalledOnce, ourEncoder, callsOf}
 use Rattle.marks.specs.Events.{Numbers, ourReader, saysAt, ReaderGives}
 use Rattle.marks.specs.Library.{ourLibrary, HearsNew, LentByCaller, KeptByCaller, keptByCaller, actBy, sliceBy, slicerBy, Use, oneOp, slice, HeardUse, heardUse, usesSay, usesLeave, HearsPayload, HearsDecoder, HearsEncode, KeptEncoder, encoderBy, HearsEncoder, readerBy, threeOf, HearsReader, HearsOurs}
 use Rattle.marks.proofs.Events.{reader-gives}
-use Rattle.marks.proofs.HeardEvent.{IsRefusal, not-good, not-finished, call-back}
+use Rattle.marks.proofs.HeardEvent.{call-back}
 use Rattle.marks.proofs.HeardAnswer.{answer-heard, push-bytes-hearable, slice-bytes-hearable, finalize-bytes-hearable, reset-heard}
 use Rattle.marks.proofs.Packed.{hostSlicer, StaysKept, kept-payload, new-alike}
 use Rattle.marks.proofs.Ways.{unknown-bad}
@@ -87,100 +90,53 @@ words-back e g =
     let s = state-back (e .state) (g .counts) in
     rw (le-ltb 65535 (e .crc) (omega (arith, g .narrow)), le-ltb 11 (encoderCount (e .state)) (s .0), s .1)
 
--- a call that gives no byte leaves the Encoder as it is, and its number is that of a refusal, or finished
-Leaves : Encoder → NextAnswer → Encoder → Type 0
-Leaves e (byte b) f = Unit {0}
-Leaves e finished f = f ≡ e
-Leaves e (noByte n) f = (f ≡ e) × IsRefusal n
-
-looked-leaves : (e : Encoder) (n place reg : ℕ) (p : List ℕ) → Leaves e (looked n place reg p .answer) (looked n place reg p .encoder)
-unfolding Leaves looked ended
-looked-leaves e n place reg p = cases (ltb place (length p)) (λ t. rw t tt) (λ t. rw t tt)
-
-step-leaves : (s : EncoderState) (place reg : ℕ) (p : List ℕ) → Leaves (encoderAt s place reg) (stepFrom s place reg p .answer) (stepFrom s place reg p .encoder)
-unfolding Leaves stepFrom ended
-step-leaves (Init n) place reg p = cases (ltb n 8) (λ t. rw t tt) (λ t. rw t (looked-leaves _ 0 place reg p))
-step-leaves (LookingForEscape n) place reg p = cases (ltb n 4) (λ t. rw t (looked-leaves _ n place reg p)) (λ t. rw t tt)
-step-leaves (HandlingEscape n) place reg p = cases (ltb n 4) (λ t. rw t tt) (λ t. rw t (looked-leaves _ 0 place reg p))
-step-leaves (End z) place reg p = cases (lastEnd z) (λ t. rw t refl) (λ t. rw t tt)
-
-next-leaves : (e : Encoder) (p : List ℕ) → Leaves e (nextStep e p .answer) (nextStep e p .encoder)
-unfolding Leaves nextStep
-next-leaves e p =
-    cases (leb (length p) limit)
-    (λ t. cases (badEncoder e (length p)) (λ u. rw (t, u) (refl, omega arith)) (λ u. rw (t, u) (step-leaves (e .state) (e .place) (e .crc) p)))
-    (λ t. rw t (refl, omega arith))
-
--- so what is heard of it is what it answers, and the numbers that it leaves are those of the Encoder that it leaves
-answer-alike : (e : Encoder) (a : NextAnswer) (f : Encoder) (old : ℕ) → Leaves e a f
-    → (cond (eqb (nextNo a) goodNo) (byte (byteOr a old)) (cond (eqb (nextNo a) finishedNo) finished (noByte (nextNo a))) ≡ a) × (wordsBehind a f (encoderWords e) ≡ encoderWords f)
-unfolding Leaves
-answer-alike e (byte b) f old h = (refl, refl)
-answer-alike e finished f old h = (refl, ap encoderWords (sym h))
-answer-alike e (noByte n) f old h = (rw (not-good n (h .1), not-finished n (h .1)), ap encoderWords (sym (h .0)))
+-- what is heard of a call is what it answers, and the numbers that it leaves are those of the Encoder that it leaves
+answer-alike : (e : Encoder) (x : Step) (old : ℕ) → StepsKept e x
+    → (cond (eqb (nextNo (x .answer)) goodNo) (byte (byteOr (x .answer) old)) (cond (eqb (nextNo (x .answer)) finishedNo) finished (noByte (nextNo (x .answer)))) ≡ x .answer)
+    × (wordsBehind (x .answer) (x .encoder) (encoderWords e) ≡ encoderWords (x .encoder))
+answer-alike e x old (moves b e′) = (refl, refl)
+answer-alike e x old finishes = (refl, refl)
+answer-alike e x old isLong = (refl, refl)
+answer-alike e x old isBad = (refl, refl)
 
 next-alike : (e : Encoder) (p : List ℕ) (old : ℕ → ℕ) (n : ℕ) → GoodEncoder e
     → let t : CalledOnce KeptEncoder = encoderBy ourLibrary old .next (record { words = encoderWords e; calls = n }) p in
     (t .answer ≡ nextStep e p .answer) × (t .encoder ≡ record { words = encoderWords (nextStep e p .encoder); calls = suc n })
 unfolding sghEncoderNext
 next-alike e p old n g =
-    let a = answer-alike e (nextStep e p .answer) (nextStep e p .encoder) (old n) (next-leaves e p) in
+    let a = answer-alike e (nextStep e p) (old n) (next-keeps e p) in
     rw (words-back e g) (a .0, ap (λ (w : List ℕ). record { words = w; calls = suc n }) (a .1))
 
--- what an Encoder's numbers hold stays good
-end-next : (z : ℤ) → lastEnd z ≡ false → badEnd z ≡ false → badEnd (sucℤ z) ≡ false
-end-next (pos n) l h = le-ltb 8 (suc n) (leb-false 8 n l)
-end-next (negsuc zero) l h = refl
-end-next (negsuc (suc n)) l h = le-ltb 2 n (omega (arith, ltb-false 2 (suc n) h))
-
-first-end : (pad : ℕ) → pad ≤ 3 → badEnd (sucℤ (negℤ (pos pad))) ≡ false
-first-end zero h = refl
-first-end (suc zero) h = refl
-first-end (suc (suc zero)) h = refl
-first-end (suc (suc (suc zero))) h = refl
-first-end (suc (suc (suc (suc n)))) h = absurd (omega arith)
-
-bytes-zeros : (n : ℕ) → AllBytes (replicate n 0x00)
-bytes-zeros zero = tt
-bytes-zeros (suc n) = (omega arith, bytes-zeros n)
+-- an Encoder's CRC register keeps to its 16 bits where the payload is bytes
 
 pub end-bytes : (pad : ℕ) → pad ≤ 3 → AllBytes (endOf pad)
-end-bytes pad h = bytes-join (replicate pad 0x00 ++ escSeq) _ (bytes-join (replicate pad 0x00) escSeq (bytes-zeros pad) (bytes-run 4)) (omega arith, (omega arith, tt))
+end-bytes pad h = bytes-join (replicate pad 0x00 ++ escSeq) _ (bytes-join (replicate pad 0x00) escSeq (bytes-run pad 0x00 (omega arith)) (bytes-run 4 0x1b (omega arith))) (omega arith, (omega arith, tt))
 
-run-at-most : (n b : ℕ) → n ≤ 3 → ltb 4 (runOf n b) ≡ false
-run-at-most n b h = cases (eqb b 0x1b) (λ t. rw t (le-ltb 4 (suc n) (omega arith))) (λ t. rw t refl)
-
-looked-good : (n place reg : ℕ) (p : List ℕ) → n ≤ 3 → AreBytes p → reg < 65536 → GoodEncoder (looked n place reg p .encoder)
+looked-narrow : (n place reg : ℕ) (p : List ℕ) → AreBytes p → reg < 65536 → looked n place reg p .encoder .crc < 65536
 unfolding looked ended
-looked-good n place reg p h b r =
-    cases (ltb place (length p))
-    (λ t. rw t (record { counts = run-at-most n (getD p place 0) h; narrow = byte-fits reg (getD p place 0) r (b place) }))
-    (λ t. rw t (record { counts = first-end (missing place) (omega arith); narrow = register-narrow reg (endOf (missing place)) r (end-bytes (missing place) (omega arith)) }))
+looked-narrow n place reg p b r =
+    cases (ltb place (length p)) (λ t. rw t (byte-fits reg (getD p place 0) r (b place)))
+    (λ t. rw t (register-narrow reg (endOf (missing place)) r (end-bytes (missing place) (omega arith))))
 
-step-good : (s : EncoderState) (place reg : ℕ) (p : List ℕ) → badCount s ≡ false → AreBytes p → reg < 65536 → GoodEncoder (stepFrom s place reg p .encoder)
+step-narrow : (s : EncoderState) (place reg : ℕ) (p : List ℕ) → AreBytes p → reg < 65536 → stepFrom s place reg p .encoder .crc < 65536
 unfolding stepFrom ended
-step-good (Init n) place reg p h b r =
-    cases (ltb n 8) (λ t. rw t (record { counts = le-ltb 8 (suc n) (ltb-true n 8 t); narrow = r })) (λ t. rw t (looked-good 0 place reg p (omega arith) b r))
-step-good (LookingForEscape n) place reg p h b r =
-    cases (ltb n 4) (λ t. rw t (looked-good n place reg p (omega (arith, ltb-true n 4 t)) b r)) (λ t. rw t (record { counts = refl; narrow = register-narrow reg escSeq r (bytes-run 4) }))
-step-good (HandlingEscape n) place reg p h b r =
-    cases (ltb n 4) (λ t. rw t (record { counts = le-ltb 4 (suc n) (ltb-true n 4 t); narrow = r })) (λ t. rw t (looked-good 0 place reg p (omega arith) b r))
-step-good (End z) place reg p h b r =
-    cases (lastEnd z) (λ t. rw t (record { counts = h; narrow = r })) (λ t. rw t (record { counts = end-next z t h; narrow = r }))
+step-narrow (Init n) place reg p b r = cases (ltb n 8) (λ t. rw t r) (λ t. rw t (looked-narrow 0 place reg p b r))
+step-narrow (LookingForEscape n) place reg p b r = cases (ltb n 4) (λ t. rw t (looked-narrow n place reg p b r)) (λ t. rw t (register-narrow reg escSeq r (bytes-run 4 0x1b (omega arith))))
+step-narrow (HandlingEscape n) place reg p b r = cases (ltb n 4) (λ t. rw t r) (λ t. rw t (looked-narrow 0 place reg p b r))
+step-narrow (End z) place reg p b r = cases (lastEnd z) (λ t. rw t r) (λ t. rw t r)
 
-next-good′ : (e : Encoder) (p : List ℕ) → AreBytes p → GoodEncoder e → GoodEncoder (nextStep e p .encoder)
+next-narrow : (e : Encoder) (p : List ℕ) → AreBytes p → e .crc < 65536 → nextStep e p .encoder .crc < 65536
 unfolding nextStep
-next-good′ e p b g =
-    cases (leb (length p) limit)
-    (λ t. cases (badEncoder e (length p)) (λ u. rw (t, u) g) (λ u. rw (t, u) (step-good (e .state) (e .place) (e .crc) p (g .counts) b (g .narrow))))
-    (λ t. rw t g)
+next-narrow e p b r =
+    cases (leb (length p) limit) (λ t. cases (badEncoder e (length p)) (λ u. rw (t, u) r) (λ u. rw (t, u) (step-narrow (e .state) (e .place) (e .crc) p b r)))
+    (λ t. rw t r)
 
 calls-alike : (i : ℕ) (e : Encoder) (p : List ℕ) (old : ℕ → ℕ) (n : ℕ) → AreBytes p → GoodEncoder e → callsOf (encoderBy ourLibrary old) i (record { words = encoderWords e; calls = n }) p ≡ callsOf ourEncoder i e p
 unfolding callsOf
 calls-alike zero e p old n b g = refl
 calls-alike (suc i) e p old n b g =
     let t = next-alike e p old n g in
-    rw (t .0, t .1) (ap (λ (l : List NextAnswer). nextStep e p .answer ∷ l) (calls-alike i (nextStep e p .encoder) p old (suc n) b (next-good′ e p b g)))
+    rw (t .0, t .1) (ap (λ (l : List NextAnswer). nextStep e p .answer ∷ l) (calls-alike i (nextStep e p .encoder) p old (suc n) b (record { counts = next-counts e p (g .counts); narrow = next-narrow e p b (g .narrow) })))
 
 pub hears-encoder : HearsEncoder ourLibrary
 unfolding sghEncoderNew freshEncoder
@@ -252,9 +208,7 @@ module _ (c : LentByCaller) (four : (i : ℕ) → length (c .values i) ≡ 4) wh
 
 -- a payload is as long as the buffer's part that it is
 part-long : (n : ℕ) (m : List ℕ) → take (length (take n m)) m ≡ take n m
-part-long zero m = refl
-part-long (suc n) [] = refl
-part-long (suc n) (x ∷ m) = ap (λ (l : List ℕ). x ∷ l) (part-long n m)
+part-long n m = ap (λ (l : List ℕ). take (length (take n m)) l) (sym (take-append-drop n m)) ∙ take-append-seam (take n m) (drop n m)
 
 payload-part : (l m : List ℕ) → take (length (payloadPacked l m)) m ≡ payloadPacked l m
 unfolding payloadPacked payloadRecord

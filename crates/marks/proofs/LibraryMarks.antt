@@ -121,7 +121,7 @@ escaped-bytes n [] h = tt
 escaped-bytes n (b ∷ l) h = (h .0, bytes-join (fourMore n b) _ (more n b) (escaped-bytes (runWith n b) l (h .1)))
   where
     more : (n b : ℕ) → AllBytes (fourMore n b)
-    more n b = cases (eqb b 0x1b) (λ t. cases (eqb n 3) (λ u. rw (t, u) (bytes-run 4)) (λ u. rw (t, u) tt)) (λ t. rw t tt)
+    more n b = cases (eqb b 0x1b) (λ t. cases (eqb n 3) (λ u. rw (t, u) (bytes-run 4 0x1b (omega arith))) (λ u. rw (t, u) tt)) (λ t. rw t tt)
 
 closed-bytes : (l : List ℕ) → AllBytes l → AllBytes (closed l)
 unfolding closed

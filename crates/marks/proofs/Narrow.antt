@@ -41,17 +41,21 @@ bytes-drop zero l h = h
 bytes-drop (suc n) [] h = tt
 bytes-drop (suc n) (x ∷ l) h = bytes-drop n l (h .1)
 
-pub bytes-run : (n : ℕ) → AllBytes (replicate n 0x1b)
-bytes-run zero = tt
-bytes-run (suc n) = (omega arith, bytes-run n)
+pub bytes-run : (n x : ℕ) → x < 256 → AllBytes (replicate n x)
+bytes-run zero x h = tt
+bytes-run (suc n) x h = (h, bytes-run n x h)
 
 pub start-bytes : AllBytes startSeq
-start-bytes = bytes-join escSeq restartSeq (bytes-run 4) (omega arith, (omega arith, (omega arith, (omega arith, tt))))
+start-bytes = bytes-join escSeq restartSeq (bytes-run 4 0x1b (omega arith)) (omega arith, (omega arith, (omega arith, (omega arith, tt))))
 
 pub bytes-at : (l : List ℕ) → AllBytes l → (i : ℕ) → getD l i 0 < 256
 bytes-at [] h i = omega arith
 bytes-at (x ∷ l) h zero = h .0
 bytes-at (x ∷ l) h (suc i) = bytes-at l (h .1) i
+
+-- zeros are bytes
+pub zeros-bytes : (n : ℕ) → AreBytes (replicate n 0)
+zeros-bytes n = bytes-at (replicate n 0) (bytes-run n 0 (omega arith))
 
 pub bytes-all : (l : List ℕ) → AreBytes l → AllBytes l
 bytes-all [] h = tt
@@ -102,8 +106,8 @@ saw-narrow C s b o byte h (began e) = begun-narrow
 saw-narrow C s b o byte h (again w) = saw-narrow C fresh b o byte fresh-narrow w
 saw-narrow C s b o byte h (waits e ne) = (h .0, omega arith, h .2)
 saw-narrow C s b o byte h (opens {m = q} e f) =
-    (register-narrow (register (q .reg) (drop (q .idx) (q .stored))) escSeq (register-narrow (q .reg) (drop (q .idx) (q .stored)) (h .0) (bytes-drop (q .idx) (q .stored) (h .2))) (bytes-run 4), omega arith, h .2)
-saw-narrow C s b o byte h (stores {n} {m = q} ne fit) = put-narrow q (replicate n 0x1b ++ b ∷ []) h (bytes-join (replicate n 0x1b) (b ∷ []) (bytes-run n) (byte, tt))
+    (register-narrow (register (q .reg) (drop (q .idx) (q .stored))) escSeq (register-narrow (q .reg) (drop (q .idx) (q .stored)) (h .0) (bytes-drop (q .idx) (q .stored) (h .2))) (bytes-run 4 0x1b (omega arith)), omega arith, h .2)
+saw-narrow C s b o byte h (stores {n} {m = q} ne fit) = put-narrow q (replicate n 0x1b ++ b ∷ []) h (bytes-join (replicate n 0x1b) (b ∷ []) (bytes-run n 0x1b (omega arith)) (byte, tt))
 saw-narrow C s b o byte h (full ne f) = fresh-narrow
 saw-narrow C s b o byte h (collects {m = q} fit lt) = put-narrow q (b ∷ []) h (byte, tt)
 saw-narrow C s b o byte h (judges {m = q} fit ge j) = judged-narrow (put q (b ∷ [])) _ o (put-narrow q (b ∷ []) h (byte, tt)) j
@@ -138,7 +142,7 @@ wrote-bytes C (search n noise raw) b h = tt
 wrote-bytes C (done P) b h = tt
 wrote-bytes C (body n q) b h =
     cases (eqb b 0x1b) (λ t. rw t tt) (λ t.
-    cases (leb (length (q .stored) + length (replicate n 0x1b ++ b ∷ [])) (C .capacity)) (λ u. rw (t, u) (bytes-join (replicate n 0x1b) (b ∷ []) (bytes-run n) (h, tt))) (λ u. rw (t, u) tt))
+    cases (leb (length (q .stored) + length (replicate n 0x1b ++ b ∷ [])) (C .capacity)) (λ u. rw (t, u) (bytes-join (replicate n 0x1b) (b ∷ []) (bytes-run n 0x1b (omega arith)) (h, tt))) (λ u. rw (t, u) tt))
 wrote-bytes C (escape k q) b h = cases (leb (length (q .stored) + 1) (C .capacity)) (λ u. rw u (h, tt)) (λ u. rw u tt)
 
 -- a record and a memory, both narrow

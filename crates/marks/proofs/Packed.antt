@@ -11,7 +11,7 @@ use Rattle.refusals.specs.Numbers.{badStateNo, wrongBufferNo, badSpanNo, limit}
 use Rattle.frame.specs.Frame.{same}
 use Rattle.decoder.specs.Push as P
 use Rattle.decoder.specs.Push.{step}
-use Rattle.decoder.specs.Record.{DecoderAnswer, nothing, payload, count, refusal, after, numbered, setup, stateOf, badDecoder, wrongBuffer, recordOf, pushed, newRecord, pushRecord, finalizeRecord, resetRecord, payloadRecord, askRecord}
+use Rattle.decoder.specs.Record.{DecoderAnswer, nothing, payload, count, refusal, After, after, numbered, setup, stateOf, badDecoder, wrongBuffer, recordOf, pushed, newRecord, pushRecord, finalizeRecord, resetRecord, payloadRecord, askRecord}
 use Rattle.decoder.specs.Run.{KnownWay, Op, push, finalize, reset}
 use Rattle.decoder.specs.Run as R
 use Rattle.decoder.specs.declared.Decoder.{Decoder}
@@ -114,12 +114,16 @@ pack-four d out h =
     cases (ltb limit (d .capacity)) (λ o. absurd (omega (arith, ap noOf (rw (e, o) at h)))) (λ o.
     cases (ltb (length out) 28) (λ s. absurd (omega (arith, ap noOf (rw (e, o, s) at h)))) (λ s. absurd (omega (arith, ap noOf (rw (e, o, s) at h))))))
 
-bad-push : (d : Decoder) (m : List ℕ) (b : ℕ) → badDecoder d ≡ true → pushRecord d m b .answer ≡ refusal badStateNo []
+pub bad-push : (d : Decoder) (m : List ℕ) (b : ℕ) → badDecoder d ≡ true → pushRecord d m b ≡ after (refusal badStateNo []) d m
 unfolding pushRecord
 bad-push d m b e = rw e
 
+pub wrong-push : (d : Decoder) (m : List ℕ) (b : ℕ) → badDecoder d ≡ false → wrongBuffer (d .capacity) (length m) ≡ true → pushRecord d m b ≡ after (refusal wrongBufferNo []) d m
+unfolding pushRecord
+wrong-push d m b g e = rw (g, e)
+
 pub packs-what-pushes : PacksWhatPushes ourHost
-packs-what-pushes d out m b = (λ h. bad-push d m b (pack-four d out h), λ h. ap (λ (f : Filled). f .answer) (pack-bad d out (push-four d m b h)))
+packs-what-pushes d out m b = (λ h. ap (λ (a : After). a .answer) (bad-push d m b (pack-four d out h)), λ h. ap (λ (f : Filled). f .answer) (pack-bad d out (push-four d m b h)))
 
 -- what a push over bytes that hold d answers
 held-answer : (l m : List ℕ) (d : Decoder) (b : ℕ) → unpackOf l ≡ holds d → pushPacked l m b .answer ≡ pushRecord d m b .answer
@@ -139,8 +143,8 @@ five-never d m b g small e h =
     event-number (step (setup d) (stateOf d m) b .event) wrongBufferNo [] (rw (g, right, fits) at h) .1 refl
 
 wrong-five : (d : Decoder) (m : List ℕ) (b : ℕ) → badDecoder d ≡ false → (length m ≡ d .capacity → ⊥) → pushRecord d m b ≡ after (refusal wrongBufferNo []) d m
-unfolding pushRecord wrongBuffer
-wrong-five d m b g not = rw (g, ne-eqb (length m) (d .capacity) not)
+unfolding wrongBuffer
+wrong-five d m b g not = wrong-push d m b g (rw (ne-eqb (length m) (d .capacity) not))
 
 held-wrong : (l m : List ℕ) (d : Decoder) (b : ℕ) → unpackOf l ≡ holds d → (length m ≡ d .capacity → ⊥) → actOver l m (push b) ≡ asItWas (refusal wrongBufferNo []) l m
 unfolding pushPacked
