@@ -1,4 +1,4 @@
-"""Each wrong reading is a must-fail edit, or a theorem of a crate's proofs/Wrong.antt that has its name, and is told in docs/WRONG-READINGS.md in four lines and named in docs/STATEMENTS.md. The prover refused each edit at a fact and not at a shape: where the edits were tried (target/must-fail), and always in the gate, each has its log. A theorem rules out an outcome of the equation that a public function's contract has, or a fake of a claim that marks or places makes: its last premise is that; each premise before it speaks of a variable of the theorem, and whether they can all hold is for the reader to see. Each public function has two of them at least."""
+"""Each wrong reading is a must-fail edit, or a theorem of a crate's proofs/Wrong.antt that has its name, and is told in docs/WRONG-READINGS.md in four lines and named in docs/STATEMENTS.md. The prover refused each edit at a fact and not at a shape: where the edits were tried (target/must-fail), and always in the gate, each has its log. A theorem rules out an outcome of the equation that a public function's contract has, or a fake of a claim that marks or places makes, or a claim that is false of ours as one of marks' records says: its last premise is that; each premise before it speaks of a variable of the theorem, and whether they can all hold is for the reader to see. Each public function has two of them at least."""
 import glob, os, re, sys
 
 os.chdir(os.path.join(os.path.dirname(os.path.abspath(__file__)), ".."))
@@ -79,6 +79,8 @@ claims = {
     "marks": set(re.findall(r"^  pub [\w-]+ : ([A-Z]\w*) ", open("crates/marks/specs/Marks.antt", encoding="utf-8").read(), re.M)),
     "places": set(re.findall(r"^  pub [\w-]+ : .*→ ([A-Z]\w*) \(λ s\. ", open("crates/places/specs/Readers.antt", encoding="utf-8").read(), re.M)),
 }
+# claims that nobody makes, and that a part of a record of Marks says are false of ours
+refused = {said for path in glob.glob("crates/marks/specs/Fake*.antt") for said in re.findall(r"^  pub [\w-]+ : ([A-Z]\w* ours) → ⊥$", open(path, encoding="utf-8").read(), re.M)}
 theorems = {}
 for path in sorted(glob.glob("crates/*/proofs/Wrong.antt")):
     crate = path.split(os.sep)[1]
@@ -95,7 +97,7 @@ for path in sorted(glob.glob("crates/*/proofs/Wrong.antt")):
             if not variables & set(re.findall(r"\w+", premise)):
                 bad.append(f"{path}: {law} has a premise of no variable: {premise}")
         if crate in claims:
-            if last.split(" ")[0] not in claims[crate]:
+            if last.split(" ")[0] not in claims[crate] and last not in refused:
                 bad.append(f"{path}: {law} is of no claim of {crate}: {last}")
         elif len(sides) != 2 or not any(all(instance(p, o, names, bound) for p, o in zip(promise, sides)) for promise, names in promises(crate) for bound in [{}]):
             bad.append(f"{path}: {law} is of no contract of the crate: {last}")

@@ -5,16 +5,13 @@ use mathlib.Core.List.{List, [], _∷_, _++_, append-nil, map}
 use Prim.Native.Nat.{ℕ, suc, _+_, _≤_, _<_}
 use native.Mathlib.Omega.{arith}
 use lib.ListN.{length, take, replicate}
-use lib.Dec.{eqb, leb}
-use borrow.Author.Tests.{le-leb}
+use lib.Dec.{eqb}
 use Rattle.frame.specs.Frame.{Sound, startSeq}
-use Rattle.frame.proofs.Cases.{by-le}
-use Rattle.decoder.specs.Push.{inWay, Mem, State, search, body, escape, done, silent, discarded, memory, searching, Out, says, put, store, step, begun, noticed, fresh}
-use Rattle.decoder.specs.Record.{DecoderAnswer, nothing, refusal, numbered, setup, stateAs, stateOf, newRecord}
+use Rattle.decoder.specs.Push.{inWay, State, silent, discarded, memory, Out, says, step, begun, noticed, fresh}
+use Rattle.decoder.specs.Record.{DecoderAnswer, nothing, refusal, numbered, setup, stateOf, newRecord}
 use Rattle.decoder.specs.Run as R
 use Rattle.decoder.specs.Run.{KnownWay, Op}
 use Rattle.decoder.proofs.States.{runState, actState, answerState}
-use Rattle.decoder.specs.declared.DecodeState.{DecodeState}
 use Rattle.decoder.specs.declared.Decoder.{Decoder}
 use Rattle.decoder.specs.declared.Setup.{Setup}
 use Rattle.decoder.proofs.Search.{known-is}
@@ -23,34 +20,11 @@ use Rattle.decoder.proofs.Faithful.{Fit}
 use Rattle.decoder.proofs.Runs.{run-is, acts, new-fit}
 use Rattle.marks.specs.Decoders.{Gave, ours, answers, behindOf, frameSays}
 use Rattle.marks.specs.Mark2.{eighth, NoRoom, Completeness, Ready, nothingMatched, someMatched, behindPayload, OurSearch}
+use Rattle.marks.proofs.Less.{step-less}
 use Rattle.marks.proofs.Rules.{Silent, stop, silentOn}
 use Rattle.marks.proofs.Starts.{Starts, starts-none, starts-done, starts-second}
 use Rattle.marks.proofs.RoundTrip.{framed-runs, sound-decodes}
 use Rattle.marks.proofs.Recovery.{answers-run}
-
--- ---- less room: the same step, or 3
-
--- what is wanted of a step with less room, o, beside one with more, o′
-abbrev Less : Type 0 → Out → Out → Type 0
-Less G o o′ = (o ≡ says fresh memory → G) → (o ≡ o′ → G) → G
-
-store-less : {G : Type 0} (C D : Setup) (m : Mem) (l : List ℕ) (k : Mem → Out) → C .capacity ≤ D .capacity → Less G (store C m l k) (store D m l k)
-unfolding store
-store-less {G} C D m l k le =
-    by-le (λ (o : Out). Less G o (cond (leb (length (m .stored) + length l) (D .capacity)) (k (put m l)) (says fresh memory))) (length (m .stored) + length l) (C .capacity) _ _
-    (λ fit f g. g (rw (le-leb (length (m .stored) + length l) (D .capacity) (omega arith))))
-    (λ full f g. f refl)
-
-else-less : {G : Type 0} (t : Bool) (x y z : Out) → Less G y z → Less G (cond t x y) (cond t x z)
-else-less true x y z h = λ f g. g refl
-else-less false x y z h = h
-
-step-less : {G : Type 0} (C D : Setup) (s : State) (b : ℕ) → C .way ≡ D .way → C .capacity ≤ D .capacity → Less G (step C s b) (step D s b)
-unfolding step
-step-less C D (search n noise raw) b w le = λ f g. g (ap (λ (x : ℕ). searching x n noise raw b) w)
-step-less C D (done P) b w le = λ f g. g (ap (λ (x : ℕ). searching x 0 0 0 b) w)
-step-less C D (escape k m) b w le = store-less C D m (b ∷ []) _ le
-step-less C D (body n m) b w le = else-less (eqb b 0x1b) _ _ _ (store-less C D m (replicate n 0x1b ++ b ∷ []) _ le)
 
 -- ---- pushes that say nothing with more room, and a last one that finds none
 

@@ -30,7 +30,8 @@ use Rattle.sartrogheo.specs.Calls.{sghDecoderNew, sghPushByte, sghPushSlice, sg
 use Rattle.sartrogheo.specs.Streams.{encoderIn, sghEncoderNew, sghEncoderNext, sghNextEvent}
 use Rattle.marks.specs.Encoders.{callsOf}
 use Rattle.marks.specs.Events.{Numbers, saysAt}
-use Rattle.marks.specs.Library.{HearsNew, LentByCaller, oneOp, slice, HeardUse, heardUse, usesSay, usesLeave, CallerBegins, HearsDecoder, HearsEncode, HearsEncoder, HearsReader}
+use Rattle.marks.specs.Chunks.{oneOp, slice, HeardUse, heardUse, usesSay, usesLeave}
+use Rattle.marks.specs.Library.{HearsNew, LentByCaller, CallerBegins, HearsDecoder, HearsEncode, HearsEncoder, HearsReader}
 use Rattle.marks.specs.FakeLibraries.{deniesNew, keepsValues, handsBuffer, paysAlways, leavesLast, forgetsSlice, encodesNothing, forgetsCount, losesPlace, losesSign, losesKind, FallLibraries}
 use Rattle.marks.proofs.Narrow.{zeros-bytes}
 

@@ -55,14 +55,14 @@ use Rattle.marks.specs.Fakes.{refusesAll, constant, idle, invents, once,
 use Rattle.marks.proofs.Completeness.{new-searches}
 
 -- a number for an answer, in which the fakes differ from what is claimed
-answerCode : DecoderAnswer → ℕ
+unfoldable pub answerCode : DecoderAnswer → ℕ
 answerCode nothing = 0
 answerCode (payload bytes) = 1000 + getD bytes 0 0
-answerCode (count k) = 2000
+answerCode (count k) = 2000 + k
 answerCode (refusal k values) = 3000 + getD values 0 0
 
 -- the number of the answer at a place
-codeAt : ℕ → List DecoderAnswer → ℕ
+unfoldable pub codeAt : ℕ → List DecoderAnswer → ℕ
 codeAt n [] = 0
 codeAt zero (a ∷ l) = answerCode a
 codeAt (suc n) (a ∷ l) = codeAt n l

@@ -7,7 +7,9 @@ pub mod Recovery
 pub mod Soundness
 pub mod Hides
 pub mod Chunks
+pub mod Less
 pub mod Completeness
+pub mod Larger
 pub mod Second
 pub mod Ways
 pub mod Narrow
@@ -22,6 +24,7 @@ pub mod LibraryMarks
 pub mod Decided
 pub mod Fakes
 pub mod FakeHosts
+pub mod FakeLarger
 pub mod FakeLibraries
 pub mod Marks
 pub mod Wrong

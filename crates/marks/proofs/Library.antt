@@ -36,7 +36,8 @@ use Rattle.marks.specs.Decoders.{LeftBehind}
 use Rattle.marks.specs.Packed.{AreBytes, actOver}
 use Rattle.marks.specs.Encoders.{CalledOnce, ourEncoder, callsOf}
 use Rattle.marks.specs.Events.{Numbers, ourReader, saysAt, ReaderGives}
-use Rattle.marks.specs.Library.{ourLibrary, HearsNew, LentByCaller, KeptByCaller, keptByCaller, actBy, sliceBy, slicerBy, Use, oneOp, slice, HeardUse, heardUse, usesSay, usesLeave, HearsPayload, HearsDecoder, HearsEncode, KeptEncoder, encoderBy, HearsEncoder, readerBy, threeOf, HearsReader, HearsOurs}
+use Rattle.marks.specs.Chunks.{Use, oneOp, slice, HeardUse, heardUse, usesSay, usesLeave}
+use Rattle.marks.specs.Library.{ourLibrary, HearsNew, LentByCaller, KeptByCaller, keptByCaller, actBy, sliceBy, slicerBy, HearsPayload, HearsDecoder, HearsEncode, KeptEncoder, encoderBy, HearsEncoder, readerBy, threeOf, HearsReader, HearsOurs}
 use Rattle.marks.proofs.Events.{reader-gives}
 use Rattle.marks.proofs.HeardEvent.{call-back}
 use Rattle.marks.proofs.HeardAnswer.{answer-heard, push-bytes-hearable, slice-bytes-hearable, finalize-bytes-hearable, reset-heard}

@@ -19,12 +19,14 @@ use Rattle.encoder.specs.Encode.{AfterEncode}
 use Rattle.marks.specs.Decoders.{Machine, ours, answers, behindOf, LeftBehind, leftBehind}
 use Rattle.marks.specs.Mark2.{PushesBytes, SoundBehind}
 use Rattle.marks.specs.Mark3.{ourEncode, Job, AllSuit, part, wroteFor, framesFor, restSays, HeardBehindZeros}
-use Rattle.marks.specs.Chunks.{ourSlicer}
-use Rattle.marks.specs.Library.{Library, LentByCaller, KeptByCaller, decoderBy, slicerBy, CallerBegins, encodeBy, HearsOurs, JobsOfBytes, MarksBy}
+use Rattle.marks.specs.Chunks.{ourSlicer, Use}
+use Rattle.marks.specs.Larger.{SlicesTakeNothing}
+use Rattle.marks.specs.Library.{Library, LentByCaller, KeptByCaller, decoderBy, slicerBy, UsesBytes, CallerBegins, encodeBy, HearsOurs, JobsOfBytes, MarksBy}
 use Rattle.marks.proofs.Narrow.{bytes-join, bytes-run, bytes-at, bytes-all, start-bytes}
 use Rattle.marks.proofs.Packed.{singly, singly-bytes, singly-leaves, singly-answers}
 use Rattle.marks.proofs.Soundness.{soundness}
 use Rattle.marks.proofs.Recovery.{wrote-is, mark3}
+use Rattle.marks.proofs.Larger.{larger-by-slices}
 use Rattle.marks.proofs.Library.{end-bytes}
 
 -- ---- operations that push bytes
@@ -166,5 +168,20 @@ module _ (L : Library) (h : HearsOurs L) where
       rw (frames-alike (j ∷ js), wrote-alike j, rest-alike js, hears-answers L h C c m g (os ++ map push frames) pf, hears-answers L h C c m g os po)
       (mark3 C m (g .way) long (g .capacity) before j js s)
 
+-- ---- a larger buffer
+
+module _ (L : Library) (h : HearsOurs L) where
+  larger-by : (C D : Setup) (c c′ : LentByCaller) (m n : List ℕ) → CallerBegins C c m → CallerBegins D c′ n → length m ≡ C .capacity → length n ≡ D .capacity → C .way ≡ D .way → C .capacity ≤ D .capacity
+      → (us : List Use) → UsesBytes us → SlicesTakeNothing (slicerBy L c) (slicerBy L c′) C D m n us
+  larger-by C D c c′ m n g g′ long long′ w le us b =
+      let x = h .decoder C c m us g b in
+      let y = h .decoder D c′ n us g′ b in
+      let s = larger-by-slices C D m n (record { long = long; small = g .capacity }) (record { long = long′; small = g′ .capacity }) w le us in
+      record {
+        says = rw (x .0, y .0) (s .says);
+        takes = rw (x .0, y .0) (s .takes);
+        hands = λ none. y .2 .bytes′ ∙ s .hands (rw (x .0) at none) ∙ sym (x .2 .bytes′);
+      }
+
 pub marks-by : (L : Library) → HearsOurs L → MarksBy L
-marks-by L h = record { soundness = λ C c m g. (new-empty L h C c m g, sound-behind L h C c m g); mark3 = mark3-by L h }
+marks-by L h = record { soundness = λ C c m g. (new-empty L h C c m g, sound-behind L h C c m g); mark3 = mark3-by L h; larger = larger-by L h }

@@ -8,6 +8,7 @@ use Rattle.marks.proofs.Soundness.{soundness}
 use Rattle.marks.proofs.Completeness.{completeness, new-searches, reached-searches}
 use Rattle.marks.proofs.Hides.{hides}
 use Rattle.marks.proofs.Chunks.{chunks}
+use Rattle.marks.proofs.Larger.{larger, larger-by-slices, larger-cut-anyhow}
 use Rattle.marks.proofs.Second.{begins-exactly, searches-again, second-searches, reached-counts, hears-behind-noise}
 use Rattle.marks.proofs.Ways.{keeps-way, refuses-unknown, unknown-asked}
 use Rattle.marks.proofs.Packed.{round-trips, exactly, packs-what-pushes, packs-in-order, acts-alike, slices-alike, hands-out-alike, serves, leaves-refused, leaves-tidy, answers-alike}
@@ -15,6 +16,7 @@ use Rattle.marks.proofs.Encoders.{same-bytes}
 use Rattle.marks.proofs.FakeHosts.{fall-hosts}
 use Rattle.marks.proofs.Library.{hears-ours, library-gives}
 use Rattle.marks.proofs.LibraryMarks.{marks-by}
+use Rattle.marks.proofs.FakeLarger.{fall-larger}
 use Rattle.marks.proofs.FakeLibraries.{fall-libraries}
 use Rattle.marks.proofs.Recovery.{mark3}
 use Rattle.marks.proofs.Events.{reader-gives, parser-gives, reader-goes-on, parser-goes-on, reader-lists, parser-lists, reader-says-where, parser-says-where, reader-call-says-where, parser-call-says-where, reader-ten-again, parser-ten-again}
@@ -40,6 +42,9 @@ marks =
       unknown-asked = unknown-asked;
       counts = reached-counts;
       chunks = chunks;
+      larger = larger;
+      larger-by-slices = larger-by-slices;
+      larger-cut-anyhow = larger-cut-anyhow;
       round-trips = round-trips;
       exactly = exactly;
       packs-what-pushes = packs-what-pushes;
@@ -81,5 +86,6 @@ marks =
       not-ours = not-ours;
       fall = fall;
       fall-hosts = fall-hosts;
+      fall-larger = fall-larger;
       fall-libraries = fall-libraries;
     }

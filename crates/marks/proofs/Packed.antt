@@ -30,8 +30,8 @@ use Rattle.packed.proofs.RoundTrip.{tidy-is, packed-over, packed-room, packed-l
 use Rattle.marks.specs.Decoders.{ours, answers, LeftBehind, leftBehind}
 use Rattle.marks.specs.Mark2.{PushesBytes}
 use Rattle.marks.specs.Packed.{AreBytes, asItWas, actOver, ourHost, RoundTrip, Exactly, PacksWhatPushes, PacksInOrder, ActsAlike, SlicesAlike, HandsAlike, Serves, LeavesRefused, LeavesTidy, keptBy, AnswersAlike}
-use Rattle.marks.specs.Chunks.{Slicer, ourSlicer}
-use Rattle.marks.specs.Library.{Use, oneOp, slice, UsesBytes, HeardUse, heardUse, usesSay, usesLeave}
+use Rattle.marks.specs.Chunks.{Slicer, ourSlicer, Use, oneOp, slice, HeardUse, heardUse, usesSay, usesLeave}
+use Rattle.marks.specs.Library.{UsesBytes}
 use Rattle.marks.proofs.Narrow.{bytes-all, new-narrow, act-tame, slice-tame}
 
 -- ---- packing and unpacking

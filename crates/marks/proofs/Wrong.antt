@@ -1,4 +1,4 @@
--- What the claims rule out: each fake of docs/WRONG-READINGS.md falls, by one of the parts of Fall or FallHosts; and claims that are false of ours, by the parts of NotOurs.
+-- What the claims rule out: each fake of docs/WRONG-READINGS.md falls, by one of the parts of Fall, FallHosts, FallLarger or FallLibraries; and claims that are false of ours, by the parts of NotOurs and FallLarger.
 use Rattle.encoder.specs.Encode.{encodeTo}
 use Rattle.decoder.specs.Push.{firstWay, secondWay}
 use Rattle.marks.specs.Decoders.{ours}
@@ -6,6 +6,7 @@ use Rattle.marks.specs.Mark2.{Soundness, OurSearch}
 use Rattle.marks.specs.Mark3.{Mark3}
 use Rattle.marks.specs.Hides.{Hides}
 use Rattle.marks.specs.Chunks.{Chunks}
+use Rattle.marks.specs.Larger.{Larger, LargerBySlices}
 use Rattle.marks.specs.Second.{Begins, SearchesAgain, HearsBehindNoise, ourSeeks, ourBegun}
 use Rattle.marks.specs.Ways.{ourWay, KeepsWay, RefusesUnknown}
 use Rattle.marks.specs.Packed.{RoundTrip, Exactly, PacksWhatPushes, PacksInOrder, ActsAlike, HandsAlike, Serves, LeavesRefused}
@@ -16,7 +17,9 @@ use Rattle.marks.specs.FakeHosts.{unpacksNothing, packsConstants, packsA
 use Rattle.marks.proofs.Fakes.{not-ours, fall}
 use Rattle.marks.specs.Library.{HearsNew, HearsDecoder, HearsEncode, HearsEncoder, HearsReader}
 use Rattle.marks.specs.FakeLibraries.{deniesNew, keepsValues, handsBuffer, paysAlways, leavesLast, forgetsSlice, encodesNothing, forgetsCount, losesPlace, losesSign, losesKind}
+use Rattle.marks.specs.FakeLarger.{storesLess, handsSmall, countsRoom, hesitates, looksAhead, ForAnyTwo, AcrossWays, FullAnswerToo, HearsAsMany}
 use Rattle.marks.proofs.FakeHosts.{fall-hosts}
+use Rattle.marks.proofs.FakeLarger.{fall-larger}
 use Rattle.marks.proofs.FakeLibraries.{fall-libraries}
 
 fake-refuses-everything : Mark3 refusesAll encodeTo → ⊥
@@ -162,3 +165,30 @@ fake-scaler-without-its-sign = fall-libraries .loses-sign
 
 fake-entry-without-its-kind : HearsReader losesKind → ⊥
 fake-entry-without-its-kind = fall-libraries .loses-kind
+
+fake-larger-buffer-stores-less : Larger (storesLess .machine) → ⊥
+fake-larger-buffer-stores-less = fall-larger .stores-less
+
+fake-larger-buffer-hands-nothing : Larger (handsSmall .machine) → ⊥
+fake-larger-buffer-hands-nothing = fall-larger .hands-small
+
+fake-reset-counts-the-room : Larger countsRoom → ⊥
+fake-reset-counts-the-room = fall-larger .counts-room
+
+fake-larger-buffer-takes-single-bytes : LargerBySlices hesitates → ⊥
+fake-larger-buffer-takes-single-bytes = fall-larger .hesitates-slices
+
+fake-slice-refused-at-its-first-byte : LargerBySlices looksAhead → ⊥
+fake-slice-refused-at-its-first-byte = fall-larger .looks-ahead-slices
+
+larger-with-the-full-answer : FullAnswerToo ours → ⊥
+larger-with-the-full-answer = fall-larger .full-answer-too
+
+larger-for-any-two : ForAnyTwo ours → ⊥
+larger-for-any-two = fall-larger .for-any-two
+
+larger-across-ways : AcrossWays ours → ⊥
+larger-across-ways = fall-larger .across-ways
+
+larger-hears-as-many-frames : HearsAsMany ours → ⊥
+larger-hears-as-many-frames = fall-larger .hears-as-many

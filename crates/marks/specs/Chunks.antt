@@ -8,7 +8,7 @@ use Rattle.decoder.specs.Record.{DecoderAnswer, nothing, payload, count, refusa
 use Rattle.decoder.specs.Run.{KnownWay, Op, push}
 use Rattle.decoder.specs.declared.Decoder.{Decoder}
 use Rattle.decoder.specs.declared.Setup.{Setup}
-use Rattle.decoder_slice.specs.Slice.{Took, sliceRecord}
+use Rattle.decoder_slice.specs.Slice.{sliceRecord}
 use Rattle.marks.specs.Decoders.{Machine, LeftBehind, ours, answers, leftBehind}
 
 -- what a push of a slice gave: its answer, how many bytes it took, the decoder and the lent memory as they are then
@@ -74,3 +74,38 @@ Chunks {S} M =
     (C : Setup) (m : List ℕ) → KnownWay (C .way) → length m ≡ C .capacity → C .capacity ≤ limit → (before : List Op)
     → let k : LeftBehind S = leftBehind (M .machine) (M .machine .new C) m before in
     (bytes cuts : List ℕ) → SlicesSay M (k .decoder) (k .memory) bytes cuts (bySlices M (k .decoder) (k .memory) bytes cuts)
+
+-- ---- operations and slices, one after another
+
+-- what a caller does with a decoder, one after another: operations, and pushes of slices
+pub data Use : Type 0 where
+  oneOp : Op → Use
+  slice : List ℕ → Use
+
+-- what is heard: the answer, and how many bytes a slice took
+pub record HeardUse : Type 0 where
+  pub answer : DecoderAnswer
+  pub taken : ℕ
+
+abbrev pub heardUse : DecoderAnswer → ℕ → HeardUse
+heardUse a n = record { answer = a; taken = n }
+
+-- of each use, with the decoder and the memory that the one before left
+unfoldable pub usesSay : {S : Type 0} → Slicer S → S → List ℕ → List Use → List HeardUse
+usesSay M d m [] = []
+usesSay M d m (oneOp o ∷ us) =
+    let a = M .machine .act d m o in
+    heardUse (a .answer) 0 ∷ usesSay M (a .decoder) (a .memory) us
+usesSay M d m (slice chunk ∷ us) =
+    let t = M .pushSlice d m chunk in
+    heardUse (t .answer) (t .taken) ∷ usesSay M (t .decoder) (t .memory) us
+
+-- and what they leave
+unfoldable pub usesLeave : {S : Type 0} → Slicer S → S → List ℕ → List Use → LeftBehind S
+usesLeave M d m [] = record { decoder = d; memory = m }
+usesLeave M d m (oneOp o ∷ us) =
+    let a = M .machine .act d m o in
+    usesLeave M (a .decoder) (a .memory) us
+usesLeave M d m (slice chunk ∷ us) =
+    let t = M .pushSlice d m chunk in
+    usesLeave M (t .decoder) (t .memory) us

@@ -3,6 +3,7 @@ pub mod Mark2
 pub mod Mark3
 pub mod Hides
 pub mod Chunks
+pub mod Larger
 pub mod Second
 pub mod Ways
 pub mod Packed
@@ -13,5 +14,6 @@ pub mod Bench
 pub mod Decided
 pub mod Fakes
 pub mod FakeHosts
+pub mod FakeLarger
 pub mod FakeLibraries
 pub mod Marks

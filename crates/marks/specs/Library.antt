@@ -26,7 +26,8 @@ use Rattle.sartrogheo.specs.Streams.{readerNo, sghEncoderNew, sghEncoderNext, s
 use Rattle.marks.specs.Decoders.{Gave, Machine, ours, LeftBehind}
 use Rattle.marks.specs.Mark2.{PushesBytes, SoundBehind}
 use Rattle.marks.specs.Mark3.{Encode, ourEncode, Job, AllSuit, HeardBehindZeros}
-use Rattle.marks.specs.Chunks.{GaveSlice, Slicer, ourSlicer}
+use Rattle.marks.specs.Chunks.{GaveSlice, Slicer, ourSlicer, Use, oneOp, slice, usesSay, usesLeave}
+use Rattle.marks.specs.Larger.{SlicesTakeNothing}
 use Rattle.marks.specs.Packed.{AreBytes}
 use Rattle.marks.specs.Encoders.{Caller, ourEncoder, callsOf}
 use Rattle.marks.specs.Events.{Reader, Numbers, ourReader, saysAt}
@@ -137,43 +138,11 @@ sliceBy L c k m chunk =
 abbrev pub slicerBy : Library → LentByCaller → Slicer KeptByCaller
 slicerBy L c = record { machine = decoderBy L c; pushSlice = sliceBy L c }
 
--- what a caller does with a decoder, one after another: operations, and pushes of slices
-pub data Use : Type 0 where
-  oneOp : Op → Use
-  slice : List ℕ → Use
-
+-- a push takes u8s
 abbrev pub UsesBytes : List Use → Type 0
 UsesBytes [] = Unit {0}
 UsesBytes (oneOp o ∷ us) = PushesBytes (o ∷ []) × UsesBytes us
 UsesBytes (slice chunk ∷ us) = AreBytes chunk × UsesBytes us
-
--- what is heard: the answer, and how many bytes a slice took
-pub record HeardUse : Type 0 where
-  pub answer : DecoderAnswer
-  pub taken : ℕ
-
-abbrev pub heardUse : DecoderAnswer → ℕ → HeardUse
-heardUse a n = record { answer = a; taken = n }
-
--- of each use, with the decoder and the memory that the one before left
-unfoldable pub usesSay : {S : Type 0} → Slicer S → S → List ℕ → List Use → List HeardUse
-usesSay M d m [] = []
-usesSay M d m (oneOp o ∷ us) =
-    let a = M .machine .act d m o in
-    heardUse (a .answer) 0 ∷ usesSay M (a .decoder) (a .memory) us
-usesSay M d m (slice chunk ∷ us) =
-    let t = M .pushSlice d m chunk in
-    heardUse (t .answer) (t .taken) ∷ usesSay M (t .decoder) (t .memory) us
-
--- and what they leave
-unfoldable pub usesLeave : {S : Type 0} → Slicer S → S → List ℕ → List Use → LeftBehind S
-usesLeave M d m [] = record { decoder = d; memory = m }
-usesLeave M d m (oneOp o ∷ us) =
-    let a = M .machine .act d m o in
-    usesLeave M (a .decoder) (a .memory) us
-usesLeave M d m (slice chunk ∷ us) =
-    let t = M .pushSlice d m chunk in
-    usesLeave M (t .decoder) (t .memory) us
 
 -- how a caller begins: a decoder of either way and of a capacity that is no refusal, in 28 bytes, four values at each call, and a buffer of bytes, of any length
 pub record CallerBegins (C : Setup) (c : LentByCaller) (m : List ℕ) : Type 0 where
@@ -324,9 +293,11 @@ abbrev pub JobsOfBytes : List Job → Type 0
 JobsOfBytes [] = Unit {0}
 JobsOfBytes (j ∷ js) = AreBytes (j .payload) × JobsOfBytes js
 
--- mark 2's soundness, and mark 3 with the library's own encode, both by single pushes. What a slice says is what single pushes say (`HearsDecoder`, and `Chunks` of ours)
+-- mark 2's soundness, and mark 3 with the library's own encode, both by single pushes; what a slice says is what single pushes say (`HearsDecoder`, and `Chunks` of ours). And that a larger buffer takes nothing away, by slices too, whatever each caller lends
 pub record MarksBy (L : Library) : Type 0 where
   pub soundness : (C : Setup) (c : LentByCaller) (m : List ℕ) → CallerBegins C c m
       → (decoderBy L c .payloadOf (decoderBy L c .new C) m ≡ []) × ((os : List Op) (o : Op) → PushesBytes (os ++ o ∷ []) → SoundBehind (decoderBy L c) C m os o)
   pub mark3 : (C : Setup) (c : LentByCaller) (m : List ℕ) → CallerBegins C c m → length m ≡ C .capacity
       → (before : List Op) (j : Job) (js : List Job) → PushesBytes before → JobsOfBytes (j ∷ js) → AllSuit C (j ∷ js) → HeardBehindZeros (decoderBy L c) (encodeBy L) C m before j js
+  pub larger : (C D : Setup) (c c′ : LentByCaller) (m n : List ℕ) → CallerBegins C c m → CallerBegins D c′ n → length m ≡ C .capacity → length n ≡ D .capacity → C .way ≡ D .way → C .capacity ≤ D .capacity
+      → (us : List Use) → UsesBytes us → SlicesTakeNothing (slicerBy L c) (slicerBy L c′) C D m n us

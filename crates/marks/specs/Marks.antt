@@ -21,6 +21,7 @@ use Rattle.marks.specs.Mark2.{Soundness, Completeness, Ready, OurSearch}
 use Rattle.marks.specs.Mark3.{ourEncode, Mark3}
 use Rattle.marks.specs.Hides.{Hides}
 use Rattle.marks.specs.Chunks.{ourSlicer, Chunks}
+use Rattle.marks.specs.Larger.{Larger, LargerBySlices, LargerCutAnyhow}
 use Rattle.marks.specs.Second.{Begins, SearchesAgain, HearsBehindNoise, ourSeeks, ourBegun}
 use Rattle.marks.specs.Ways.{ourWay, KeepsWay, RefusesUnknown}
 use Rattle.marks.specs.Packed.{ourHost, RoundTrip, Exactly, PacksWhatPushes, PacksInOrder, ActsAlike, SlicesAlike, HandsAlike, Serves, LeavesRefused, LeavesTidy, AnswersAlike}
@@ -30,6 +31,7 @@ use Rattle.marks.specs.Library.{Library, ourLibrary, HearsNew, HearsDeco
 use Rattle.marks.specs.Bench.{b5Second, Holds, Bench}
 use Rattle.marks.specs.Fakes.{NotOurs, Fall}
 use Rattle.marks.specs.FakeHosts.{FallHosts}
+use Rattle.marks.specs.FakeLarger.{FallLarger}
 use Rattle.marks.specs.FakeLibraries.{FallLibraries}
 
 pub record Marks : Type 0 where
@@ -62,6 +64,10 @@ pub record Marks : Type 0 where
       Counted C (stateOf (k .decoder) (k .memory)) (sinceFrom [] os (answers ours (ours .new C) m os))
   -- slices, cut anyhow, say what single pushes say
   pub chunks : Chunks ourSlicer
+  -- a larger buffer takes nothing away: of operations, of slices among them, and of bytes that each is given in slices of its own
+  pub larger : Larger ours
+  pub larger-by-slices : LargerBySlices ourSlicer
+  pub larger-cut-anyhow : LargerCutAnyhow ourSlicer
   -- a decoder kept in 28 plain bytes: what is packed comes back, and exactly what packing gives is unpacked; packing answers 4 exactly where a push does, then 5 and 18 in order; each call over the bytes is the call over the record, pushes, finalize and reset also one after another; what is refused changes nothing, and calls leave no unused counts where there were none
   pub round-trips : RoundTrip ourHost
   pub exactly : Exactly ourHost
@@ -85,7 +91,7 @@ pub record Marks : Type 0 where
   pub parser-goes-on : GoesOn ourParser parserWith
   pub reader-lists : ListsEntries ourReader
   pub parser-lists : ListsEntries ourParser
-  -- the library: what a caller hears of its calls is what ours say; so the reader's events are those of the tables. And of every library of which that is so soundness and mark 3 hold
+  -- the library: what a caller hears of its calls is what ours say; so the reader's events are those of the tables. And of every library of which that is so soundness and mark 3 hold, and a larger buffer takes nothing away
   pub library-new : HearsNew ourLibrary
   pub library-decoder : HearsDecoder ourLibrary
   pub library-encode : HearsEncode ourLibrary
@@ -112,4 +118,5 @@ pub record Marks : Type 0 where
   pub not-ours : NotOurs
   pub fall : Fall
   pub fall-hosts : FallHosts
+  pub fall-larger : FallLarger
   pub fall-libraries : FallLibraries

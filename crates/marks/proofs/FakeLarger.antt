@@ -1,0 +1,158 @@
+-- Each fake falls from which a larger buffer takes something away, and so does each claim on larger buffers that is false of ours: one small run, computed.
+use mathlib.Core.Path.{_≡_, refl, ap}
+use mathlib.Core.List.{List, [], _∷_, _++_, map}
+use Prim.Native.Nat.{ℕ, _≤_}
+use native.Mathlib.Omega.{arith}
+use lib.ListN.{length, getD, replicate}
+use Rattle.crc_x25.specs.Crc.{reflect, polynomial, bitStep, bitSteps, byteStep, register, finalXor, crcOf}
+use Rattle.frame.specs.Frame.{startSeq, same}
+use Rattle.search.specs.Search.{greatest, mostMatched}
+use Rattle.decoder.specs.Push.{secondWay, inWay, sized, searching, store, finish, judge, step, resetCount}
+use Rattle.decoder.specs.Record.{nothing, payload, wrote, badDecoder, wrongBuffer, pushed, pushRecord, resetRecord, hasPayload, payloadRecord}
+use Rattle.decoder.specs.Run.{isFirst, push, reset, act}
+use Rattle.decoder_slice.specs.Slice.{pushesFrom, sliceRecord}
+use Rattle.marks.specs.Decoders.{ours, answers, leftBehind}
+use Rattle.marks.specs.Chunks.{NoneEmpty, bySlices, slice, HeardUse, heardUse, usesSay, usesLeave}
+use Rattle.marks.specs.Larger.{beforeFirst, beforeFull, OwnBuffer, newSays, Larger, LargerBySlices, LargerCutAnyhow}
+use Rattle.marks.specs.Bench.{payload1, frame1}
+use Rattle.marks.specs.FakeLarger.{storesLess, handsSmall, countsRoom, hesitates, looksAhead, ForAnyTwo, AcrossWays, withFull, FullAnswerToo, payloadsAmong, HearsAsMany, FallLarger}
+use Rattle.marks.proofs.Fakes.{answerCode, codeAt}
+
+abbrev zeroed : ℕ → List ℕ
+zeroed n = replicate n 0x00
+
+-- a buffer for seven, eight, nine or sixteen bytes
+own7 : OwnBuffer (sized 7) (zeroed 7)
+own7 = record { long = refl; small = omega arith }
+
+own8 : OwnBuffer (sized 8) (zeroed 8)
+own8 = record { long = refl; small = omega arith }
+
+own9 : OwnBuffer (sized 9) (zeroed 9)
+own9 = record { long = refl; small = omega arith }
+
+own16 : OwnBuffer (sized 16) (zeroed 16)
+own16 = record { long = refl; small = omega arith }
+
+seven-say : beforeFull (newSays ours (sized 7) (zeroed 7) (map push frame1)) ≡ replicate 19 nothing
+unfolding answers beforeFirst reflect polynomial bitStep bitSteps byteStep register finalXor crcOf searching store same finish judge step wrote badDecoder wrongBuffer pushed pushRecord act
+seven-say = refl
+
+eight-say : beforeFull (newSays ours (sized 8) (zeroed 8) (map push frame1)) ≡ replicate 19 nothing ++ payload payload1 ∷ []
+unfolding answers beforeFirst reflect polynomial bitStep bitSteps byteStep register finalXor crcOf searching store same finish judge step wrote badDecoder wrongBuffer pushed pushRecord act
+eight-say = refl
+
+-- a start and nine bytes of data
+nineBytes : List ℕ
+nineBytes = startSeq ++ (0x01 ∷ 0x02 ∷ 0x03 ∷ 0x04 ∷ 0x05 ∷ 0x06 ∷ 0x07 ∷ 0x08 ∷ 0x09 ∷ [])
+
+-- ---- fakes
+
+-- B1's frame: with eight bytes its payload is the twentieth answer, with nine that is OutOfMemory
+stores-less : Larger (storesLess .machine) → ⊥
+unfolding answers beforeFirst reflect polynomial bitStep bitSteps byteStep register finalXor crcOf searching store same finish judge step wrote badDecoder wrongBuffer pushed pushRecord act
+stores-less h =
+    let z : _≡_ {A = ℕ} 19 20 = ap length (h (sized 8) (sized 9) (zeroed 8) (zeroed 9) own8 own9 refl (omega arith) (map push frame1) .says) in
+    omega arith
+
+stores-less-slices : LargerBySlices storesLess → ⊥
+unfolding usesSay pushesFrom sliceRecord beforeFirst reflect polynomial bitStep bitSteps byteStep register finalXor crcOf searching store same finish judge step wrote badDecoder wrongBuffer pushed pushRecord act
+stores-less-slices h =
+    let z : _≡_ {A = ℕ} 0 1 = ap length (h (sized 8) (sized 9) (zeroed 8) (zeroed 9) own8 own9 refl (omega arith) (slice frame1 ∷ []) .says) in
+    omega arith
+
+ones-take : NoneEmpty (replicate 20 1)
+ones-take = (omega arith, (omega arith, (omega arith, (omega arith, (omega arith, (omega arith, (omega arith, (omega arith, (omega arith, (omega arith, (omega arith, (omega arith, (omega arith, (omega arith, (omega arith, (omega arith, (omega arith, (omega arith, (omega arith, (omega arith, tt))))))))))))))))))))
+
+stores-less-cut : LargerCutAnyhow storesLess → ⊥
+unfolding answers leftBehind bySlices pushesFrom sliceRecord beforeFirst reflect polynomial bitStep bitSteps byteStep register finalXor crcOf searching store same finish judge step wrote badDecoder wrongBuffer pushed pushRecord act
+stores-less-cut h =
+    let enough : NoneEmpty (replicate 20 1) × (20 ≤ 20) = (ones-take, omega arith) in
+    let z : _≡_ {A = ℕ} 19 20 = ap length (h (sized 8) (sized 9) (zeroed 8) (zeroed 9) own8 own9 (isFirst refl) refl (omega arith) [] frame1 (replicate 20 1) (replicate 20 1) enough enough) in
+    omega arith
+
+-- behind B1's frame
+hands-small : Larger (handsSmall .machine) → ⊥
+unfolding answers leftBehind beforeFirst reflect polynomial bitStep bitSteps byteStep register finalXor crcOf searching store same finish judge step wrote badDecoder wrongBuffer pushed pushRecord act hasPayload payloadRecord
+hands-small h =
+    let z : _≡_ {A = ℕ} 0 4 = ap length (h (sized 8) (sized 9) (zeroed 8) (zeroed 9) own8 own9 refl (omega arith) (map push frame1) .hands refl) in
+    omega arith
+
+hands-small-slices : LargerBySlices handsSmall → ⊥
+unfolding usesSay usesLeave pushesFrom sliceRecord beforeFirst reflect polynomial bitStep bitSteps byteStep register finalXor crcOf searching store same finish judge step wrote badDecoder wrongBuffer pushed pushRecord hasPayload payloadRecord
+hands-small-slices h =
+    let z : _≡_ {A = ℕ} 0 4 = ap length (h (sized 8) (sized 9) (zeroed 8) (zeroed 9) own8 own9 refl (omega arith) (slice frame1 ∷ []) .hands refl) in
+    omega arith
+
+-- a reset of new decoders
+counts-room : Larger countsRoom → ⊥
+unfolding codeAt answerCode answers beforeFirst act resetRecord resetCount
+counts-room h =
+    let z : _≡_ {A = ℕ} 2009 2008 = ap (codeAt 0) (h (sized 8) (sized 9) (zeroed 8) (zeroed 9) own8 own9 refl (omega arith) (reset ∷ []) .says) in
+    omega arith
+
+-- of a slice of two bytes
+hesitates-slices : LargerBySlices hesitates → ⊥
+unfolding usesSay pushesFrom sliceRecord beforeFirst searching same step wrote badDecoder wrongBuffer pushed pushRecord
+hesitates-slices h =
+    let z : _≡_ {A = ℕ} 1 2 = ap (λ (l : List HeardUse). getD l 0 (heardUse nothing 0) .taken) (h (sized 8) (sized 9) (zeroed 8) (zeroed 9) own8 own9 refl (omega arith) (slice (0x00 ∷ 0x00 ∷ []) ∷ []) .says) in
+    omega arith
+
+-- a start and nine bytes in one slice: with eight bytes of room the last is OutOfMemory
+looks-ahead-slices : LargerBySlices looksAhead → ⊥
+unfolding nineBytes usesSay pushesFrom sliceRecord beforeFirst reflect polynomial bitStep bitSteps byteStep register searching store same finish judge step wrote badDecoder wrongBuffer pushed pushRecord
+looks-ahead-slices h =
+    let z : 17 ≤ 1 = h (sized 8) (sized 9) (zeroed 8) (zeroed 9) own8 own9 refl (omega arith) (slice nineBytes ∷ []) .takes in
+    omega arith
+
+-- ---- claims
+
+for-any-two : ForAnyTwo ours → ⊥
+unfolding answers beforeFirst reflect polynomial bitStep bitSteps byteStep register finalXor crcOf searching store same finish judge step wrote badDecoder wrongBuffer pushed pushRecord act
+for-any-two h =
+    let z : _≡_ {A = ℕ} 19 20 = ap length (h (sized 8) (sized 7) (zeroed 8) (zeroed 7) own8 own7 refl (map push frame1) .says) in
+    omega arith
+
+-- a stray 1b before B1's frame: in the second way its ninth byte tells it
+across-ways : AcrossWays ours → ⊥
+unfolding codeAt answerCode answers beforeFirst reflect polynomial bitStep bitSteps byteStep register finalXor crcOf mostMatched greatest searching store same finish judge step wrote badDecoder wrongBuffer pushed pushRecord act
+across-ways h =
+    let own : OwnBuffer (inWay secondWay 8) (zeroed 8) = record { long = refl; small = omega arith } in
+    let z : _≡_ {A = ℕ} 3001 0 = ap (codeAt 8) (h (sized 8) (inWay secondWay 8) (zeroed 8) (zeroed 8) own8 own (omega arith) (map push (0x1b ∷ frame1)) .says) in
+    omega arith
+
+-- at B1's last byte the smaller one is full, the larger one has the payload
+full-answer-too : FullAnswerToo ours → ⊥
+unfolding codeAt answerCode answers withFull reflect polynomial bitStep bitSteps byteStep register finalXor crcOf searching store same finish judge step wrote badDecoder wrongBuffer pushed pushRecord act
+full-answer-too h =
+    let z : _≡_ {A = ℕ} 1018 3000 = ap (codeAt 19) (h (sized 7) (sized 8) (zeroed 7) (zeroed 8) own7 own8 refl (omega arith) (map push frame1)) in
+    omega arith
+
+-- the nine bytes, an escape and 1a00, which with B1's first two bytes are an end to the larger one; the smaller one was full at the ninth and searches
+cutBefore : List ℕ
+cutBefore = nineBytes ++ (0x1b ∷ 0x1b ∷ 0x1b ∷ 0x1b ∷ 0x1a ∷ 0x00 ∷ frame1)
+
+hears-as-many : HearsAsMany ours → ⊥
+unfolding nineBytes cutBefore payloadsAmong answers reflect polynomial bitStep bitSteps byteStep register finalXor crcOf searching store same finish judge step wrote badDecoder wrongBuffer pushed pushRecord act
+hears-as-many h =
+    let z : 1 ≤ 0 = h (sized 8) (sized 16) (zeroed 8) (zeroed 16) own8 own16 refl (omega arith) (map push cutBefore) in
+    omega arith
+
+pub fall-larger : FallLarger
+fall-larger =
+    record {
+      seven-say = seven-say;
+      eight-say = eight-say;
+      stores-less = stores-less;
+      stores-less-slices = stores-less-slices;
+      stores-less-cut = stores-less-cut;
+      hands-small = hands-small;
+      hands-small-slices = hands-small-slices;
+      counts-room = counts-room;
+      hesitates-slices = hesitates-slices;
+      looks-ahead-slices = looks-ahead-slices;
+      for-any-two = for-any-two;
+      across-ways = across-ways;
+      full-answer-too = full-answer-too;
+      hears-as-many = hears-as-many;
+    }

@@ -1,0 +1,125 @@
+-- check: fakes from which a larger buffer takes something away, and claims on larger buffers that are false of ours.
+use mathlib.Core.Path.{_≡_}
+use mathlib.Core.Bool.{cond}
+use mathlib.Core.List.{List, [], _∷_, _++_, map}
+use Prim.Native.Nat.{ℕ, suc, _+_, _≤_}
+use lib.ListN.{length, take, drop, replicate}
+use lib.Dec.{ltb}
+use Rattle.refusals.specs.Numbers.{decoderOutOfMemoryNo}
+use Rattle.decoder.specs.Push.{sized, inWay}
+use Rattle.decoder.specs.Record.{DecoderAnswer, nothing, payload, count, refusal}
+use Rattle.decoder.specs.Run.{Op, push}
+use Rattle.decoder.specs.declared.Decoder.{Decoder}
+use Rattle.decoder.specs.declared.Setup.{Setup}
+use Rattle.marks.specs.Decoders.{Machine, ours}
+use Rattle.marks.specs.Chunks.{GaveSlice, Slicer, ourSlicer}
+use Rattle.marks.specs.Larger.{isFull, beforeFull, BeginsWith, OwnBuffer, newSays, TakesNothing, Larger, LargerBySlices, LargerCutAnyhow}
+use Rattle.marks.specs.Bench.{frame1}
+
+-- ---- fakes
+
+-- of a buffer of more than eight bytes seven are used, one less than of a buffer of eight
+abbrev pub usedOf : ℕ → ℕ
+usedOf n = cond (ltb 8 n) 7 n
+
+-- the larger buffer stores one byte less; the bytes of the buffer behind those that are used stay
+abbrev pub storesLess : Slicer Decoder
+storesLess =
+    record {
+      machine = record {
+        new = λ C. ours .new (inWay (C .way) (usedOf (C .capacity)));
+        act = λ d m o.
+            let a = ours .act d (take (d .capacity) m) o in
+            record { answer = a .answer; decoder = a .decoder; memory = a .memory ++ drop (d .capacity) m };
+        payloadOf = λ d m. ours .payloadOf d (take (d .capacity) m);
+      };
+      pushSlice = λ d m bytes.
+          let t = ourSlicer .pushSlice d (take (d .capacity) m) bytes in
+          record { answer = t .answer; taken = t .taken; decoder = t .decoder; memory = t .memory ++ drop (d .capacity) m };
+    }
+
+-- ours, but of a buffer of more than eight bytes no payload is handed back
+abbrev pub handsSmall : Slicer Decoder
+handsSmall =
+    record {
+      machine = record { new = ours .new; act = ours .act; payloadOf = λ d m. cond (ltb 8 (d .capacity)) [] (ours .payloadOf d m) };
+      pushSlice = ourSlicer .pushSlice;
+    }
+
+-- what it answers: reset's number with n more
+abbrev pub countedUp : ℕ → DecoderAnswer → DecoderAnswer
+countedUp n nothing = nothing
+countedUp n (payload bytes) = payload bytes
+countedUp n (count k) = count (n + k)
+countedUp n (refusal k values) = refusal k values
+
+-- ours, but reset counts the buffer's bytes, too
+abbrev pub countsRoom : Machine Decoder
+countsRoom =
+    record {
+      new = ours .new;
+      act = λ d m o.
+          let a = ours .act d m o in
+          record { answer = countedUp (length m) (a .answer); decoder = a .decoder; memory = a .memory };
+      payloadOf = ours .payloadOf;
+    }
+
+-- ours, but with a buffer of more than eight bytes it takes one byte of a slice
+abbrev pub hesitates : Slicer Decoder
+hesitates = record { machine = ours; pushSlice = λ d m bytes. ourSlicer .pushSlice d m (cond (ltb 8 (d .capacity)) (take 1 bytes) bytes) }
+
+-- what it gives of a slice: where it would leave more than eight bytes stored, OutOfMemory at its first byte
+abbrev pub aheadRefused : GaveSlice Decoder → Decoder → List ℕ → GaveSlice Decoder
+aheadRefused t d m = cond (ltb 8 (t .decoder .fill)) (record { answer = refusal decoderOutOfMemoryNo []; taken = 1; decoder = d; memory = m }) t
+
+-- ours, but it looks at a slice before it takes it
+abbrev pub looksAhead : Slicer Decoder
+looksAhead = record { machine = ours; pushSlice = λ d m bytes. aheadRefused (ourSlicer .pushSlice d m bytes) d m }
+
+-- ---- what is not claimed
+
+-- of any two capacities
+abbrev pub ForAnyTwo : {S : Type 0} → Machine S → Type 0
+ForAnyTwo M = (C D : Setup) (m n : List ℕ) → OwnBuffer C m → OwnBuffer D n → C .way ≡ D .way → (os : List Op) → TakesNothing M C D m n os
+
+-- of two ways of searching
+abbrev pub AcrossWays : {S : Type 0} → Machine S → Type 0
+AcrossWays M = (C D : Setup) (m n : List ℕ) → OwnBuffer C m → OwnBuffer D n → C .capacity ≤ D .capacity → (os : List Op) → TakesNothing M C D m n os
+
+-- the answers up to the first OutOfMemory, and with it
+unfoldable pub withFull : List DecoderAnswer → List DecoderAnswer
+withFull [] = []
+withFull (a ∷ more) = a ∷ cond (isFull a) [] (withFull more)
+
+-- that answer is the same, too
+abbrev pub FullAnswerToo : {S : Type 0} → Machine S → Type 0
+FullAnswerToo M = (C D : Setup) (m n : List ℕ) → OwnBuffer C m → OwnBuffer D n → C .way ≡ D .way → C .capacity ≤ D .capacity → (os : List Op) → BeginsWith (newSays M D n os) (withFull (newSays M C m os))
+
+-- how many payloads there are among the answers
+unfoldable pub payloadsAmong : List DecoderAnswer → ℕ
+payloadsAmong [] = 0
+payloadsAmong (nothing ∷ more) = payloadsAmong more
+payloadsAmong (payload bytes ∷ more) = suc (payloadsAmong more)
+payloadsAmong (count k ∷ more) = payloadsAmong more
+payloadsAmong (refusal k values ∷ more) = payloadsAmong more
+
+-- the larger one hears as many frames, also behind the smaller one's first OutOfMemory
+abbrev pub HearsAsMany : {S : Type 0} → Machine S → Type 0
+HearsAsMany M = (C D : Setup) (m n : List ℕ) → OwnBuffer C m → OwnBuffer D n → C .way ≡ D .way → C .capacity ≤ D .capacity → (os : List Op) → payloadsAmong (newSays M C m os) ≤ payloadsAmong (newSays M D n os)
+
+-- each of the fakes falls, and each of these claims is false of ours. B1's frame with seven bytes of room: nothing before its last byte, which is OutOfMemory; with eight, its payload there
+pub record FallLarger : Type 0 where
+  pub seven-say : beforeFull (newSays ours (sized 7) (replicate 7 0x00) (map push frame1)) ≡ replicate 19 nothing
+  pub eight-say : beforeFull (newSays ours (sized 8) (replicate 8 0x00) (map push frame1)) ≡ replicate 19 nothing ++ payload (0x12 ∷ 0x34 ∷ 0x56 ∷ 0x78 ∷ []) ∷ []
+  pub stores-less : Larger (storesLess .machine) → ⊥
+  pub stores-less-slices : LargerBySlices storesLess → ⊥
+  pub stores-less-cut : LargerCutAnyhow storesLess → ⊥
+  pub hands-small : Larger (handsSmall .machine) → ⊥
+  pub hands-small-slices : LargerBySlices handsSmall → ⊥
+  pub counts-room : Larger countsRoom → ⊥
+  pub hesitates-slices : LargerBySlices hesitates → ⊥
+  pub looks-ahead-slices : LargerBySlices looksAhead → ⊥
+  pub for-any-two : ForAnyTwo ours → ⊥
+  pub across-ways : AcrossWays ours → ⊥
+  pub full-answer-too : FullAnswerToo ours → ⊥
+  pub hears-as-many : HearsAsMany ours → ⊥
