@@ -30,7 +30,7 @@ module _ (d : Decoder) (m bs : List ℕ) where
 
 -- ---- how many bytes are taken
 
-taken-from : (bs : List ℕ) (n : ℕ) (d : Decoder) (m : List ℕ) → (n ≤ pushesFrom n d m bs .taken) × (pushesFrom n d m bs .taken ≤ n + length bs)
+pub taken-from : (bs : List ℕ) (n : ℕ) (d : Decoder) (m : List ℕ) → (n ≤ pushesFrom n d m bs .taken) × (pushesFrom n d m bs .taken ≤ n + length bs)
 unfolding pushesFrom
 taken-from [] n d m = (omega arith, omega arith)
 taken-from (b ∷ bs) n d m =

@@ -1,6 +1,6 @@
 -- Slices, cut anyhow, say what single pushes say.
 use mathlib.Core.Path.{_≡_, refl, ap, sym, _∙_}
-use mathlib.Core.List.{List, [], _∷_, _++_, append-assoc, map, map-append}
+use mathlib.Core.List.{List, [], _∷_, _++_, append-assoc, map}
 use Prim.Native.Nat.{ℕ, zero, suc, _+_, _-_, _≤_, _<_}
 use native.Mathlib.Omega.{arith}
 use native.Mathlib.Nat.{sub-zero}
@@ -17,6 +17,7 @@ use Rattle.decoder_slice.specs.Slice.{Took, saysNothing, pushesFrom, sliceRecor
 use Rattle.decoder_slice.proofs.Taken.{slice-pushes, taken-le, is-nothing}
 use Rattle.marks.specs.Decoders.{Machine, LeftBehind, ours, answers, leftBehind}
 use Rattle.marks.specs.Chunks.{ourSlicer, eachByte, bySlices, SlicesSay, Chunks}
+use Rattle.marks.proofs.Recovery.{map-push}
 use Rattle.marks.proofs.Hides.{kept-is}
 
 abbrev heardOf : Decoder → List ℕ → List ℕ → List DecoderAnswer
@@ -28,19 +29,19 @@ keptOf d m bytes = leftBehind ours d m (map push bytes)
 -- ---- one slice
 
 -- n bytes were taken before: those that it takes are heard one by one, and it leaves what they leave
-pub record SliceGoes (n : ℕ) (d : Decoder) (m bs : List ℕ) (t : Took) : Type 0 where
-  pub fit : Fit (t .decoder) (t .memory)
-  pub hears : eachByte (t .taken - n) (t .answer) ≡ heardOf d m (take (t .taken - n) bs)
-  pub keeps : record { decoder = t .decoder; memory = t .memory } ≡ keptOf d m (take (t .taken - n) bs)
-  pub least : n ≤ t .taken
-  pub some : 1 ≤ length bs → n < t .taken
-  pub quiet : t .taken ≡ n → t .answer ≡ nothing
+record SliceGoes (n : ℕ) (d : Decoder) (m bs : List ℕ) (t : Took) : Type 0 where
+  fit : Fit (t .decoder) (t .memory)
+  hears : eachByte (t .taken - n) (t .answer) ≡ heardOf d m (take (t .taken - n) bs)
+  keeps : record { decoder = t .decoder; memory = t .memory } ≡ keptOf d m (take (t .taken - n) bs)
+  least : n ≤ t .taken
+  some : 1 ≤ length bs → n < t .taken
+  quiet : t .taken ≡ n → t .answer ≡ nothing
 
 each-more : (k : ℕ) (a : DecoderAnswer) → (k ≡ 0 → a ≡ nothing) → eachByte (suc k) a ≡ nothing ∷ eachByte k a
 each-more zero a h = rw (h refl)
 each-more (suc k) a h = refl
 
-pub goes-from : (bs : List ℕ) (n : ℕ) (d : Decoder) (m : List ℕ) → Fit d m → SliceGoes n d m bs (pushesFrom n d m bs)
+goes-from : (bs : List ℕ) (n : ℕ) (d : Decoder) (m : List ℕ) → Fit d m → SliceGoes n d m bs (pushesFrom n d m bs)
 unfolding pushesFrom answers leftBehind act
 goes-from [] n d m f =
     let z : n - n ≡ 0 = omega arith in
@@ -104,7 +105,7 @@ module _ {S : Type 0} (M : Machine S) where
   answers-join [] b d m = refl
   answers-join (o ∷ a) b d m = ap (λ (l : List DecoderAnswer). M .act d m o .answer ∷ l) (answers-join a b (M .act d m o .decoder) (M .act d m o .memory))
 
-  left-join : (a b : List Op) (d : S) (m : List ℕ) → leftBehind M d m (a ++ b) ≡ leftBehind M (leftBehind M d m a .decoder) (leftBehind M d m a .memory) b
+  pub left-join : (a b : List Op) (d : S) (m : List ℕ) → leftBehind M d m (a ++ b) ≡ leftBehind M (leftBehind M d m a .decoder) (leftBehind M d m a .memory) b
   unfolding leftBehind
   left-join [] b d m = refl
   left-join (o ∷ a) b d m = left-join a b (M .act d m o .decoder) (M .act d m o .memory)
@@ -128,8 +129,8 @@ slices-say (n ∷ cuts) d m bytes f =
       same-answers = ap (λ (l : List DecoderAnswer). eachByte (t .taken) (t .answer) ++ l) (i .same-answers)
           ∙ ap (λ (l : List DecoderAnswer). l ++ heardOf (t .decoder) (t .memory) b) (p .hears)
           ∙ ap (λ (k : LeftBehind Decoder). heardOf d m a ++ heardOf (k .decoder) (k .memory) b) (p .keeps)
-          ∙ sym (answers-join ours (map push a) (map push b) d m) ∙ ap (answers ours d m) (sym (map-append push a b));
-      same-kept = i .same-kept ∙ ap (λ (k : LeftBehind Decoder). keptOf (k .decoder) (k .memory) b) (p .keeps) ∙ sym (left-join ours (map push a) (map push b) d m) ∙ ap (leftBehind ours d m) (sym (map-append push a b));
+          ∙ sym (answers-join ours (map push a) (map push b) d m) ∙ ap (answers ours d m) (sym (map-push a b));
+      same-kept = i .same-kept ∙ ap (λ (k : LeftBehind Decoder). keptOf (k .decoder) (k .memory) b) (p .keeps) ∙ sym (left-join ours (map push a) (map push b) d m) ∙ ap (leftBehind ours d m) (sym (map-push a b));
       all-taken = λ none le. i .all-taken (none .1) (let s = p .shorter (none .0) in omega (arith, s, le));
     }
 

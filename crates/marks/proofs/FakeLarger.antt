@@ -1,38 +1,39 @@
 -- Each fake falls from which a larger buffer takes something away, and so does each claim on larger buffers that is false of ours: one small run, computed.
-use mathlib.Core.Path.{_≡_, refl, ap}
+use mathlib.Core.Path.{_≡_, refl, ap, sym, _∙_}
 use mathlib.Core.List.{List, [], _∷_, _++_, map}
 use Prim.Native.Nat.{ℕ, _≤_}
 use native.Mathlib.Omega.{arith}
-use lib.ListN.{length, getD, replicate}
+use lib.ListN.{length, getD, replicate, length-replicate}
 use Rattle.crc_x25.specs.Crc.{reflect, polynomial, bitStep, bitSteps, byteStep, register, finalXor, crcOf}
 use Rattle.frame.specs.Frame.{startSeq, same}
 use Rattle.search.specs.Search.{greatest, mostMatched}
-use Rattle.decoder.specs.Push.{secondWay, inWay, sized, searching, store, finish, judge, step, resetCount}
-use Rattle.decoder.specs.Record.{nothing, payload, wrote, badDecoder, wrongBuffer, pushed, pushRecord, resetRecord, hasPayload, payloadRecord}
-use Rattle.decoder.specs.Run.{isFirst, push, reset, act}
+use Rattle.decoder.specs.Push.{secondWay, inWay, sized, searching, store, finish, judge, step, finalized, resetCount}
+use Rattle.decoder.specs.Record.{nothing, payload, wrote, badDecoder, wrongBuffer, pushed, pushRecord, finalizeRecord, resetRecord, hasPayload, payloadRecord, askRecord}
+use Rattle.decoder.specs.Run.{isFirst, push, finalize, reset, act}
+use Rattle.decoder.specs.declared.Setup.{Setup}
 use Rattle.decoder_slice.specs.Slice.{pushesFrom, sliceRecord}
 use Rattle.marks.specs.Decoders.{ours, answers, leftBehind}
-use Rattle.marks.specs.Chunks.{NoneEmpty, bySlices, slice, HeardUse, heardUse, usesSay, usesLeave}
-use Rattle.marks.specs.Larger.{beforeFirst, beforeFull, OwnBuffer, newSays, Larger, LargerBySlices, LargerCutAnyhow}
+use Rattle.marks.specs.Chunks.{ourSlicer, bySlices, slice, HeardUse, heardUse, usesSay, usesLeave}
+use Rattle.marks.specs.Larger.{beforeFirst, beforeFull, OwnBuffer, newSays, Larger, LargerBySlices, LargerAsked, cutSays, LargerCutAnyhow}
 use Rattle.marks.specs.Bench.{payload1, frame1}
-use Rattle.marks.specs.FakeLarger.{storesLess, handsSmall, countsRoom, hesitates, looksAhead, ForAnyTwo, AcrossWays, withFull, FullAnswerToo, payloadsAmong, HearsAsMany, FallLarger}
+use Rattle.marks.specs.FakeLarger.{storesLess, secondStoresLess, largerHandsNothing, handsTheBuffer, countsRoom, hesitates, looksAhead, deniesLarger, ForAnyTwo, AcrossWays, withFull, FullAnswerToo, payloadsAmong, HearsAsMany, FallLarger}
+use Rattle.marks.specs.Fakes.{lastOf, swallows}
 use Rattle.marks.proofs.Fakes.{answerCode, codeAt}
 
 abbrev zeroed : ℕ → List ℕ
 zeroed n = replicate n 0x00
 
--- a buffer for seven, eight, nine or sixteen bytes
-own7 : OwnBuffer (sized 7) (zeroed 7)
-own7 = record { long = refl; small = omega arith }
+own : (C : Setup) → C .capacity ≤ 1048576 → OwnBuffer C (zeroed (C .capacity))
+own C le = record { long = length-replicate (C .capacity) 0x00; within = le }
 
-own8 : OwnBuffer (sized 8) (zeroed 8)
-own8 = record { long = refl; small = omega arith }
+abbrev own7 : OwnBuffer (sized 7) (zeroed 7)
+own7 = own (sized 7) (omega arith)
 
-own9 : OwnBuffer (sized 9) (zeroed 9)
-own9 = record { long = refl; small = omega arith }
+abbrev own8 : OwnBuffer (sized 8) (zeroed 8)
+own8 = own (sized 8) (omega arith)
 
-own16 : OwnBuffer (sized 16) (zeroed 16)
-own16 = record { long = refl; small = omega arith }
+abbrev own9 : OwnBuffer (sized 9) (zeroed 9)
+own9 = own (sized 9) (omega arith)
 
 seven-say : beforeFull (newSays ours (sized 7) (zeroed 7) (map push frame1)) ≡ replicate 19 nothing
 unfolding answers beforeFirst reflect polynomial bitStep bitSteps byteStep register finalXor crcOf searching store same finish judge step wrote badDecoder wrongBuffer pushed pushRecord act
@@ -61,34 +62,64 @@ stores-less-slices h =
     let z : _≡_ {A = ℕ} 0 1 = ap length (h (sized 8) (sized 9) (zeroed 8) (zeroed 9) own8 own9 refl (omega arith) (slice frame1 ∷ []) .says) in
     omega arith
 
-ones-take : NoneEmpty (replicate 20 1)
-ones-take = (omega arith, (omega arith, (omega arith, (omega arith, (omega arith, (omega arith, (omega arith, (omega arith, (omega arith, (omega arith, (omega arith, (omega arith, (omega arith, (omega arith, (omega arith, (omega arith, (omega arith, (omega arith, (omega arith, (omega arith, tt))))))))))))))))))))
-
 stores-less-cut : LargerCutAnyhow storesLess → ⊥
 unfolding answers leftBehind bySlices pushesFrom sliceRecord beforeFirst reflect polynomial bitStep bitSteps byteStep register finalXor crcOf searching store same finish judge step wrote badDecoder wrongBuffer pushed pushRecord act
 stores-less-cut h =
-    let enough : NoneEmpty (replicate 20 1) × (20 ≤ 20) = (ones-take, omega arith) in
-    let z : _≡_ {A = ℕ} 19 20 = ap length (h (sized 8) (sized 9) (zeroed 8) (zeroed 9) own8 own9 (isFirst refl) refl (omega arith) [] frame1 (replicate 20 1) (replicate 20 1) enough enough) in
+    let z : _≡_ {A = ℕ} 19 20 = ap length (h (sized 8) (sized 9) (zeroed 8) (zeroed 9) own8 own9 (isFirst refl) refl (omega arith) [] frame1 (20 ∷ []) (8 ∷ 12 ∷ []) refl refl .says) in
+    omega arith
+
+second-stores-less : Larger secondStoresLess → ⊥
+unfolding answers beforeFirst reflect polynomial bitStep bitSteps byteStep register finalXor crcOf mostMatched greatest searching store same finish judge step wrote badDecoder wrongBuffer pushed pushRecord act
+second-stores-less h =
+    let z : _≡_ {A = ℕ} 19 20 = ap length (h (inWay secondWay 8) (inWay secondWay 9) (zeroed 8) (zeroed 9) (own (inWay secondWay 8) (omega arith)) (own (inWay secondWay 9) (omega arith)) refl (omega arith) (map push frame1) .says) in
     omega arith
 
 -- behind B1's frame
-hands-small : Larger (handsSmall .machine) → ⊥
+larger-hands-nothing : Larger (largerHandsNothing .machine) → ⊥
 unfolding answers leftBehind beforeFirst reflect polynomial bitStep bitSteps byteStep register finalXor crcOf searching store same finish judge step wrote badDecoder wrongBuffer pushed pushRecord act hasPayload payloadRecord
-hands-small h =
+larger-hands-nothing h =
     let z : _≡_ {A = ℕ} 0 4 = ap length (h (sized 8) (sized 9) (zeroed 8) (zeroed 9) own8 own9 refl (omega arith) (map push frame1) .hands refl) in
     omega arith
 
-hands-small-slices : LargerBySlices handsSmall → ⊥
+larger-hands-nothing-slices : LargerBySlices largerHandsNothing → ⊥
 unfolding usesSay usesLeave pushesFrom sliceRecord beforeFirst reflect polynomial bitStep bitSteps byteStep register finalXor crcOf searching store same finish judge step wrote badDecoder wrongBuffer pushed pushRecord hasPayload payloadRecord
-hands-small-slices h =
+larger-hands-nothing-slices h =
     let z : _≡_ {A = ℕ} 0 4 = ap length (h (sized 8) (sized 9) (zeroed 8) (zeroed 9) own8 own9 refl (omega arith) (slice frame1 ∷ []) .hands refl) in
     omega arith
 
--- a reset of new decoders
-counts-room : Larger countsRoom → ⊥
+larger-hands-nothing-cut : LargerCutAnyhow largerHandsNothing → ⊥
+unfolding answers leftBehind bySlices pushesFrom sliceRecord beforeFirst reflect polynomial bitStep bitSteps byteStep register finalXor crcOf searching store same finish judge step wrote badDecoder wrongBuffer pushed pushRecord hasPayload payloadRecord
+larger-hands-nothing-cut h =
+    let e : cutSays largerHandsNothing (sized 8) (zeroed 8) [] frame1 (20 ∷ []) ≡ replicate 19 nothing ++ payload payload1 ∷ [] = refl in
+    let none : beforeFull (replicate 19 nothing ++ payload payload1 ∷ []) ≡ replicate 19 nothing ++ payload payload1 ∷ [] = refl in
+    let z : _≡_ {A = ℕ} 0 4 = ap length (h (sized 8) (sized 9) (zeroed 8) (zeroed 9) own8 own9 (isFirst refl) refl (omega arith) [] frame1 (20 ∷ []) (8 ∷ 12 ∷ []) refl refl .hands (ap beforeFull e ∙ none ∙ sym e)) in
+    omega arith
+
+denies-larger : LargerAsked ourSlicer deniesLarger → ⊥
+unfolding answerCode usesSay usesLeave pushesFrom sliceRecord beforeFirst reflect polynomial bitStep bitSteps byteStep register finalXor crcOf searching store same finish judge step wrote badDecoder wrongBuffer pushed pushRecord hasPayload askRecord
+denies-larger h =
+    let z : _≡_ {A = ℕ} 3000 0 = ap answerCode (h (sized 8) (sized 9) (zeroed 8) (zeroed 9) own8 own9 refl (omega arith) (slice frame1 ∷ []) refl) in
+    omega arith
+
+-- of two new decoders of eight bytes that stand in different buffers
+hands-the-buffer : Larger handsTheBuffer → ⊥
+unfolding answers leftBehind beforeFirst badDecoder wrongBuffer hasPayload
+hands-the-buffer h =
+    let other : OwnBuffer (sized 8) (replicate 8 0x2a) = record { long = refl; within = omega arith } in
+    let z : _≡_ {A = ℕ} 0x2a 0x00 = ap (λ (l : List ℕ). getD l 0 0) (h (sized 8) (sized 8) (zeroed 8) (replicate 8 0x2a) own8 other refl (omega arith) [] .hands refl) in
+    omega arith
+
+-- a reset of new decoders, and finalize behind a zero byte
+counts-room-reset : Larger countsRoom → ⊥
 unfolding codeAt answerCode answers beforeFirst act resetRecord resetCount
-counts-room h =
+counts-room-reset h =
     let z : _≡_ {A = ℕ} 2009 2008 = ap (codeAt 0) (h (sized 8) (sized 9) (zeroed 8) (zeroed 9) own8 own9 refl (omega arith) (reset ∷ []) .says) in
+    omega arith
+
+counts-room-finalize : Larger countsRoom → ⊥
+unfolding codeAt answerCode answers beforeFirst searching same step finalized wrote badDecoder wrongBuffer pushed pushRecord finalizeRecord act
+counts-room-finalize h =
+    let z : _≡_ {A = ℕ} 3010 3009 = ap (codeAt 1) (h (sized 8) (sized 9) (zeroed 8) (zeroed 9) own8 own9 refl (omega arith) (push 0x00 ∷ finalize ∷ []) .says) in
     omega arith
 
 -- of a slice of two bytes
@@ -105,6 +136,13 @@ looks-ahead-slices h =
     let z : 17 ≤ 1 = h (sized 8) (sized 9) (zeroed 8) (zeroed 9) own8 own9 refl (omega arith) (slice nineBytes ∷ []) .takes in
     omega arith
 
+-- B1's frame and a byte, of two decoders of eight bytes: by single bytes the payload is the twentieth answer, in one slice it is not heard
+swallows-cut : LargerCutAnyhow swallows → ⊥
+unfolding codeAt answerCode answers leftBehind bySlices lastOf beforeFirst reflect polynomial bitStep bitSteps byteStep register finalXor crcOf searching store same finish judge step wrote badDecoder wrongBuffer pushed pushRecord act
+swallows-cut h =
+    let z : _≡_ {A = ℕ} 0 1018 = ap (codeAt 19) (h (sized 8) (sized 8) (zeroed 8) (zeroed 8) own8 own8 (isFirst refl) refl (omega arith) [] (frame1 ++ 0x00 ∷ []) (replicate 21 1) (21 ∷ []) refl refl .says) in
+    omega arith
+
 -- ---- claims
 
 for-any-two : ForAnyTwo ours → ⊥
@@ -117,8 +155,7 @@ for-any-two h =
 across-ways : AcrossWays ours → ⊥
 unfolding codeAt answerCode answers beforeFirst reflect polynomial bitStep bitSteps byteStep register finalXor crcOf mostMatched greatest searching store same finish judge step wrote badDecoder wrongBuffer pushed pushRecord act
 across-ways h =
-    let own : OwnBuffer (inWay secondWay 8) (zeroed 8) = record { long = refl; small = omega arith } in
-    let z : _≡_ {A = ℕ} 3001 0 = ap (codeAt 8) (h (sized 8) (inWay secondWay 8) (zeroed 8) (zeroed 8) own8 own (omega arith) (map push (0x1b ∷ frame1)) .says) in
+    let z : _≡_ {A = ℕ} 3001 0 = ap (codeAt 8) (h (sized 8) (inWay secondWay 8) (zeroed 8) (zeroed 8) own8 (own (inWay secondWay 8) (omega arith)) (omega arith) (map push (0x1b ∷ frame1)) .says) in
     omega arith
 
 -- at B1's last byte the smaller one is full, the larger one has the payload
@@ -135,7 +172,7 @@ cutBefore = nineBytes ++ (0x1b ∷ 0x1b ∷ 0x1b ∷ 0x1b ∷ 0x1a ∷ 0x00 ∷ 
 hears-as-many : HearsAsMany ours → ⊥
 unfolding nineBytes cutBefore payloadsAmong answers reflect polynomial bitStep bitSteps byteStep register finalXor crcOf searching store same finish judge step wrote badDecoder wrongBuffer pushed pushRecord act
 hears-as-many h =
-    let z : 1 ≤ 0 = h (sized 8) (sized 16) (zeroed 8) (zeroed 16) own8 own16 refl (omega arith) (map push cutBefore) in
+    let z : 1 ≤ 0 = h (sized 8) (sized 16) (zeroed 8) (zeroed 16) own8 (own (sized 16) (omega arith)) refl (omega arith) (map push cutBefore) in
     omega arith
 
 pub fall-larger : FallLarger
@@ -146,11 +183,17 @@ fall-larger =
       stores-less = stores-less;
       stores-less-slices = stores-less-slices;
       stores-less-cut = stores-less-cut;
-      hands-small = hands-small;
-      hands-small-slices = hands-small-slices;
-      counts-room = counts-room;
+      second-stores-less = second-stores-less;
+      larger-hands-nothing = larger-hands-nothing;
+      larger-hands-nothing-slices = larger-hands-nothing-slices;
+      larger-hands-nothing-cut = larger-hands-nothing-cut;
+      hands-the-buffer = hands-the-buffer;
+      counts-room-reset = counts-room-reset;
+      counts-room-finalize = counts-room-finalize;
       hesitates-slices = hesitates-slices;
       looks-ahead-slices = looks-ahead-slices;
+      denies-larger = denies-larger;
+      swallows-cut = swallows-cut;
       for-any-two = for-any-two;
       across-ways = across-ways;
       full-answer-too = full-answer-too;

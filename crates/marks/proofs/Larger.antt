@@ -1,12 +1,12 @@
 -- A larger buffer takes nothing away: two decoders of one way and in one state of the push rules stay so, up to the smaller one's first 3.
 use mathlib.Core.Path.{_≡_, refl, ap, ap₂, sym, _∙_}
-use mathlib.Core.Bool.{Bool, true}
+use mathlib.Core.Bool.{Bool, true, true≢false}
 use mathlib.Core.List.{List, [], _∷_, _++_, append-nil, map, nil≢cons, tail-eq-of-cons-eq}
 use Prim.Native.Nat.{ℕ, suc, _≤_}
 use native.Mathlib.Omega.{arith}
 use lib.ListN.{length, getD}
 use Rattle.decoder.specs.Push.{State, Out}
-use Rattle.decoder.specs.Record.{DecoderAnswer, nothing, refusal, After, setup, stateOf, newRecord, unknownWay, badDecoder, pushRecord, finalizeRecord, resetRecord, hasPayload, payloadRecord, numbered}
+use Rattle.decoder.specs.Record.{DecoderAnswer, nothing, refusal, setup, stateOf, newRecord, unknownWay, pushRecord, resetRecord, hasPayload, payloadRecord, askRecord, numbered}
 use Rattle.decoder.specs.Run.{KnownWay, Op, push, finalize, reset, act}
 use Rattle.decoder.specs.declared.Decoder.{Decoder}
 use Rattle.decoder.specs.declared.Setup.{Setup}
@@ -15,12 +15,15 @@ use Rattle.decoder.proofs.States.{actState, answerState}
 use Rattle.decoder.proofs.Faithful.{Fit}
 use Rattle.decoder.proofs.Payload.{heldPayload, payload-held}
 use Rattle.decoder.proofs.Runs.{acts, new-fit}
+use Rattle.decoder.proofs.Search.{known-is}
 use Rattle.decoder_slice.specs.Slice.{Took, saysNothing, pushesFrom, sliceRecord}
-use Rattle.marks.specs.Decoders.{LeftBehind, ours, answers, leftBehind}
-use Rattle.marks.specs.Chunks.{Slicer, ourSlicer, Chunks, Use, oneOp, slice, HeardUse, heardUse, usesSay, usesLeave}
-use Rattle.marks.specs.Larger.{isFull, beforeFirst, BeginsWith, OwnBuffer, Larger, LargerBySlices, newSays, newHearsCut, Enough, LargerCutAnyhow}
-use Rattle.marks.proofs.Chunks.{goes-from, answers-join, chunks}
+use Rattle.decoder_slice.proofs.Taken.{slice-bad, slice-pushes, taken-from}
+use Rattle.marks.specs.Decoders.{Gave, LeftBehind, ours, answers, leftBehind}
+use Rattle.marks.specs.Chunks.{Slicer, ourSlicer, SlicesSay, Chunks, Use, oneOp, slice, HeardUse, heardUse, usesSay, usesLeave}
+use Rattle.marks.specs.Larger.{isFull, beforeFirst, BeginsWith, OwnBuffer, newSays, newHands, Larger, isFullCall, LargerBySlices, LargerAsked, newCut, cutSays, LargerCutAnyhow}
+use Rattle.marks.proofs.Chunks.{answers-join, left-join, chunks}
 use Rattle.marks.proofs.Less.{step-less}
+use Rattle.marks.proofs.Ways.{unknown-bad, refuses-unknown, unknown-asked}
 
 -- ---- an operation in one state: the smaller one's answer is 3, or both do the same
 
@@ -45,25 +48,19 @@ record Twins (d : Decoder) (m : List ℕ) (e : Decoder) (n : List ℕ) : Type 0 
 -- or both new, of an unknown way
 data Two : Decoder → List ℕ → Decoder → List ℕ → Type 0 where
   twins : {d e : Decoder} {m n : List ℕ} → Twins d m e n → Two d m e n
-  bothUnknown : {C D : Setup} {m n : List ℕ} → badDecoder (newRecord C) ≡ true → badDecoder (newRecord D) ≡ true → Two (newRecord C) m (newRecord D) n
+  bothUnknown : {C D : Setup} {m n : List ℕ} → (KnownWay (C .way) → ⊥) → (KnownWay (D .way) → ⊥) → Two (newRecord C) m (newRecord D) n
 
--- what a call of each gave: the smaller one's answer is 3, or they answered the same and are still two of that kind
-data Pace (R : Decoder → List ℕ → Decoder → List ℕ → Type 0) (a b : After) : Type 0 where
-  runsOut : a .answer ≡ refusal 3 [] → Pace R a b
-  keepsUp : a .answer ≡ b .answer → R (a .decoder) (a .memory) (b .decoder) (b .memory) → Pace R a b
+-- what is wanted of an operation of the smaller one, a, beside the larger one's, b: its answer is 3, or they answer the same and are still two of that kind
+abbrev Pace : Type 0 → (Decoder → List ℕ → Decoder → List ℕ → Type 0) → Gave Decoder → Gave Decoder → Type 0
+Pace G R a b = (a .answer ≡ refusal 3 [] → G) → (a .answer ≡ b .answer → R (a .decoder) (a .memory) (b .decoder) (b .memory) → G) → G
 
-by-pace : {G : Type 0} {R : Decoder → List ℕ → Decoder → List ℕ → Type 0} {a b : After} → Pace R a b
-    → (a .answer ≡ refusal 3 [] → G) → (a .answer ≡ b .answer → R (a .decoder) (a .memory) (b .decoder) (b .memory) → G) → G
-by-pace (runsOut x) f g = f x
-by-pace (keepsUp x t) f g = g x t
-
-twins-pace : (d : Decoder) (m : List ℕ) (e : Decoder) (n : List ℕ) (o : Op) → Twins d m e n → Pace Twins (act d m o) (act e n o)
-twins-pace d m e n o t =
+twins-pace : {G : Type 0} (d : Decoder) (m : List ℕ) (e : Decoder) (n : List ℕ) (o : Op) → Twins d m e n → Pace G Twins (ours .act d m o) (ours .act e n o)
+twins-pace d m e n o t f g =
     let a = acts d m o (t .fit) in
     let b = acts e n o (t .fit′) in
     op-less (setup d) (setup e) (stateOf d m) o (t .ways) (t .sizes)
-    (λ x. runsOut (a .answer ∙ x))
-    (λ x y. keepsUp (a .answer ∙ x ∙ ap (λ (s : State). answerState (setup e) s o) (t .states) ∙ sym (b .answer)) (record {
+    (λ x. f (a .answer ∙ x))
+    (λ x y. g (a .answer ∙ x ∙ ap (λ (s : State). answerState (setup e) s o) (t .states) ∙ sym (b .answer)) (record {
       fit = a .fit;
       fit′ = b .fit;
       ways = ap (λ (C : Setup). C .way) (a .setup′) ∙ t .ways ∙ sym (ap (λ (C : Setup). C .way) (b .setup′));
@@ -71,29 +68,35 @@ twins-pace d m e n o t =
       states = a .view′ ∙ y ∙ ap (λ (s : State). actState (setup e) s o) (t .states) ∙ sym (b .view′);
     }))
 
-unknown-pace : (C D : Setup) (m n : List ℕ) (o : Op) → badDecoder (newRecord C) ≡ true → badDecoder (newRecord D) ≡ true → Pace Two (act (newRecord C) m o) (act (newRecord D) n o)
-unfolding act pushRecord finalizeRecord resetRecord
-unknown-pace C D m n (push b) x y = rw (x, y) (keepsUp refl (bothUnknown x y))
-unknown-pace C D m n finalize x y = rw (x, y) (keepsUp refl (bothUnknown x y))
-unknown-pace C D m n reset x y = keepsUp refl (bothUnknown x y)
+same-pace : {G : Type 0} {a b a′ b′ : Gave Decoder} → a ≡ a′ → b ≡ b′ → Pace G Two a′ b′ → Pace G Two a b
+same-pace x y h = rw (x, y) h
 
-pace : {d : Decoder} {m : List ℕ} {e : Decoder} {n : List ℕ} (o : Op) → Two d m e n → Pace Two (act d m o) (act e n o)
-pace o (twins {d = d} {e = e} {m = m} {n = n} t) = by-pace (twins-pace d m e n o t) runsOut (λ x t′. keepsUp x (twins t′))
-pace o (bothUnknown {C = C} {D = D} {m = m} {n = n} x y) = unknown-pace C D m n o x y
+unknown-pace : {G : Type 0} (C D : Setup) (m n : List ℕ) (o : Op) → (KnownWay (C .way) → ⊥) → (KnownWay (D .way) → ⊥) → Pace G Two (ours .act (newRecord C) m o) (ours .act (newRecord D) n o)
+unfolding act resetRecord
+unknown-pace C D m n (push b) x y = same-pace (refuses-unknown .by-push (newRecord C) m b x) (refuses-unknown .by-push (newRecord D) n b y) (λ f g. g refl (bothUnknown x y))
+unknown-pace C D m n finalize x y = same-pace (refuses-unknown .by-finalize (newRecord C) m x) (refuses-unknown .by-finalize (newRecord D) n y) (λ f g. g refl (bothUnknown x y))
+unknown-pace C D m n reset x y = λ f g. g refl (bothUnknown x y)
 
--- they hand back the same
+pace : {G : Type 0} {d : Decoder} {m : List ℕ} {e : Decoder} {n : List ℕ} (o : Op) → Two d m e n → Pace G Two (ours .act d m o) (ours .act e n o)
+pace o (twins {d = d} {e = e} {m = m} {n = n} t) f g = twins-pace d m e n o t f (λ x t′. g x (twins t′))
+pace o (bothUnknown {C = C} {D = D} {m = m} {n = n} x y) f g = unknown-pace C D m n o x y f g
+
+-- what both hand back is the same, and whether it stands there
 two-hand : {d : Decoder} {m : List ℕ} {e : Decoder} {n : List ℕ} → Two d m e n → payloadRecord e n ≡ payloadRecord d m
-unfolding payloadRecord hasPayload
 two-hand (twins {d = d} {e = e} {m = m} {n = n} t) = payload-held e n (t .fit′) ∙ ap heldPayload (sym (t .states)) ∙ sym (payload-held d m (t .fit))
-two-hand (bothUnknown x y) = rw (x, y)
+two-hand (bothUnknown {C = C} {D = D} {m = m} {n = n} x y) = refuses-unknown .no-payload (newRecord D) n y ∙ sym (refuses-unknown .no-payload (newRecord C) m x)
+
+two-ask : {d : Decoder} {m : List ℕ} {e : Decoder} {n : List ℕ} → Two d m e n → askRecord e n ≡ askRecord d m
+unfolding askRecord hasPayload
+two-ask (twins t) = rw (t .fit .state, t .fit .buffer, t .fit′ .state, t .fit′ .buffer, t .states)
+two-ask (bothUnknown {C = C} {D = D} {m = m} {n = n} x y) = unknown-asked (newRecord D) n y ∙ sym (unknown-asked (newRecord C) m x)
 
 -- new ones of one way are two of that kind
 two-new : (C D : Setup) (m n : List ℕ) → OwnBuffer C m → OwnBuffer D n → C .way ≡ D .way → C .capacity ≤ D .capacity → Two (newRecord C) m (newRecord D) n
-unfolding badDecoder
 two-new C D m n p q w le =
     cases (unknownWay (C .way))
-    (λ x. bothUnknown (rw x) (rw (← w, x)))
-    (λ x. twins (record { fit = new-fit C m x (p .long) (p .small); fit′ = new-fit D n (rw (← w) x) (q .long) (q .small); ways = w; sizes = le; states = refl }))
+    (λ x. let no : KnownWay (C .way) → ⊥ = λ k. true≢false (sym x ∙ known-is (C .way) k) in bothUnknown no (λ k. no (rw w k)))
+    (λ x. twins (record { fit = new-fit C m x (p .long) (p .within); fit′ = new-fit D n (rw (← w) x) (q .long) (q .within); ways = w; sizes = le; states = refl }))
 
 -- ---- what the two say, one beside the other
 
@@ -129,7 +132,7 @@ goes : (os : List Op) (d : Decoder) (m : List ℕ) (e : Decoder) (n : List ℕ) 
     → InStep isFull (λ a b. Unit {0}) (Two (leftBehind ours d m os .decoder) (leftBehind ours d m os .memory) (leftBehind ours e n os .decoder) (leftBehind ours e n os .memory)) (answers ours d m os) (answers ours e n os)
 unfolding answers leftBehind
 goes [] d m e n t = bothEnd t
-goes (o ∷ os) d m e n t = by-pace (pace o t) (λ x. firstStops (ap isFull x) tt) (λ x t′. sameThen x (goes os _ _ _ _ t′))
+goes (o ∷ os) d m e n t = pace o t (λ x. firstStops (ap isFull x) tt) (λ x t′. sameThen x (goes os _ _ _ _ t′))
 
 pub larger : Larger ours
 larger C D m n p q w le os =
@@ -138,73 +141,86 @@ larger C D m n p q w le os =
 
 -- ---- pushes of slices
 
--- what a slice of each gave: the smaller one's answer is 3, and the larger one took at least as many bytes; or they said the same and are still two of that kind
-data SlicePace (R : Decoder → List ℕ → Decoder → List ℕ → Type 0) (t u : Took) : Type 0 where
-  runsOutAt : t .answer ≡ refusal 3 [] → t .taken ≤ u .taken → SlicePace R t u
-  keepsUpAt : t .answer ≡ u .answer → t .taken ≡ u .taken → R (t .decoder) (t .memory) (u .decoder) (u .memory) → SlicePace R t u
+-- what is wanted of a slice: its answer is 3, and the larger one takes at least as many bytes; or they say the same and are still two of that kind
+abbrev SlicePace : Type 0 → (Decoder → List ℕ → Decoder → List ℕ → Type 0) → Took → Took → Type 0
+SlicePace G R t u = (t .answer ≡ refusal 3 [] → t .taken ≤ u .taken → G) → (t .answer ≡ u .answer → t .taken ≡ u .taken → R (t .decoder) (t .memory) (u .decoder) (u .memory) → G) → G
 
-by-slice-pace : {G : Type 0} {R : Decoder → List ℕ → Decoder → List ℕ → Type 0} {t u : Took} → SlicePace R t u
-    → (t .answer ≡ refusal 3 [] → t .taken ≤ u .taken → G) → (t .answer ≡ u .answer → t .taken ≡ u .taken → R (t .decoder) (t .memory) (u .decoder) (u .memory) → G) → G
-by-slice-pace (runsOutAt x le) f g = f x le
-by-slice-pace (keepsUpAt x y t) f g = g x y t
+-- a first byte is taken whatever it says
+taken-some : (b : ℕ) (bs : List ℕ) (k : ℕ) (d : Decoder) (m : List ℕ) → suc k ≤ pushesFrom k d m (b ∷ bs) .taken
+unfolding pushesFrom
+taken-some b bs k d m = cases (saysNothing (pushRecord d m b .answer)) (λ s. rw s (taken-from bs (suc k) _ _ .0)) (λ s. rw s (omega arith))
 
-pushes-pace : (bs : List ℕ) (k : ℕ) (d : Decoder) (m : List ℕ) (e : Decoder) (n : List ℕ) → Twins d m e n → SlicePace Twins (pushesFrom k d m bs) (pushesFrom k e n bs)
+pushes-pace : {G : Type 0} (bs : List ℕ) (k : ℕ) (d : Decoder) (m : List ℕ) (e : Decoder) (n : List ℕ) → Twins d m e n → SlicePace G Twins (pushesFrom k d m bs) (pushesFrom k e n bs)
 unfolding pushesFrom act
-pushes-pace [] k d m e n t = keepsUpAt refl refl t
+pushes-pace [] k d m e n t = λ f g. g refl refl t
 pushes-pace (b ∷ bs) k d m e n t =
-    by-pace (twins-pace d m e n (push b) t)
-    (λ x. let more′ = goes-from (b ∷ bs) k e n (t .fit′) .some (omega arith) in rw (ap saysNothing x) (runsOutAt x more′))
-    (λ x t′. cases (saysNothing (pushRecord d m b .answer)) (λ s. rw (← x, s) (pushes-pace bs (suc k) _ _ _ _ t′)) (λ s. rw (← x, s) (keepsUpAt refl refl t′)))
+    twins-pace d m e n (push b) t
+    (λ x. let some = taken-some b bs k e n in rw (ap saysNothing x) (λ f g. f x some))
+    (λ x t′. cases (saysNothing (pushRecord d m b .answer)) (λ s. rw (← x, s) (pushes-pace bs (suc k) _ _ _ _ t′)) (λ s. rw (← x, s) (λ f g. g refl refl t′)))
 
-slice-pace : {d : Decoder} {m : List ℕ} {e : Decoder} {n : List ℕ} (bs : List ℕ) → Two d m e n → SlicePace Two (sliceRecord d m bs) (sliceRecord e n bs)
-unfolding sliceRecord
+slice-pace : {G : Type 0} {d : Decoder} {m : List ℕ} {e : Decoder} {n : List ℕ} (bs : List ℕ) → Two d m e n → SlicePace G Two (sliceRecord d m bs) (sliceRecord e n bs)
 slice-pace bs (twins {d = d} {e = e} {m = m} {n = n} t) =
-    rw (t .fit .state, t .fit .buffer, t .fit′ .state, t .fit′ .buffer) (by-slice-pace (pushes-pace bs 0 d m e n t) runsOutAt (λ x y t′. keepsUpAt x y (twins t′)))
-slice-pace bs (bothUnknown x y) = rw (x, y) (keepsUpAt refl refl (bothUnknown x y))
+    rw (← slice-pushes d m bs (t .fit .state) (t .fit .buffer), ← slice-pushes e n bs (t .fit′ .state) (t .fit′ .buffer)) (λ f g. pushes-pace bs 0 d m e n t f (λ x y t′. g x y (twins t′)))
+slice-pace bs (bothUnknown {C = C} {D = D} {m = m} {n = n} x y) =
+    rw (← slice-bad (newRecord C) m bs (unknown-bad (newRecord C) x), ← slice-bad (newRecord D) n bs (unknown-bad (newRecord D) y)) (λ f g. g refl refl (bothUnknown x y))
 
 -- ---- any number of operations and slices
-
-abbrev fullCall : HeardUse → Bool
-fullCall h = isFull (h .answer)
 
 abbrev TakesAsMany : HeardUse → HeardUse → Type 0
 TakesAsMany h g = h .taken ≤ g .taken
 
 goes-by-slices : (us : List Use) (d : Decoder) (m : List ℕ) (e : Decoder) (n : List ℕ) → Two d m e n
-    → InStep fullCall TakesAsMany (Two (usesLeave ourSlicer d m us .decoder) (usesLeave ourSlicer d m us .memory) (usesLeave ourSlicer e n us .decoder) (usesLeave ourSlicer e n us .memory))
+    → InStep isFullCall TakesAsMany (Two (usesLeave ourSlicer d m us .decoder) (usesLeave ourSlicer d m us .memory) (usesLeave ourSlicer e n us .decoder) (usesLeave ourSlicer e n us .memory))
     (usesSay ourSlicer d m us) (usesSay ourSlicer e n us)
 unfolding usesSay usesLeave
 goes-by-slices [] d m e n t = bothEnd t
-goes-by-slices (oneOp o ∷ us) d m e n t = by-pace (pace o t) (λ x. firstStops (ap isFull x) (omega arith)) (λ x t′. sameThen (ap (λ (a : DecoderAnswer). heardUse a 0) x) (goes-by-slices us _ _ _ _ t′))
-goes-by-slices (slice chunk ∷ us) d m e n t = by-slice-pace (slice-pace chunk t) (λ x le. firstStops (ap isFull x) le) (λ x y t′. sameThen (ap₂ heardUse x y) (goes-by-slices us _ _ _ _ t′))
+goes-by-slices (oneOp o ∷ us) d m e n t = pace o t (λ x. firstStops (ap isFull x) (omega arith)) (λ x t′. sameThen (ap (λ (a : DecoderAnswer). heardUse a 0) x) (goes-by-slices us _ _ _ _ t′))
+goes-by-slices (slice chunk ∷ us) d m e n t = slice-pace chunk t (λ x le. firstStops (ap isFull x) le) (λ x y t′. sameThen (ap₂ heardUse x y) (goes-by-slices us _ _ _ _ t′))
 
 pub larger-by-slices : LargerBySlices ourSlicer
 larger-by-slices C D m n p q w le us =
     let g = goes-by-slices us _ _ _ _ (two-new C D m n p q w le) in
     record {
-      says = begins-with fullCall g;
-      takes = at-the-first fullCall (heardUse nothing 0) (λ h. omega arith) g;
-      hands = λ none. two-hand (to-the-end fullCall g none);
+      says = begins-with isFullCall g;
+      takes = at-the-first isFullCall (heardUse nothing 0) (λ h. omega arith) g;
+      hands = λ none. two-hand (to-the-end isFullCall g none);
     }
+
+pub larger-asked : LargerAsked ourSlicer askRecord
+larger-asked C D m n p q w le us none = two-ask (to-the-end isFullCall (goes-by-slices us _ _ _ _ (two-new C D m n p q w le)) none)
 
 -- ---- bytes that are cut anyhow, of any decoder of which `Chunks` and `Larger` hold
 
 module _ {S : Type 0} (M : Slicer S) (c : Chunks M) where
-  abbrev behindNew : Setup → List ℕ → List Op → LeftBehind S
-  behindNew C m before = leftBehind (M .machine) (M .machine .new C) m before
+  -- where slices take all the bytes, they are heard as those pushed one by one, and leave what those leave
+  module _ (C : Setup) (m : List ℕ) (before : List Op) (bytes cuts : List ℕ) (p : OwnBuffer C m) (w : KnownWay (C .way)) (all : newCut M C m before bytes cuts .left′ ≡ []) where
+    abbrev behindNew : LeftBehind S
+    behindNew = leftBehind (M .machine) (M .machine .new C) m before
 
-  -- slices that are enough are heard as the bytes pushed one by one
-  heard-cut : (C : Setup) (m : List ℕ) (before : List Op) (bytes cuts : List ℕ) → OwnBuffer C m → KnownWay (C .way) → Enough bytes cuts
-      → newHearsCut M C m before bytes cuts ≡ newSays (M .machine) C m (before ++ map push bytes)
-  heard-cut C m before bytes cuts p w enough =
-      let s = c C m w (p .long) (p .small) before bytes cuts in
-      let all : s .took ≡ bytes = sym (append-nil (s .took)) ∙ ap (λ (l : List ℕ). s .took ++ l) (sym (s .all-taken (enough .0) (enough .1))) ∙ s .parts in
-      ap (λ (l : List DecoderAnswer). newSays (M .machine) C m before ++ l) (s .same-answers ∙ ap (λ (l : List ℕ). answers (M .machine) (behindNew C m before .decoder) (behindNew C m before .memory) (map push l)) all)
-      ∙ sym (answers-join (M .machine) before (map push bytes) (M .machine .new C) m)
+    says-cut : SlicesSay M (behindNew .decoder) (behindNew .memory) bytes cuts (newCut M C m before bytes cuts)
+    says-cut = c C m w (p .long) (p .within) before bytes cuts
+
+    took-all : says-cut .took ≡ bytes
+    took-all = sym (append-nil (says-cut .took)) ∙ ap (λ (l : List ℕ). says-cut .took ++ l) (sym all) ∙ says-cut .parts
+
+    heard-cut : cutSays M C m before bytes cuts ≡ newSays (M .machine) C m (before ++ map push bytes)
+    heard-cut =
+        ap (λ (l : List DecoderAnswer). newSays (M .machine) C m before ++ l) (says-cut .same-answers ∙ ap (λ (l : List ℕ). answers (M .machine) (behindNew .decoder) (behindNew .memory) (map push l)) took-all)
+        ∙ sym (answers-join (M .machine) before (map push bytes) (M .machine .new C) m)
+
+    hands-cut : M .machine .payloadOf (newCut M C m before bytes cuts .decoder) (newCut M C m before bytes cuts .memory) ≡ newHands (M .machine) C m (before ++ map push bytes)
+    hands-cut =
+        ap (λ (k : LeftBehind S). M .machine .payloadOf (k .decoder) (k .memory))
+        (says-cut .same-kept ∙ ap (λ (l : List ℕ). leftBehind (M .machine) (behindNew .decoder) (behindNew .memory) (map push l)) took-all ∙ sym (left-join (M .machine) before (map push bytes) (M .machine .new C) m))
 
   pub cut-anyhow : Larger (M .machine) → LargerCutAnyhow M
-  cut-anyhow h C D m n p q w e le before bytes cuts cuts′ enough enough′ =
-      rw (heard-cut C m before bytes cuts p w enough, heard-cut D n before bytes cuts′ q (rw (← e) w) enough′) (h C D m n p q e le (before ++ map push bytes) .says)
+  cut-anyhow h C D m n p q w e le before bytes cuts cuts′ all all′ =
+      let v : KnownWay (D .way) = rw (← e) w in
+      let g = h C D m n p q e le (before ++ map push bytes) in
+      record {
+        says = rw (heard-cut C m before bytes cuts p w all, heard-cut D n before bytes cuts′ q v all′) (g .says);
+        hands = λ none. hands-cut D n before bytes cuts′ q v all′ ∙ g .hands (rw (heard-cut C m before bytes cuts p w all) at none) ∙ sym (hands-cut C m before bytes cuts p w all);
+      }
 
 pub larger-cut-anyhow : LargerCutAnyhow ourSlicer
 larger-cut-anyhow = cut-anyhow ourSlicer chunks larger

@@ -16,17 +16,18 @@ use Rattle.decoder.specs.declared.Setup.{Setup}
 use Rattle.decoder.proofs.Split.{cases}
 use Rattle.since.specs.Since.{AllBytes}
 use Rattle.encoder.specs.Encode.{AfterEncode}
+use Rattle.sartrogheo.specs.Calls.{answerNo}
 use Rattle.marks.specs.Decoders.{Machine, ours, answers, behindOf, LeftBehind, leftBehind}
 use Rattle.marks.specs.Mark2.{PushesBytes, SoundBehind}
 use Rattle.marks.specs.Mark3.{ourEncode, Job, AllSuit, part, wroteFor, framesFor, restSays, HeardBehindZeros}
 use Rattle.marks.specs.Chunks.{ourSlicer, Use}
-use Rattle.marks.specs.Larger.{SlicesTakeNothing}
-use Rattle.marks.specs.Library.{Library, LentByCaller, KeptByCaller, decoderBy, slicerBy, UsesBytes, CallerBegins, encodeBy, HearsOurs, JobsOfBytes, MarksBy}
+use Rattle.marks.specs.Larger.{OwnBuffer}
+use Rattle.marks.specs.Library.{Library, LentByCaller, KeptByCaller, decoderBy, slicerBy, UsesBytes, CallerBegins, encodeBy, HearsOurs, JobsOfBytes, LosesNothingBy, MarksBy}
 use Rattle.marks.proofs.Narrow.{bytes-join, bytes-run, bytes-at, bytes-all, start-bytes}
 use Rattle.marks.proofs.Packed.{singly, singly-bytes, singly-leaves, singly-answers}
 use Rattle.marks.proofs.Soundness.{soundness}
 use Rattle.marks.proofs.Recovery.{wrote-is, mark3}
-use Rattle.marks.proofs.Larger.{larger-by-slices}
+use Rattle.marks.proofs.Larger.{larger-by-slices, larger-asked}
 use Rattle.marks.proofs.Library.{end-bytes}
 
 -- ---- operations that push bytes
@@ -172,15 +173,23 @@ module _ (L : Library) (h : HearsOurs L) where
 
 module _ (L : Library) (h : HearsOurs L) where
   larger-by : (C D : Setup) (c c′ : LentByCaller) (m n : List ℕ) → CallerBegins C c m → CallerBegins D c′ n → length m ≡ C .capacity → length n ≡ D .capacity → C .way ≡ D .way → C .capacity ≤ D .capacity
-      → (us : List Use) → UsesBytes us → SlicesTakeNothing (slicerBy L c) (slicerBy L c′) C D m n us
+      → (us : List Use) → UsesBytes us → LosesNothingBy L C D c c′ m n us
   larger-by C D c c′ m n g g′ long long′ w le us b =
       let x = h .decoder C c m us g b in
       let y = h .decoder D c′ n us g′ b in
-      let s = larger-by-slices C D m n (record { long = long; small = g .capacity }) (record { long = long′; small = g′ .capacity }) w le us in
+      let p : OwnBuffer C m = record { long = long; within = g .capacity } in
+      let q : OwnBuffer D n = record { long = long′; within = g′ .capacity } in
+      let s = larger-by-slices C D m n p q w le us in
       record {
-        says = rw (x .0, y .0) (s .says);
-        takes = rw (x .0, y .0) (s .takes);
-        hands = λ none. y .2 .bytes′ ∙ s .hands (rw (x .0) at none) ∙ sym (x .2 .bytes′);
+        by-slices = record {
+          says = rw (x .0, y .0) (s .says);
+          takes = rw (x .0, y .0) (s .takes);
+          hands = λ none. y .2 .bytes′ ∙ s .hands (rw (x .0) at none) ∙ sym (x .2 .bytes′);
+        };
+        asked = λ none. (
+          y .2 .number′ ∙ ap answerNo (larger-asked C D m n p q w le us (rw (x .0) at none)) ∙ sym (x .2 .number′),
+          y .2 .length′ ∙ ap length (s .hands (rw (x .0) at none)) ∙ sym (x .2 .length′),
+        );
       }
 
 pub marks-by : (L : Library) → HearsOurs L → MarksBy L

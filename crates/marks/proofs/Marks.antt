@@ -8,7 +8,7 @@ use Rattle.marks.proofs.Soundness.{soundness}
 use Rattle.marks.proofs.Completeness.{completeness, new-searches, reached-searches}
 use Rattle.marks.proofs.Hides.{hides}
 use Rattle.marks.proofs.Chunks.{chunks}
-use Rattle.marks.proofs.Larger.{larger, larger-by-slices, larger-cut-anyhow}
+use Rattle.marks.proofs.Larger.{larger, larger-by-slices, larger-asked, larger-cut-anyhow}
 use Rattle.marks.proofs.Second.{begins-exactly, searches-again, second-searches, reached-counts, hears-behind-noise}
 use Rattle.marks.proofs.Ways.{keeps-way, refuses-unknown, unknown-asked}
 use Rattle.marks.proofs.Packed.{round-trips, exactly, packs-what-pushes, packs-in-order, acts-alike, slices-alike, hands-out-alike, serves, leaves-refused, leaves-tidy, answers-alike}
@@ -44,6 +44,7 @@ marks =
       chunks = chunks;
       larger = larger;
       larger-by-slices = larger-by-slices;
+      larger-asked = larger-asked;
       larger-cut-anyhow = larger-cut-anyhow;
       round-trips = round-trips;
       exactly = exactly;

@@ -5,8 +5,8 @@ use Rattle.marks.specs.Decoders.{ours}
 use Rattle.marks.specs.Mark2.{Soundness, OurSearch}
 use Rattle.marks.specs.Mark3.{Mark3}
 use Rattle.marks.specs.Hides.{Hides}
-use Rattle.marks.specs.Chunks.{Chunks}
-use Rattle.marks.specs.Larger.{Larger, LargerBySlices}
+use Rattle.marks.specs.Chunks.{ourSlicer, Chunks}
+use Rattle.marks.specs.Larger.{Larger, LargerBySlices, LargerAsked}
 use Rattle.marks.specs.Second.{Begins, SearchesAgain, HearsBehindNoise, ourSeeks, ourBegun}
 use Rattle.marks.specs.Ways.{ourWay, KeepsWay, RefusesUnknown}
 use Rattle.marks.specs.Packed.{RoundTrip, Exactly, PacksWhatPushes, PacksInOrder, ActsAlike, HandsAlike, Serves, LeavesRefused}
@@ -17,7 +17,7 @@ use Rattle.marks.specs.FakeHosts.{unpacksNothing, packsConstants, packsA
 use Rattle.marks.proofs.Fakes.{not-ours, fall}
 use Rattle.marks.specs.Library.{HearsNew, HearsDecoder, HearsEncode, HearsEncoder, HearsReader}
 use Rattle.marks.specs.FakeLibraries.{deniesNew, keepsValues, handsBuffer, paysAlways, leavesLast, forgetsSlice, encodesNothing, forgetsCount, losesPlace, losesSign, losesKind}
-use Rattle.marks.specs.FakeLarger.{storesLess, handsSmall, countsRoom, hesitates, looksAhead, ForAnyTwo, AcrossWays, FullAnswerToo, HearsAsMany}
+use Rattle.marks.specs.FakeLarger.{storesLess, secondStoresLess, largerHandsNothing, handsTheBuffer, countsRoom, hesitates, looksAhead, deniesLarger, ForAnyTwo, AcrossWays, FullAnswerToo, HearsAsMany}
 use Rattle.marks.proofs.FakeHosts.{fall-hosts}
 use Rattle.marks.proofs.FakeLarger.{fall-larger}
 use Rattle.marks.proofs.FakeLibraries.{fall-libraries}
@@ -169,17 +169,26 @@ fake-entry-without-its-kind = fall-libraries .loses-kind
 fake-larger-buffer-stores-less : Larger (storesLess .machine) → ⊥
 fake-larger-buffer-stores-less = fall-larger .stores-less
 
-fake-larger-buffer-hands-nothing : Larger (handsSmall .machine) → ⊥
-fake-larger-buffer-hands-nothing = fall-larger .hands-small
+fake-second-way-stores-less : Larger secondStoresLess → ⊥
+fake-second-way-stores-less = fall-larger .second-stores-less
 
-fake-reset-counts-the-room : Larger countsRoom → ⊥
-fake-reset-counts-the-room = fall-larger .counts-room
+fake-larger-buffer-hands-nothing : Larger (largerHandsNothing .machine) → ⊥
+fake-larger-buffer-hands-nothing = fall-larger .larger-hands-nothing
+
+fake-buffer-handed-back : Larger handsTheBuffer → ⊥
+fake-buffer-handed-back = fall-larger .hands-the-buffer
+
+fake-room-is-counted : Larger countsRoom → ⊥
+fake-room-is-counted = fall-larger .counts-room-reset
 
 fake-larger-buffer-takes-single-bytes : LargerBySlices hesitates → ⊥
 fake-larger-buffer-takes-single-bytes = fall-larger .hesitates-slices
 
 fake-slice-refused-at-its-first-byte : LargerBySlices looksAhead → ⊥
 fake-slice-refused-at-its-first-byte = fall-larger .looks-ahead-slices
+
+fake-larger-payload-denied : LargerAsked ourSlicer deniesLarger → ⊥
+fake-larger-payload-denied = fall-larger .denies-larger
 
 larger-with-the-full-answer : FullAnswerToo ours → ⊥
 larger-with-the-full-answer = fall-larger .full-answer-too

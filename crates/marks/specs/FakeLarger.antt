@@ -4,17 +4,18 @@ use mathlib.Core.Bool.{cond}
 use mathlib.Core.List.{List, [], _∷_, _++_, map}
 use Prim.Native.Nat.{ℕ, suc, _+_, _≤_}
 use lib.ListN.{length, take, drop, replicate}
-use lib.Dec.{ltb}
-use Rattle.refusals.specs.Numbers.{decoderOutOfMemoryNo}
-use Rattle.decoder.specs.Push.{sized, inWay}
-use Rattle.decoder.specs.Record.{DecoderAnswer, nothing, payload, count, refusal}
+use lib.Dec.{eqb, ltb}
+use Rattle.refusals.specs.Numbers.{decoderOutOfMemoryNo, badSpanNo}
+use Rattle.decoder.specs.Push.{secondWay, sized, inWay}
+use Rattle.decoder.specs.Record.{DecoderAnswer, nothing, payload, count, refusal, hasPayload, askRecord}
 use Rattle.decoder.specs.Run.{Op, push}
 use Rattle.decoder.specs.declared.Decoder.{Decoder}
 use Rattle.decoder.specs.declared.Setup.{Setup}
 use Rattle.marks.specs.Decoders.{Machine, ours}
 use Rattle.marks.specs.Chunks.{GaveSlice, Slicer, ourSlicer}
-use Rattle.marks.specs.Larger.{isFull, beforeFull, BeginsWith, OwnBuffer, newSays, TakesNothing, Larger, LargerBySlices, LargerCutAnyhow}
-use Rattle.marks.specs.Bench.{frame1}
+use Rattle.marks.specs.Larger.{isFull, beforeFull, BeginsWith, OwnBuffer, newSays, LosesNothing, Larger, LargerBySlices, LargerAsked, LargerCutAnyhow}
+use Rattle.marks.specs.Bench.{payload1, frame1}
+use Rattle.marks.specs.Fakes.{swallows}
 
 -- ---- fakes
 
@@ -39,21 +40,23 @@ storesLess =
     }
 
 -- ours, but of a buffer of more than eight bytes no payload is handed back
-abbrev pub handsSmall : Slicer Decoder
-handsSmall =
+abbrev pub largerHandsNothing : Slicer Decoder
+largerHandsNothing =
     record {
       machine = record { new = ours .new; act = ours .act; payloadOf = λ d m. cond (ltb 8 (d .capacity)) [] (ours .payloadOf d m) };
       pushSlice = ourSlicer .pushSlice;
     }
 
--- what it answers: reset's number with n more
+-- what it answers: n more than reset's number, and than DiscardedBytes', the one refusal with one number
 abbrev pub countedUp : ℕ → DecoderAnswer → DecoderAnswer
 countedUp n nothing = nothing
 countedUp n (payload bytes) = payload bytes
 countedUp n (count k) = count (n + k)
-countedUp n (refusal k values) = refusal k values
+countedUp n (refusal k []) = refusal k []
+countedUp n (refusal k (v ∷ [])) = refusal k ((n + v) ∷ [])
+countedUp n (refusal k (v ∷ more ∷ values)) = refusal k (v ∷ more ∷ values)
 
--- ours, but reset counts the buffer's bytes, too
+-- ours, but the bytes of its buffer are counted, too
 abbrev pub countsRoom : Machine Decoder
 countsRoom =
     record {
@@ -63,6 +66,14 @@ countsRoom =
           record { answer = countedUp (length m) (a .answer); decoder = a .decoder; memory = a .memory };
       payloadOf = ours .payloadOf;
     }
+
+-- right in the first way; in the second the larger buffer stores one byte less
+abbrev pub secondStoresLess : Machine Decoder
+secondStoresLess = record { new = λ C. cond (eqb (C .way) secondWay) (storesLess .machine .new C) (ours .new C); act = storesLess .machine .act; payloadOf = storesLess .machine .payloadOf }
+
+-- ours, but where no payload stands the buffer is handed back, whatever is in it
+abbrev pub handsTheBuffer : Machine Decoder
+handsTheBuffer = record { new = ours .new; act = ours .act; payloadOf = λ d m. cond (hasPayload d m) (ours .payloadOf d m) m }
 
 -- ours, but with a buffer of more than eight bytes it takes one byte of a slice
 abbrev pub hesitates : Slicer Decoder
@@ -76,15 +87,19 @@ aheadRefused t d m = cond (ltb 8 (t .decoder .fill)) (record { answer = refusal 
 abbrev pub looksAhead : Slicer Decoder
 looksAhead = record { machine = ours; pushSlice = λ d m bytes. aheadRefused (ourSlicer .pushSlice d m bytes) d m }
 
+-- what it says where it is asked for the payload: none stands in a buffer of more than eight bytes
+abbrev pub deniesLarger : Decoder → List ℕ → DecoderAnswer
+deniesLarger d m = cond (ltb 8 (d .capacity)) (refusal badSpanNo []) (askRecord d m)
+
 -- ---- what is not claimed
 
 -- of any two capacities
 abbrev pub ForAnyTwo : {S : Type 0} → Machine S → Type 0
-ForAnyTwo M = (C D : Setup) (m n : List ℕ) → OwnBuffer C m → OwnBuffer D n → C .way ≡ D .way → (os : List Op) → TakesNothing M C D m n os
+ForAnyTwo M = (C D : Setup) (m n : List ℕ) → OwnBuffer C m → OwnBuffer D n → C .way ≡ D .way → (os : List Op) → LosesNothing M C D m n os
 
 -- of two ways of searching
 abbrev pub AcrossWays : {S : Type 0} → Machine S → Type 0
-AcrossWays M = (C D : Setup) (m n : List ℕ) → OwnBuffer C m → OwnBuffer D n → C .capacity ≤ D .capacity → (os : List Op) → TakesNothing M C D m n os
+AcrossWays M = (C D : Setup) (m n : List ℕ) → OwnBuffer C m → OwnBuffer D n → C .capacity ≤ D .capacity → (os : List Op) → LosesNothing M C D m n os
 
 -- the answers up to the first OutOfMemory, and with it
 unfoldable pub withFull : List DecoderAnswer → List DecoderAnswer
@@ -107,18 +122,24 @@ payloadsAmong (refusal k values ∷ more) = payloadsAmong more
 abbrev pub HearsAsMany : {S : Type 0} → Machine S → Type 0
 HearsAsMany M = (C D : Setup) (m n : List ℕ) → OwnBuffer C m → OwnBuffer D n → C .way ≡ D .way → C .capacity ≤ D .capacity → (os : List Op) → payloadsAmong (newSays M C m os) ≤ payloadsAmong (newSays M D n os)
 
--- each of the fakes falls, and each of these claims is false of ours. B1's frame with seven bytes of room: nothing before its last byte, which is OutOfMemory; with eight, its payload there
+-- each of the fakes falls, by slices too where it takes them otherwise, and each of these claims is false of ours. B1's frame with seven bytes of room: nothing before its last byte, which is OutOfMemory; with eight, its payload there
 pub record FallLarger : Type 0 where
   pub seven-say : beforeFull (newSays ours (sized 7) (replicate 7 0x00) (map push frame1)) ≡ replicate 19 nothing
-  pub eight-say : beforeFull (newSays ours (sized 8) (replicate 8 0x00) (map push frame1)) ≡ replicate 19 nothing ++ payload (0x12 ∷ 0x34 ∷ 0x56 ∷ 0x78 ∷ []) ∷ []
+  pub eight-say : beforeFull (newSays ours (sized 8) (replicate 8 0x00) (map push frame1)) ≡ replicate 19 nothing ++ payload payload1 ∷ []
   pub stores-less : Larger (storesLess .machine) → ⊥
   pub stores-less-slices : LargerBySlices storesLess → ⊥
   pub stores-less-cut : LargerCutAnyhow storesLess → ⊥
-  pub hands-small : Larger (handsSmall .machine) → ⊥
-  pub hands-small-slices : LargerBySlices handsSmall → ⊥
-  pub counts-room : Larger countsRoom → ⊥
+  pub second-stores-less : Larger secondStoresLess → ⊥
+  pub larger-hands-nothing : Larger (largerHandsNothing .machine) → ⊥
+  pub larger-hands-nothing-slices : LargerBySlices largerHandsNothing → ⊥
+  pub larger-hands-nothing-cut : LargerCutAnyhow largerHandsNothing → ⊥
+  pub hands-the-buffer : Larger handsTheBuffer → ⊥
+  pub counts-room-reset : Larger countsRoom → ⊥
+  pub counts-room-finalize : Larger countsRoom → ⊥
   pub hesitates-slices : LargerBySlices hesitates → ⊥
   pub looks-ahead-slices : LargerBySlices looksAhead → ⊥
+  pub denies-larger : LargerAsked ourSlicer deniesLarger → ⊥
+  pub swallows-cut : LargerCutAnyhow swallows → ⊥
   pub for-any-two : ForAnyTwo ours → ⊥
   pub across-ways : AcrossWays ours → ⊥
   pub full-answer-too : FullAnswerToo ours → ⊥

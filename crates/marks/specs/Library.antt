@@ -27,7 +27,7 @@ use Rattle.marks.specs.Decoders.{Gave, Machine, ours, LeftBehind}
 use Rattle.marks.specs.Mark2.{PushesBytes, SoundBehind}
 use Rattle.marks.specs.Mark3.{Encode, ourEncode, Job, AllSuit, HeardBehindZeros}
 use Rattle.marks.specs.Chunks.{GaveSlice, Slicer, ourSlicer, Use, oneOp, slice, usesSay, usesLeave}
-use Rattle.marks.specs.Larger.{SlicesTakeNothing}
+use Rattle.marks.specs.Larger.{newHears, newLeaves, callsBeforeFull, LosesNothingBySlices}
 use Rattle.marks.specs.Packed.{AreBytes}
 use Rattle.marks.specs.Encoders.{Caller, ourEncoder, callsOf}
 use Rattle.marks.specs.Events.{Reader, Numbers, ourReader, saysAt}
@@ -293,11 +293,23 @@ abbrev pub JobsOfBytes : List Job → Type 0
 JobsOfBytes [] = Unit {0}
 JobsOfBytes (j ∷ js) = AreBytes (j .payload) × JobsOfBytes js
 
--- mark 2's soundness, and mark 3 with the library's own encode, both by single pushes; what a slice says is what single pushes say (`HearsDecoder`, and `Chunks` of ours). And that a larger buffer takes nothing away, by slices too, whatever each caller lends
+-- what sgh_payload says behind a caller's uses of a new decoder
+abbrev pub askedBy : Library → Setup → LentByCaller → List ℕ → List Use → Reply
+askedBy L C c m us =
+    let x : LeftBehind KeptByCaller = newLeaves (slicerBy L c) C m us in
+    L .payloadLen (x .decoder .bytes) (x .memory)
+
+-- a larger buffer takes nothing away: all calls answer alike, sgh_payload with them
+pub record LosesNothingBy (L : Library) (C D : Setup) (c c′ : LentByCaller) (m n : List ℕ) (us : List Use) : Type 0 where
+  pub by-slices : LosesNothingBySlices (slicerBy L c) (slicerBy L c′) C D m n us
+  pub asked : callsBeforeFull (newHears (slicerBy L c) C m us) ≡ newHears (slicerBy L c) C m us
+      → (askedBy L D c′ n us .number ≡ askedBy L C c m us .number) × (firstAt (askedBy L D c′ n us) 0 ≡ firstAt (askedBy L C c m us) 0)
+
+-- mark 2's soundness, and mark 3 with the library's own encode, both by single pushes; what a slice says is what single pushes say (`HearsDecoder`, and `Chunks` of ours). A larger buffer takes nothing away, whatever each caller lends beside it
 pub record MarksBy (L : Library) : Type 0 where
   pub soundness : (C : Setup) (c : LentByCaller) (m : List ℕ) → CallerBegins C c m
       → (decoderBy L c .payloadOf (decoderBy L c .new C) m ≡ []) × ((os : List Op) (o : Op) → PushesBytes (os ++ o ∷ []) → SoundBehind (decoderBy L c) C m os o)
   pub mark3 : (C : Setup) (c : LentByCaller) (m : List ℕ) → CallerBegins C c m → length m ≡ C .capacity
       → (before : List Op) (j : Job) (js : List Job) → PushesBytes before → JobsOfBytes (j ∷ js) → AllSuit C (j ∷ js) → HeardBehindZeros (decoderBy L c) (encodeBy L) C m before j js
   pub larger : (C D : Setup) (c c′ : LentByCaller) (m n : List ℕ) → CallerBegins C c m → CallerBegins D c′ n → length m ≡ C .capacity → length n ≡ D .capacity → C .way ≡ D .way → C .capacity ≤ D .capacity
-      → (us : List Use) → UsesBytes us → SlicesTakeNothing (slicerBy L c) (slicerBy L c′) C D m n us
+      → (us : List Use) → UsesBytes us → LosesNothingBy L C D c c′ m n us

@@ -21,7 +21,7 @@ use Rattle.marks.specs.Mark2.{Soundness, Completeness, Ready, OurSearch}
 use Rattle.marks.specs.Mark3.{ourEncode, Mark3}
 use Rattle.marks.specs.Hides.{Hides}
 use Rattle.marks.specs.Chunks.{ourSlicer, Chunks}
-use Rattle.marks.specs.Larger.{Larger, LargerBySlices, LargerCutAnyhow}
+use Rattle.marks.specs.Larger.{Larger, LargerBySlices, LargerAsked, LargerCutAnyhow}
 use Rattle.marks.specs.Second.{Begins, SearchesAgain, HearsBehindNoise, ourSeeks, ourBegun}
 use Rattle.marks.specs.Ways.{ourWay, KeepsWay, RefusesUnknown}
 use Rattle.marks.specs.Packed.{ourHost, RoundTrip, Exactly, PacksWhatPushes, PacksInOrder, ActsAlike, SlicesAlike, HandsAlike, Serves, LeavesRefused, LeavesTidy, AnswersAlike}
@@ -64,9 +64,10 @@ pub record Marks : Type 0 where
       Counted C (stateOf (k .decoder) (k .memory)) (sinceFrom [] os (answers ours (ours .new C) m os))
   -- slices, cut anyhow, say what single pushes say
   pub chunks : Chunks ourSlicer
-  -- a larger buffer takes nothing away: of operations, of slices among them, and of bytes that each is given in slices of its own
+  -- a larger buffer takes nothing away: from operations, from slices among them, from the question for a payload behind them, and from bytes that each decoder is given in slices of its own
   pub larger : Larger ours
   pub larger-by-slices : LargerBySlices ourSlicer
+  pub larger-asked : LargerAsked ourSlicer askRecord
   pub larger-cut-anyhow : LargerCutAnyhow ourSlicer
   -- a decoder kept in 28 plain bytes: what is packed comes back, and exactly what packing gives is unpacked; packing answers 4 exactly where a push does, then 5 and 18 in order; each call over the bytes is the call over the record, pushes, finalize and reset also one after another; what is refused changes nothing, and calls leave no unused counts where there were none
   pub round-trips : RoundTrip ourHost
