@@ -4,7 +4,7 @@ which run a decoder by single pushes and one by slices and look at the payload t
 The sentence, of the program's own answers: two decoders of one way get the same operations. Before the operation at which the smaller one answers OutOfMemory first, or to the end, all events are equal, those of finalize and reset with them; so the larger one has no OutOfMemory before then.
 Of that operation and of those behind it nothing is said, and rightly: the run counts how often the larger one hears a payload more there, and how often one less.
 
-Both buffers are zeroed, and what is handed back is looked at where a slice stops; that the content doesn't matter, and that the same is handed back behind every operation, is proved alone.
+Both buffers are zeroed, and what is handed back is looked at where a slice stops and behind finalize and reset; that the content doesn't matter, and that the same is handed back behind every operation, is proved alone.
 
 `python3 tests/test_larger.py N` runs N histories; --all runs 100,000, and inputs of up to five words. The gate's are the first of these.
 """
@@ -17,11 +17,11 @@ from push_rules import ESCAPE, START, answer, crc
 SEED, GATE, ALL, BATCH = 20250912, 500, 100000, 5000
 F = bytes.fromhex("1b1b1b1b01010101123456781b1b1b1b1a00b87b")
 KINDS = "payload", "memory", "escape", "invalid", "discarded", "reset"
-EQUAL, OUT, MORE, FEWER = "with events, all equal", "whose smaller one ran out", "whose larger one then heard more payloads", "whose larger one then heard fewer"
+EQUAL, OUT, LATER, MORE, FEWER = "with events, all equal", "whose smaller one ran out", "and that behind an event", "whose larger one then heard more payloads", "whose larger one then heard fewer"
 faults, commands = [], 0
 
 # way, C, D, operations (S the start sequence, F the bench sheet's first frame), what the smaller one answers, and the larger one if that differs. The last six are not the request's: behind the smaller one's OutOfMemory the larger one may lose a frame that the smaller one hears, in either way;
-# and counts of 8, 16 and 20 bits
+# and capacities on both sides of 2^8, 2^16 and 2^20
 VECTORS = """
 1  7        8        bF                                     20:memory                                               20:payload 12345678
 1  8        8        bF                                     20:payload 12345678
@@ -79,7 +79,7 @@ def compared(way, small, large, text, said):
     held("larger", f"push{'2' * (way == 2)}, {small} and {large}: {text}", *({i: event for i, event in events.items() if i < full} for events in (second, first)))
     heard = [sum(event.startswith("payload") for event in events.values()) for events in (first, second)]
     out = full < float("inf")
-    return [what for what, so in ((EQUAL, first and first == second), (OUT, out), (MORE, out and heard[1] > heard[0]), (FEWER, out and heard[1] < heard[0])) if so]
+    return [what for what, so in ((EQUAL, first and first == second), (OUT, out), (LATER, out and min(first) < full), (MORE, out and heard[1] > heard[0]), (FEWER, out and heard[1] < heard[0])) if so]
 
 
 def joined(words):
@@ -138,6 +138,13 @@ for way, small, large, text, wanted in rows:
     held("vector", f"push, way {way}, {small} {text}", said[way, small, text], wanted[0])
     held("vector", f"push, way {way}, {large} {text}", said[way, large, text], wanted[-1])
     compared(way, small, large, text, said)
+# the request's fake, a decoder of nine bytes that stores seven: the comparison must see it
+fake, seen, before = f"b{F.hex()}", asked([(1, 7, f"b{F.hex()}"), (1, 8, f"b{F.hex()}")]), len(faults)
+compared(1, 8, 9, fake, {(1, 8, fake): seen[1, 8, fake], (1, 9, fake): seen[1, 7, fake]})
+if len(faults) == before:
+    faults.append("a larger buffer that stores one byte less is not seen")
+else:
+    faults.pop()
 short = [list(ws) + ["f"] for n in range(1, 6 if words == ["--all"] else 4) for ws in itertools.product(WORDS, repeat=n)]
 drawn, reached = random.Random(SEED), {"short inputs": collections.Counter(), "histories": collections.Counter()}
 for k in range(0, len(short), BATCH):
@@ -148,9 +155,9 @@ while left > 0:
 
 # a run that reaches too little says little
 for name, seen in reached.items():
-    for what in ("pairs, way 1", "pairs, way 2", *KINDS, EQUAL, OUT, MORE, FEWER, "where the ways differ"):
-        # no short input has a reset, or is long enough to lose a frame
-        least = 0 if histories < GATE or name == "short inputs" and what in ("reset", FEWER) else 3 if what == FEWER else 20
+    for what in ("pairs, way 1", "pairs, way 2", *KINDS, EQUAL, OUT, LATER, MORE, FEWER, "where the ways differ"):
+        # no short input has a reset, and none of up to three words is long enough to lose a frame
+        least = 0 if name == "histories" and histories < GATE or name == "short inputs" and what in ("reset", FEWER) else 3 if what == FEWER else 20
         if seen[what] < least:
             faults.append(f"{name}: {seen[what]} {what}, and {least} are wanted")
 for fault in sorted(faults, key=len)[:5]:
@@ -160,5 +167,5 @@ if faults:
 for name, n in (("short inputs", len(short)), ("histories", histories)):
     seen = reached[name]
     pairs = seen["pairs, way 1"] + seen["pairs, way 2"]
-    print(f"larger, {name}: {n:,}, as the second reading says; {pairs:,} pairs, {seen[EQUAL]:,} {EQUAL}, {seen[OUT]:,} {OUT}, {seen[MORE]:,} {MORE}, {seen[FEWER]:,} {FEWER}")
+    print(f"larger, {name}: {n:,}, as the second reading says; {pairs:,} pairs, {seen[EQUAL]:,} {EQUAL}, {seen[OUT]:,} {OUT}, {seen[LATER]:,} {LATER}, {seen[MORE]:,} {MORE}, {seen[FEWER]:,} {FEWER}")
 print(f"larger: {len(VECTORS)} vectors; {commands:,} commands in all")

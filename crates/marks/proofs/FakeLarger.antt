@@ -3,7 +3,7 @@ use mathlib.Core.Path.{_≡_, refl, ap, sym, _∙_}
 use mathlib.Core.List.{List, [], _∷_, _++_, map}
 use Prim.Native.Nat.{ℕ, _≤_}
 use native.Mathlib.Omega.{arith}
-use lib.ListN.{length, getD, replicate, length-replicate}
+use lib.ListN.{length, take, drop, getD, replicate, length-replicate}
 use Rattle.crc_x25.specs.Crc.{reflect, polynomial, bitStep, bitSteps, byteStep, register, finalXor, crcOf}
 use Rattle.frame.specs.Frame.{startSeq, same}
 use Rattle.search.specs.Search.{greatest, mostMatched}
@@ -13,10 +13,10 @@ use Rattle.decoder.specs.Run.{isFirst, push, finalize, reset, act}
 use Rattle.decoder.specs.declared.Setup.{Setup}
 use Rattle.decoder_slice.specs.Slice.{pushesFrom, sliceRecord}
 use Rattle.marks.specs.Decoders.{ours, answers, leftBehind}
-use Rattle.marks.specs.Chunks.{ourSlicer, bySlices, slice, HeardUse, heardUse, usesSay, usesLeave}
-use Rattle.marks.specs.Larger.{beforeFirst, beforeFull, OwnBuffer, newSays, Larger, LargerBySlices, LargerAsked, cutSays, LargerCutAnyhow}
+use Rattle.marks.specs.Chunks.{ourSlicer, Use, oneOp, slice, HeardUse, heardUse, usesSay, usesLeave}
+use Rattle.marks.specs.Larger.{beforeFirst, beforeFull, OwnBuffer, newSays, Larger, LargerBySlices, LargerAsked, doneIn, saidIn, newSaysEach, LargerCutAnyhow}
 use Rattle.marks.specs.Bench.{payload1, frame1}
-use Rattle.marks.specs.FakeLarger.{storesLess, secondStoresLess, largerHandsNothing, handsTheBuffer, countsRoom, hesitates, looksAhead, deniesLarger, ForAnyTwo, AcrossWays, withFull, FullAnswerToo, payloadsAmong, HearsAsMany, FallLarger}
+use Rattle.marks.specs.FakeLarger.{storesLess, secondStoresLess, largerHandsNothing, handsTheBuffer, resetCountsRoom, finalizeCountsRoom, hesitates, looksAhead, deniesLarger, ForAnyTwo, AcrossWays, withFull, FullAnswerToo, payloadsAmong, HearsAsMany, FallLarger}
 use Rattle.marks.specs.Fakes.{lastOf, swallows}
 use Rattle.marks.proofs.Fakes.{answerCode, codeAt}
 
@@ -62,10 +62,14 @@ stores-less-slices h =
     let z : _≡_ {A = ℕ} 0 1 = ap length (h (sized 8) (sized 9) (zeroed 8) (zeroed 9) own8 own9 refl (omega arith) (slice frame1 ∷ []) .says) in
     omega arith
 
+-- B1's frame in one slice, and in two
+inTwo : List Use
+inTwo = slice (take 8 frame1) ∷ slice (drop 8 frame1) ∷ []
+
 stores-less-cut : LargerCutAnyhow storesLess → ⊥
-unfolding answers leftBehind bySlices pushesFrom sliceRecord beforeFirst reflect polynomial bitStep bitSteps byteStep register finalXor crcOf searching store same finish judge step wrote badDecoder wrongBuffer pushed pushRecord act
+unfolding inTwo doneIn saidIn usesSay pushesFrom sliceRecord beforeFirst reflect polynomial bitStep bitSteps byteStep register finalXor crcOf searching store same finish judge step wrote badDecoder wrongBuffer pushed pushRecord
 stores-less-cut h =
-    let z : _≡_ {A = ℕ} 19 20 = ap length (h (sized 8) (sized 9) (zeroed 8) (zeroed 9) own8 own9 (isFirst refl) refl (omega arith) [] frame1 (20 ∷ []) (8 ∷ 12 ∷ []) refl refl .says) in
+    let z : _≡_ {A = ℕ} 19 20 = ap length (h (sized 8) (sized 9) (zeroed 8) (zeroed 9) own8 own9 (isFirst refl) refl (omega arith) (slice frame1 ∷ []) inTwo refl .says) in
     omega arith
 
 second-stores-less : Larger secondStoresLess → ⊥
@@ -88,11 +92,11 @@ larger-hands-nothing-slices h =
     omega arith
 
 larger-hands-nothing-cut : LargerCutAnyhow largerHandsNothing → ⊥
-unfolding answers leftBehind bySlices pushesFrom sliceRecord beforeFirst reflect polynomial bitStep bitSteps byteStep register finalXor crcOf searching store same finish judge step wrote badDecoder wrongBuffer pushed pushRecord hasPayload payloadRecord
+unfolding inTwo doneIn saidIn usesSay usesLeave pushesFrom sliceRecord beforeFirst reflect polynomial bitStep bitSteps byteStep register finalXor crcOf searching store same finish judge step wrote badDecoder wrongBuffer pushed pushRecord hasPayload payloadRecord
 larger-hands-nothing-cut h =
-    let e : cutSays largerHandsNothing (sized 8) (zeroed 8) [] frame1 (20 ∷ []) ≡ replicate 19 nothing ++ payload payload1 ∷ [] = refl in
+    let e : newSaysEach largerHandsNothing (sized 8) (zeroed 8) (slice frame1 ∷ []) ≡ replicate 19 nothing ++ payload payload1 ∷ [] = refl in
     let none : beforeFull (replicate 19 nothing ++ payload payload1 ∷ []) ≡ replicate 19 nothing ++ payload payload1 ∷ [] = refl in
-    let z : _≡_ {A = ℕ} 0 4 = ap length (h (sized 8) (sized 9) (zeroed 8) (zeroed 9) own8 own9 (isFirst refl) refl (omega arith) [] frame1 (20 ∷ []) (8 ∷ 12 ∷ []) refl refl .hands (ap beforeFull e ∙ none ∙ sym e)) in
+    let z : _≡_ {A = ℕ} 0 4 = ap length (h (sized 8) (sized 9) (zeroed 8) (zeroed 9) own8 own9 (isFirst refl) refl (omega arith) (slice frame1 ∷ []) inTwo refl .hands (ap beforeFull e ∙ none ∙ sym e)) in
     omega arith
 
 denies-larger : LargerAsked ourSlicer deniesLarger → ⊥
@@ -110,15 +114,15 @@ hands-the-buffer h =
     omega arith
 
 -- a reset of new decoders, and finalize behind a zero byte
-counts-room-reset : Larger countsRoom → ⊥
+reset-counts-room : Larger resetCountsRoom → ⊥
 unfolding codeAt answerCode answers beforeFirst act resetRecord resetCount
-counts-room-reset h =
+reset-counts-room h =
     let z : _≡_ {A = ℕ} 2009 2008 = ap (codeAt 0) (h (sized 8) (sized 9) (zeroed 8) (zeroed 9) own8 own9 refl (omega arith) (reset ∷ []) .says) in
     omega arith
 
-counts-room-finalize : Larger countsRoom → ⊥
+finalize-counts-room : Larger finalizeCountsRoom → ⊥
 unfolding codeAt answerCode answers beforeFirst searching same step finalized wrote badDecoder wrongBuffer pushed pushRecord finalizeRecord act
-counts-room-finalize h =
+finalize-counts-room h =
     let z : _≡_ {A = ℕ} 3010 3009 = ap (codeAt 1) (h (sized 8) (sized 9) (zeroed 8) (zeroed 9) own8 own9 refl (omega arith) (push 0x00 ∷ finalize ∷ []) .says) in
     omega arith
 
@@ -138,9 +142,9 @@ looks-ahead-slices h =
 
 -- B1's frame and a byte, of two decoders of eight bytes: by single bytes the payload is the twentieth answer, in one slice it is not heard
 swallows-cut : LargerCutAnyhow swallows → ⊥
-unfolding codeAt answerCode answers leftBehind bySlices lastOf beforeFirst reflect polynomial bitStep bitSteps byteStep register finalXor crcOf searching store same finish judge step wrote badDecoder wrongBuffer pushed pushRecord act
+unfolding codeAt answerCode doneIn saidIn usesSay lastOf beforeFirst reflect polynomial bitStep bitSteps byteStep register finalXor crcOf searching store same finish judge step wrote badDecoder wrongBuffer pushed pushRecord act
 swallows-cut h =
-    let z : _≡_ {A = ℕ} 0 1018 = ap (codeAt 19) (h (sized 8) (sized 8) (zeroed 8) (zeroed 8) own8 own8 (isFirst refl) refl (omega arith) [] (frame1 ++ 0x00 ∷ []) (replicate 21 1) (21 ∷ []) refl refl .says) in
+    let z : _≡_ {A = ℕ} 0 1018 = ap (codeAt 19) (h (sized 8) (sized 8) (zeroed 8) (zeroed 8) own8 own8 (isFirst refl) refl (omega arith) (map oneOp (map push (frame1 ++ 0x00 ∷ []))) (slice (frame1 ++ 0x00 ∷ []) ∷ []) refl .says) in
     omega arith
 
 -- ---- claims
@@ -151,11 +155,11 @@ for-any-two h =
     let z : _≡_ {A = ℕ} 19 20 = ap length (h (sized 8) (sized 7) (zeroed 8) (zeroed 7) own8 own7 refl (map push frame1) .says) in
     omega arith
 
--- a stray 1b before B1's frame: in the second way its ninth byte tells it
+-- a stray 1b before B1's frame: the second way hears it, the first doesn't
 across-ways : AcrossWays ours → ⊥
-unfolding codeAt answerCode answers beforeFirst reflect polynomial bitStep bitSteps byteStep register finalXor crcOf mostMatched greatest searching store same finish judge step wrote badDecoder wrongBuffer pushed pushRecord act
+unfolding codeAt answerCode answers beforeFirst mostMatched greatest reflect polynomial bitStep bitSteps byteStep register finalXor crcOf searching store same finish judge step wrote badDecoder wrongBuffer pushed pushRecord act
 across-ways h =
-    let z : _≡_ {A = ℕ} 3001 0 = ap (codeAt 8) (h (sized 8) (inWay secondWay 8) (zeroed 8) (zeroed 8) own8 (own (inWay secondWay 8) (omega arith)) (omega arith) (map push (0x1b ∷ frame1)) .says) in
+    let z : _≡_ {A = ℕ} 0 1018 = ap (codeAt 20) (h (inWay secondWay 8) (sized 8) (zeroed 8) (zeroed 8) (own (inWay secondWay 8) (omega arith)) own8 (omega arith) (map push (0x1b ∷ frame1)) .says) in
     omega arith
 
 -- at B1's last byte the smaller one is full, the larger one has the payload
@@ -188,8 +192,8 @@ fall-larger =
       larger-hands-nothing-slices = larger-hands-nothing-slices;
       larger-hands-nothing-cut = larger-hands-nothing-cut;
       hands-the-buffer = hands-the-buffer;
-      counts-room-reset = counts-room-reset;
-      counts-room-finalize = counts-room-finalize;
+      reset-counts-room = reset-counts-room;
+      finalize-counts-room = finalize-counts-room;
       hesitates-slices = hesitates-slices;
       looks-ahead-slices = looks-ahead-slices;
       denies-larger = denies-larger;

@@ -1,10 +1,11 @@
 -- A larger buffer takes nothing away: two decoders of one way and in one state of the push rules stay so, up to the smaller one's first 3.
-use mathlib.Core.Path.{_≡_, refl, ap, ap₂, sym, _∙_}
+use mathlib.Core.Path.{_≡_, refl, ap, ap₂, sym, subst, _∙_}
 use mathlib.Core.Bool.{Bool, true, true≢false}
 use mathlib.Core.List.{List, [], _∷_, _++_, append-nil, map, nil≢cons, tail-eq-of-cons-eq}
 use Prim.Native.Nat.{ℕ, suc, _≤_}
 use native.Mathlib.Omega.{arith}
-use lib.ListN.{length, getD}
+use lib.ListN.{length, take, drop, getD, length-append, take-append-drop}
+use lib.Seq.{take-length, take-append-seam}
 use Rattle.decoder.specs.Push.{State, Out}
 use Rattle.decoder.specs.Record.{DecoderAnswer, nothing, refusal, setup, stateOf, newRecord, unknownWay, pushRecord, resetRecord, hasPayload, payloadRecord, askRecord, numbered}
 use Rattle.decoder.specs.Run.{KnownWay, Op, push, finalize, reset, act}
@@ -19,8 +20,8 @@ use Rattle.decoder.proofs.Search.{known-is}
 use Rattle.decoder_slice.specs.Slice.{Took, saysNothing, pushesFrom, sliceRecord}
 use Rattle.decoder_slice.proofs.Taken.{slice-bad, slice-pushes, taken-from}
 use Rattle.marks.specs.Decoders.{Gave, LeftBehind, ours, answers, leftBehind}
-use Rattle.marks.specs.Chunks.{Slicer, ourSlicer, SlicesSay, Chunks, Use, oneOp, slice, HeardUse, heardUse, usesSay, usesLeave}
-use Rattle.marks.specs.Larger.{isFull, beforeFirst, BeginsWith, OwnBuffer, newSays, newHands, Larger, isFullCall, LargerBySlices, LargerAsked, newCut, cutSays, LargerCutAnyhow}
+use Rattle.marks.specs.Chunks.{GaveSlice, Slicer, ourSlicer, eachByte, bySlices, Chunks, Use, oneOp, slice, HeardUse, heardUse, usesSay, usesLeave}
+use Rattle.marks.specs.Larger.{isFull, beforeFirst, BeginsWith, OwnBuffer, newHands, Larger, isFullCall, LargerBySlices, LargerAsked, doneIn, saidIn, newDoes, LargerCutAnyhow}
 use Rattle.marks.proofs.Chunks.{answers-join, left-join, chunks}
 use Rattle.marks.proofs.Less.{step-less}
 use Rattle.marks.proofs.Ways.{unknown-bad, refuses-unknown, unknown-asked}
@@ -189,37 +190,76 @@ larger-by-slices C D m n p q w le us =
 pub larger-asked : LargerAsked ourSlicer askRecord
 larger-asked C D m n p q w le us none = two-ask (to-the-end isFullCall (goes-by-slices us _ _ _ _ (two-new C D m n p q w le)) none)
 
--- ---- bytes that are cut anyhow, of any decoder of which `Chunks` and `Larger` hold
+-- ---- slices that are cut anyhow, of any decoder of which `Chunks` and `Larger` hold
+
+same-heads : (a b c : List ℕ) → a ++ c ≡ b ++ c → a ≡ b
+same-heads a b c e =
+    let n : length a ≡ length b = omega (arith, ap length e, length-append a c, length-append b c) in
+    sym (take-append-seam a c) ∙ ap (take (length a)) e ∙ ap (λ (k : ℕ). take k (b ++ c)) n ∙ take-append-seam b c
+
+module _ {S : Type 0} (M : Slicer S) (c : Chunks M) (C : Setup) (m : List ℕ) (p : OwnBuffer C m) (w : KnownWay (C .way)) where
+  abbrev kept : List Op → LeftBehind S
+  kept before = leftBehind (M .machine) (M .machine .new C) m before
+
+  -- a slice is heard as the bytes that it took pushed one by one, and leaves what those leave
+  record OneSlice (before : List Op) (chunk : List ℕ) (t : GaveSlice S) : Type 0 where
+    hears : eachByte (t .taken) (t .answer) ≡ answers (M .machine) (kept before .decoder) (kept before .memory) (map push (take (t .taken) chunk))
+    leaves : record { decoder = t .decoder; memory = t .memory } ≡ kept (before ++ map push (take (t .taken) chunk))
+
+  one-part : (before : List Op) (chunk : List ℕ) (n : ℕ) → OneSlice before chunk (M .pushSlice (kept before .decoder) (kept before .memory) (take n chunk))
+  unfolding bySlices
+  one-part before chunk n =
+      let s = c C m w (p .long) (p .within) before chunk (n ∷ []) in
+      let t = M .pushSlice (kept before .decoder) (kept before .memory) (take n chunk) in
+      let g : s .took ≡ take (t .taken) chunk = same-heads (s .took) (take (t .taken) chunk) (drop (t .taken) chunk) (s .parts ∙ sym (take-append-drop (t .taken) chunk)) in
+      record {
+        hears = sym (append-nil (eachByte (t .taken) (t .answer))) ∙ (rw g at (s .same-answers));
+        leaves = (rw g at (s .same-kept)) ∙ sym (left-join (M .machine) before (map push (take (t .taken) chunk)) (M .machine .new C) m);
+      }
+
+  one-slice : (before : List Op) (chunk : List ℕ) → OneSlice before chunk (M .pushSlice (kept before .decoder) (kept before .memory) chunk)
+  one-slice before chunk = subst (λ (l : List ℕ). OneSlice before chunk (M .pushSlice (kept before .decoder) (kept before .memory) l)) (take-length chunk) (one-part before chunk (length chunk))
+
+  record OneByOne (before : List Op) (us : List Use) (hs : List HeardUse) (k : LeftBehind S) : Type 0 where
+    hears : saidIn us hs ≡ answers (M .machine) (kept before .decoder) (kept before .memory) (doneIn us hs)
+    leaves : k ≡ leftBehind (M .machine) (kept before .decoder) (kept before .memory) (doneIn us hs)
+
+  one-by-one : (us : List Use) (before : List Op) → OneByOne before us (usesSay M (kept before .decoder) (kept before .memory) us) (usesLeave M (kept before .decoder) (kept before .memory) us)
+  unfolding usesSay usesLeave doneIn saidIn answers leftBehind
+  one-by-one [] before = record { hears = refl; leaves = refl }
+  one-by-one (oneOp o ∷ us) before =
+      let a = M .machine .act (kept before .decoder) (kept before .memory) o in
+      let e : kept (before ++ o ∷ []) ≡ record { decoder = a .decoder; memory = a .memory } = left-join (M .machine) before (o ∷ []) (M .machine .new C) m in
+      let i = one-by-one us (before ++ o ∷ []) in
+      record { hears = ap (λ (l : List DecoderAnswer). a .answer ∷ l) (rw e at (i .hears)); leaves = rw e at (i .leaves) }
+  one-by-one (slice chunk ∷ us) before =
+      let k : LeftBehind S = kept before in
+      let t = M .pushSlice (k .decoder) (k .memory) chunk in
+      let l : List Op = map push (take (t .taken) chunk) in
+      let s = one-slice before chunk in
+      let i = one-by-one us (before ++ l) in
+      let e : leftBehind (M .machine) (k .decoder) (k .memory) l ≡ record { decoder = t .decoder; memory = t .memory } = sym (left-join (M .machine) before l (M .machine .new C) m) ∙ sym (s .leaves) in
+      let X : List Op = doneIn us (usesSay M (t .decoder) (t .memory) us) in
+      record {
+        hears = ap (λ (x : List DecoderAnswer). eachByte (t .taken) (t .answer) ++ x) (rw (← s .leaves) at (i .hears))
+            ∙ ap (λ (x : List DecoderAnswer). x ++ answers (M .machine) (t .decoder) (t .memory) X) (s .hears)
+            ∙ sym (answers-join (M .machine) l X (k .decoder) (k .memory) ∙ ap (λ (q : LeftBehind S). answers (M .machine) (k .decoder) (k .memory) l ++ answers (M .machine) (q .decoder) (q .memory) X) e);
+        leaves = (rw (← s .leaves) at (i .leaves)) ∙ sym (left-join (M .machine) l X (k .decoder) (k .memory) ∙ ap (λ (q : LeftBehind S). leftBehind (M .machine) (q .decoder) (q .memory) X) e);
+      }
 
 module _ {S : Type 0} (M : Slicer S) (c : Chunks M) where
-  -- where slices take all the bytes, they are heard as those pushed one by one, and leave what those leave
-  module _ (C : Setup) (m : List ℕ) (before : List Op) (bytes cuts : List ℕ) (p : OwnBuffer C m) (w : KnownWay (C .way)) (all : newCut M C m before bytes cuts .left′ ≡ []) where
-    abbrev behindNew : LeftBehind S
-    behindNew = leftBehind (M .machine) (M .machine .new C) m before
-
-    says-cut : SlicesSay M (behindNew .decoder) (behindNew .memory) bytes cuts (newCut M C m before bytes cuts)
-    says-cut = c C m w (p .long) (p .within) before bytes cuts
-
-    took-all : says-cut .took ≡ bytes
-    took-all = sym (append-nil (says-cut .took)) ∙ ap (λ (l : List ℕ). says-cut .took ++ l) (sym all) ∙ says-cut .parts
-
-    heard-cut : cutSays M C m before bytes cuts ≡ newSays (M .machine) C m (before ++ map push bytes)
-    heard-cut =
-        ap (λ (l : List DecoderAnswer). newSays (M .machine) C m before ++ l) (says-cut .same-answers ∙ ap (λ (l : List ℕ). answers (M .machine) (behindNew .decoder) (behindNew .memory) (map push l)) took-all)
-        ∙ sym (answers-join (M .machine) before (map push bytes) (M .machine .new C) m)
-
-    hands-cut : M .machine .payloadOf (newCut M C m before bytes cuts .decoder) (newCut M C m before bytes cuts .memory) ≡ newHands (M .machine) C m (before ++ map push bytes)
-    hands-cut =
-        ap (λ (k : LeftBehind S). M .machine .payloadOf (k .decoder) (k .memory))
-        (says-cut .same-kept ∙ ap (λ (l : List ℕ). leftBehind (M .machine) (behindNew .decoder) (behindNew .memory) (map push l)) took-all ∙ sym (left-join (M .machine) before (map push bytes) (M .machine .new C) m))
+  abbrev handed : LeftBehind S → List ℕ
+  handed k = M .machine .payloadOf (k .decoder) (k .memory)
 
   pub cut-anyhow : Larger (M .machine) → LargerCutAnyhow M
-  cut-anyhow h C D m n p q w e le before bytes cuts cuts′ all all′ =
-      let v : KnownWay (D .way) = rw (← e) w in
-      let g = h C D m n p q e le (before ++ map push bytes) in
+  unfolding leftBehind
+  cut-anyhow h C D m n p q w e le us us′ done =
+      let a = one-by-one M c C m p w us [] in
+      let b = one-by-one M c D n q (rw (← e) w) us′ [] in
+      let g = h C D m n p q e le (newDoes M C m us) in
       record {
-        says = rw (heard-cut C m before bytes cuts p w all, heard-cut D n before bytes cuts′ q v all′) (g .says);
-        hands = λ none. hands-cut D n before bytes cuts′ q v all′ ∙ g .hands (rw (heard-cut C m before bytes cuts p w all) at none) ∙ sym (hands-cut C m before bytes cuts p w all);
+        says = rw (a .hears, b .hears, ← done) (g .says);
+        hands = λ none. ap handed (b .leaves) ∙ ap (newHands (M .machine) D n) (sym done) ∙ g .hands (rw (a .hears) at none) ∙ sym (ap handed (a .leaves));
       }
 
 pub larger-cut-anyhow : LargerCutAnyhow ourSlicer

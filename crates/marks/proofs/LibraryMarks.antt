@@ -21,13 +21,13 @@ use Rattle.marks.specs.Decoders.{Machine, ours, answers, behindOf, LeftB
 use Rattle.marks.specs.Mark2.{PushesBytes, SoundBehind}
 use Rattle.marks.specs.Mark3.{ourEncode, Job, AllSuit, part, wroteFor, framesFor, restSays, HeardBehindZeros}
 use Rattle.marks.specs.Chunks.{ourSlicer, Use}
-use Rattle.marks.specs.Larger.{OwnBuffer}
-use Rattle.marks.specs.Library.{Library, LentByCaller, KeptByCaller, decoderBy, slicerBy, UsesBytes, CallerBegins, encodeBy, HearsOurs, JobsOfBytes, LosesNothingBy, MarksBy}
+use Rattle.marks.specs.Larger.{OwnBuffer, newDoes, LosesNothingCut}
+use Rattle.marks.specs.Library.{Library, LentByCaller, KeptByCaller, decoderBy, slicerBy, UsesBytes, CallerBegins, CallersBegin, encodeBy, HearsOurs, JobsOfBytes, LosesNothingBy, MarksBy}
 use Rattle.marks.proofs.Narrow.{bytes-join, bytes-run, bytes-at, bytes-all, start-bytes}
 use Rattle.marks.proofs.Packed.{singly, singly-bytes, singly-leaves, singly-answers}
 use Rattle.marks.proofs.Soundness.{soundness}
 use Rattle.marks.proofs.Recovery.{wrote-is, mark3}
-use Rattle.marks.proofs.Larger.{larger-by-slices, larger-asked}
+use Rattle.marks.proofs.Larger.{larger-by-slices, larger-asked, larger-cut-anyhow}
 use Rattle.marks.proofs.Library.{end-bytes}
 
 -- ---- operations that push bytes
@@ -171,15 +171,18 @@ module _ (L : Library) (h : HearsOurs L) where
 
 -- ---- a larger buffer
 
-module _ (L : Library) (h : HearsOurs L) where
-  larger-by : (C D : Setup) (c c′ : LentByCaller) (m n : List ℕ) → CallerBegins C c m → CallerBegins D c′ n → length m ≡ C .capacity → length n ≡ D .capacity → C .way ≡ D .way → C .capacity ≤ D .capacity
-      → (us : List Use) → UsesBytes us → LosesNothingBy L C D c c′ m n us
-  larger-by C D c c′ m n g g′ long long′ w le us b =
-      let x = h .decoder C c m us g b in
-      let y = h .decoder D c′ n us g′ b in
-      let p : OwnBuffer C m = record { long = long; within = g .capacity } in
-      let q : OwnBuffer D n = record { long = long′; within = g′ .capacity } in
-      let s = larger-by-slices C D m n p q w le us in
+module _ (L : Library) (h : HearsOurs L) (C D : Setup) (c c′ : LentByCaller) (m n : List ℕ) (g : CallersBegin C D c c′ m n) where
+  own-smaller : OwnBuffer C m
+  own-smaller = record { long = g .long; within = g .smaller .capacity }
+
+  own-larger : OwnBuffer D n
+  own-larger = record { long = g .long′; within = g .larger .capacity }
+
+  larger-by : (us : List Use) → UsesBytes us → LosesNothingBy L C D c c′ m n us
+  larger-by us b =
+      let x = h .decoder C c m us (g .smaller) b in
+      let y = h .decoder D c′ n us (g .larger) b in
+      let s = larger-by-slices C D m n own-smaller own-larger (g .ways) (g .sizes) us in
       record {
         by-slices = record {
           says = rw (x .0, y .0) (s .says);
@@ -187,10 +190,17 @@ module _ (L : Library) (h : HearsOurs L) where
           hands = λ none. y .2 .bytes′ ∙ s .hands (rw (x .0) at none) ∙ sym (x .2 .bytes′);
         };
         asked = λ none. (
-          y .2 .number′ ∙ ap answerNo (larger-asked C D m n p q w le us (rw (x .0) at none)) ∙ sym (x .2 .number′),
+          y .2 .number′ ∙ ap answerNo (larger-asked C D m n own-smaller own-larger (g .ways) (g .sizes) us (rw (x .0) at none)) ∙ sym (x .2 .number′),
           y .2 .length′ ∙ ap length (s .hands (rw (x .0) at none)) ∙ sym (x .2 .length′),
         );
       }
 
+  larger-cut-by : (us us′ : List Use) → UsesBytes us → UsesBytes us′ → newDoes (slicerBy L c) C m us ≡ newDoes (slicerBy L c′) D n us′ → LosesNothingCut (slicerBy L c) (slicerBy L c′) C D m n us us′
+  larger-cut-by us us′ b b′ done =
+      let x = h .decoder C c m us (g .smaller) b in
+      let y = h .decoder D c′ n us′ (g .larger) b′ in
+      let s = larger-cut-anyhow C D m n own-smaller own-larger (g .smaller .way) (g .ways) (g .sizes) us us′ (rw (x .0, y .0) at done) in
+      record { says = rw (x .0, y .0) (s .says); hands = λ none. y .2 .bytes′ ∙ s .hands (rw (x .0) at none) ∙ sym (x .2 .bytes′) }
+
 pub marks-by : (L : Library) → HearsOurs L → MarksBy L
-marks-by L h = record { soundness = λ C c m g. (new-empty L h C c m g, sound-behind L h C c m g); mark3 = mark3-by L h; larger = larger-by L h }
+marks-by L h = record { soundness = λ C c m g. (new-empty L h C c m g, sound-behind L h C c m g); mark3 = mark3-by L h; larger = larger-by L h; larger-cut = larger-cut-by L h }

@@ -17,7 +17,7 @@ use Rattle.marks.specs.FakeHosts.{unpacksNothing, packsConstants, packsA
 use Rattle.marks.proofs.Fakes.{not-ours, fall}
 use Rattle.marks.specs.Library.{HearsNew, HearsDecoder, HearsEncode, HearsEncoder, HearsReader}
 use Rattle.marks.specs.FakeLibraries.{deniesNew, keepsValues, handsBuffer, paysAlways, leavesLast, forgetsSlice, encodesNothing, forgetsCount, losesPlace, losesSign, losesKind}
-use Rattle.marks.specs.FakeLarger.{storesLess, secondStoresLess, largerHandsNothing, handsTheBuffer, countsRoom, hesitates, looksAhead, deniesLarger, ForAnyTwo, AcrossWays, FullAnswerToo, HearsAsMany}
+use Rattle.marks.specs.FakeLarger.{storesLess, secondStoresLess, largerHandsNothing, handsTheBuffer, resetCountsRoom, finalizeCountsRoom, hesitates, looksAhead, deniesLarger, ForAnyTwo, AcrossWays, FullAnswerToo, HearsAsMany}
 use Rattle.marks.proofs.FakeHosts.{fall-hosts}
 use Rattle.marks.proofs.FakeLarger.{fall-larger}
 use Rattle.marks.proofs.FakeLibraries.{fall-libraries}
@@ -178,8 +178,11 @@ fake-larger-buffer-hands-nothing = fall-larger .larger-hands-nothing
 fake-buffer-handed-back : Larger handsTheBuffer → ⊥
 fake-buffer-handed-back = fall-larger .hands-the-buffer
 
-fake-room-is-counted : Larger countsRoom → ⊥
-fake-room-is-counted = fall-larger .counts-room-reset
+fake-reset-counts-the-room : Larger resetCountsRoom → ⊥
+fake-reset-counts-the-room = fall-larger .reset-counts-room
+
+fake-finalize-counts-the-room : Larger finalizeCountsRoom → ⊥
+fake-finalize-counts-the-room = fall-larger .finalize-counts-room
 
 fake-larger-buffer-takes-single-bytes : LargerBySlices hesitates → ⊥
 fake-larger-buffer-takes-single-bytes = fall-larger .hesitates-slices

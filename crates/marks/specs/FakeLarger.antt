@@ -8,10 +8,10 @@ use lib.Dec.{eqb, ltb}
 use Rattle.refusals.specs.Numbers.{decoderOutOfMemoryNo, badSpanNo}
 use Rattle.decoder.specs.Push.{secondWay, sized, inWay}
 use Rattle.decoder.specs.Record.{DecoderAnswer, nothing, payload, count, refusal, hasPayload, askRecord}
-use Rattle.decoder.specs.Run.{Op, push}
+use Rattle.decoder.specs.Run.{Op, push, finalize, reset}
 use Rattle.decoder.specs.declared.Decoder.{Decoder}
 use Rattle.decoder.specs.declared.Setup.{Setup}
-use Rattle.marks.specs.Decoders.{Machine, ours}
+use Rattle.marks.specs.Decoders.{Gave, Machine, ours}
 use Rattle.marks.specs.Chunks.{GaveSlice, Slicer, ourSlicer}
 use Rattle.marks.specs.Larger.{isFull, beforeFull, BeginsWith, OwnBuffer, newSays, LosesNothing, Larger, LargerBySlices, LargerAsked, LargerCutAnyhow}
 use Rattle.marks.specs.Bench.{payload1, frame1}
@@ -21,7 +21,7 @@ use Rattle.marks.specs.Fakes.{swallows}
 
 -- of a buffer of more than eight bytes seven are used, one less than of a buffer of eight
 abbrev pub usedOf : ℕ → ℕ
-usedOf n = cond (ltb 8 n) 7 n
+usedOf size = cond (ltb 8 size) 7 size
 
 -- the larger buffer stores one byte less; the bytes of the buffer behind those that are used stay
 abbrev pub storesLess : Slicer Decoder
@@ -47,25 +47,34 @@ largerHandsNothing =
       pushSlice = ourSlicer .pushSlice;
     }
 
--- what it answers: n more than reset's number, and than DiscardedBytes', the one refusal with one number
+-- what it answers: so many more at reset's count, and at a refusal with one number, which only DiscardedBytes has
 abbrev pub countedUp : ℕ → DecoderAnswer → DecoderAnswer
-countedUp n nothing = nothing
-countedUp n (payload bytes) = payload bytes
-countedUp n (count k) = count (n + k)
-countedUp n (refusal k []) = refusal k []
-countedUp n (refusal k (v ∷ [])) = refusal k ((n + v) ∷ [])
-countedUp n (refusal k (v ∷ more ∷ values)) = refusal k (v ∷ more ∷ values)
+countedUp extra nothing = nothing
+countedUp extra (payload bytes) = payload bytes
+countedUp extra (count k) = count (extra + k)
+countedUp extra (refusal k []) = refusal k []
+countedUp extra (refusal k (v ∷ [])) = refusal k ((extra + v) ∷ [])
+countedUp extra (refusal k (v ∷ more ∷ values)) = refusal k (v ∷ more ∷ values)
 
--- ours, but the bytes of its buffer are counted, too
-abbrev pub countsRoom : Machine Decoder
-countsRoom =
-    record {
-      new = ours .new;
-      act = λ d m o.
-          let a = ours .act d m o in
-          record { answer = countedUp (length m) (a .answer); decoder = a .decoder; memory = a .memory };
-      payloadOf = ours .payloadOf;
-    }
+abbrev pub withRoom : Gave Decoder → List ℕ → Gave Decoder
+withRoom a m = record { answer = countedUp (length m) (a .answer); decoder = a .decoder; memory = a .memory }
+
+abbrev pub roomAtReset : Decoder → List ℕ → Op → Gave Decoder
+roomAtReset d m (push b) = ours .act d m (push b)
+roomAtReset d m finalize = ours .act d m finalize
+roomAtReset d m reset = withRoom (ours .act d m reset) m
+
+abbrev pub roomAtFinalize : Decoder → List ℕ → Op → Gave Decoder
+roomAtFinalize d m (push b) = ours .act d m (push b)
+roomAtFinalize d m finalize = withRoom (ours .act d m finalize) m
+roomAtFinalize d m reset = ours .act d m reset
+
+-- ours, but reset counts the bytes of the buffer, too; and one whose finalize does
+abbrev pub resetCountsRoom : Machine Decoder
+resetCountsRoom = record { new = ours .new; act = roomAtReset; payloadOf = ours .payloadOf }
+
+abbrev pub finalizeCountsRoom : Machine Decoder
+finalizeCountsRoom = record { new = ours .new; act = roomAtFinalize; payloadOf = ours .payloadOf }
 
 -- right in the first way; in the second the larger buffer stores one byte less
 abbrev pub secondStoresLess : Machine Decoder
@@ -122,7 +131,7 @@ payloadsAmong (refusal k values ∷ more) = payloadsAmong more
 abbrev pub HearsAsMany : {S : Type 0} → Machine S → Type 0
 HearsAsMany M = (C D : Setup) (m n : List ℕ) → OwnBuffer C m → OwnBuffer D n → C .way ≡ D .way → C .capacity ≤ D .capacity → (os : List Op) → payloadsAmong (newSays M C m os) ≤ payloadsAmong (newSays M D n os)
 
--- each of the fakes falls, by slices too where it takes them otherwise, and each of these claims is false of ours. B1's frame with seven bytes of room: nothing before its last byte, which is OutOfMemory; with eight, its payload there
+-- each of the fakes falls, and by slices too where they are given, and each of these claims is false of ours. B1's frame with seven bytes of room: nothing before its last byte, which is OutOfMemory; with eight, its payload there
 pub record FallLarger : Type 0 where
   pub seven-say : beforeFull (newSays ours (sized 7) (replicate 7 0x00) (map push frame1)) ≡ replicate 19 nothing
   pub eight-say : beforeFull (newSays ours (sized 8) (replicate 8 0x00) (map push frame1)) ≡ replicate 19 nothing ++ payload payload1 ∷ []
@@ -134,8 +143,8 @@ pub record FallLarger : Type 0 where
   pub larger-hands-nothing-slices : LargerBySlices largerHandsNothing → ⊥
   pub larger-hands-nothing-cut : LargerCutAnyhow largerHandsNothing → ⊥
   pub hands-the-buffer : Larger handsTheBuffer → ⊥
-  pub counts-room-reset : Larger countsRoom → ⊥
-  pub counts-room-finalize : Larger countsRoom → ⊥
+  pub reset-counts-room : Larger resetCountsRoom → ⊥
+  pub finalize-counts-room : Larger finalizeCountsRoom → ⊥
   pub hesitates-slices : LargerBySlices hesitates → ⊥
   pub looks-ahead-slices : LargerBySlices looksAhead → ⊥
   pub denies-larger : LargerAsked ourSlicer deniesLarger → ⊥
