@@ -20,7 +20,7 @@ KINDS = "payload", "memory", "escape", "invalid", "discarded", "reset"
 EQUAL, OUT, LATER, MORE, FEWER = "with events, all equal", "whose smaller one ran out", "and that behind an event", "whose larger one then heard more payloads", "whose larger one then heard fewer"
 faults, commands = [], 0
 
-# way, C, D, operations (S the start sequence, F the bench sheet's first frame), what the smaller one answers, and the larger one if that differs. The last six are not the request's: behind the smaller one's OutOfMemory the larger one may lose a frame that the smaller one hears, in either way;
+# way, C, D, operations (S the start sequence, F the bench sheet's first frame), what the smaller one answers, and the larger one if that differs. The last eight are not the request's: behind the smaller one's OutOfMemory the larger one may lose a frame that the smaller one hears, in either way;
 # and capacities on both sides of 2^8, 2^16 and 2^20
 VECTORS = """
 1  7        8        bF                                     20:memory                                               20:payload 12345678
@@ -38,6 +38,8 @@ VECTORS = """
 1  3        8        bSS,bF                                 16:memory;28:memory                                     16:discarded 8;24:discarded 8;36:payload 12345678
 1  8        16       bS123456781b1b1b1b1a00b87a,bF          20:invalid 7ab8 7bb8 aligned 0;40:payload 12345678
 1  5        6        bS010203041b,b06                       14:memory                                               -
+1  8        9        bS010203040506070809,bF                17:memory;37:payload 12345678                           22:memory
+1  4        5        bS0102030405,bS1b1b1b1b1a00c6e5        13:memory;29:payload                                    18:memory
 1  8        16       bS010203040506070809,b1b1b1b1b1a00,bF  17:memory;31:discarded 6;43:payload 12345678            25:invalid 1b1b 2da5 misaligned 0
 2  8        16       bS010203040506070809,b1b,bF            17:memory;26:discarded 1;38:payload 12345678            25:escape 1b010101
 2  1048575  1048576  b1bF                                   9:discarded 1;21:payload 12345678

@@ -169,14 +169,11 @@ full-answer-too h =
     let z : _≡_ {A = ℕ} 1018 3000 = ap (codeAt 19) (h (sized 7) (sized 8) (zeroed 7) (zeroed 8) own7 own8 refl (omega arith) (map push frame1)) in
     omega arith
 
--- the nine bytes, an escape and 1a00, which with B1's first two bytes are an end to the larger one; the smaller one was full at the ninth and searches
-cutBefore : List ℕ
-cutBefore = nineBytes ++ (0x1b ∷ 0x1b ∷ 0x1b ∷ 0x1b ∷ 0x1a ∷ 0x00 ∷ frame1)
-
+-- the nine bytes, which nothing ends, then B1's frame: with eight bytes of room the ninth is OutOfMemory and the frame is found; with nine its start finds no room for the four bytes behind an escape
 hears-as-many : HearsAsMany ours → ⊥
-unfolding nineBytes cutBefore payloadsAmong answers reflect polynomial bitStep bitSteps byteStep register finalXor crcOf searching store same finish judge step wrote badDecoder wrongBuffer pushed pushRecord act
+unfolding nineBytes payloadsAmong answers reflect polynomial bitStep bitSteps byteStep register finalXor crcOf searching store same finish judge step wrote badDecoder wrongBuffer pushed pushRecord act
 hears-as-many h =
-    let z : 1 ≤ 0 = h (sized 8) (sized 16) (zeroed 8) (zeroed 16) own8 (own (sized 16) (omega arith)) refl (omega arith) (map push cutBefore) in
+    let z : 1 ≤ 0 = h (sized 8) (sized 9) (zeroed 8) (zeroed 9) own8 own9 refl (omega arith) (map push (nineBytes ++ frame1)) in
     omega arith
 
 pub fall-larger : FallLarger
