@@ -1,6 +1,6 @@
 -- Slices, cut anyhow, say what single pushes say.
 use mathlib.Core.Path.{_≡_, refl, ap, sym, _∙_}
-use mathlib.Core.List.{List, [], _∷_, _++_, append-assoc, map}
+use mathlib.Core.List.{List, [], _∷_, _++_, append-assoc, map, map-append}
 use Prim.Native.Nat.{ℕ, zero, suc, _+_, _-_, _≤_, _<_}
 use native.Mathlib.Omega.{arith}
 use native.Mathlib.Nat.{sub-zero}
@@ -17,7 +17,6 @@ use Rattle.decoder_slice.specs.Slice.{Took, saysNothing, pushesFrom, sliceRecor
 use Rattle.decoder_slice.proofs.Taken.{slice-pushes, taken-le, is-nothing}
 use Rattle.marks.specs.Decoders.{Machine, LeftBehind, ours, answers, leftBehind}
 use Rattle.marks.specs.Chunks.{ourSlicer, eachByte, bySlices, SlicesSay, Chunks}
-use Rattle.marks.proofs.Recovery.{map-push}
 use Rattle.marks.proofs.Hides.{kept-is}
 
 abbrev heardOf : Decoder → List ℕ → List ℕ → List DecoderAnswer
@@ -129,8 +128,8 @@ slices-say (n ∷ cuts) d m bytes f =
       same-answers = ap (λ (l : List DecoderAnswer). eachByte (t .taken) (t .answer) ++ l) (i .same-answers)
           ∙ ap (λ (l : List DecoderAnswer). l ++ heardOf (t .decoder) (t .memory) b) (p .hears)
           ∙ ap (λ (k : LeftBehind Decoder). heardOf d m a ++ heardOf (k .decoder) (k .memory) b) (p .keeps)
-          ∙ sym (answers-join ours (map push a) (map push b) d m) ∙ ap (answers ours d m) (sym (map-push a b));
-      same-kept = i .same-kept ∙ ap (λ (k : LeftBehind Decoder). keptOf (k .decoder) (k .memory) b) (p .keeps) ∙ sym (left-join ours (map push a) (map push b) d m) ∙ ap (leftBehind ours d m) (sym (map-push a b));
+          ∙ sym (answers-join ours (map push a) (map push b) d m) ∙ ap (answers ours d m) (sym (map-append push a b));
+      same-kept = i .same-kept ∙ ap (λ (k : LeftBehind Decoder). keptOf (k .decoder) (k .memory) b) (p .keeps) ∙ sym (left-join ours (map push a) (map push b) d m) ∙ ap (leftBehind ours d m) (sym (map-append push a b));
       all-taken = λ none le. i .all-taken (none .1) (let s = p .shorter (none .0) in omega (arith, s, le));
     }
 

@@ -1,11 +1,11 @@
 -- A larger buffer takes nothing away: two decoders of one way and in one state of the push rules stay so, up to the smaller one's first 3.
 use mathlib.Core.Path.{_≡_, refl, ap, ap₂, sym, subst, _∙_}
 use mathlib.Core.Bool.{Bool, true, true≢false}
-use mathlib.Core.List.{List, [], _∷_, _++_, append-nil, map, nil≢cons, tail-eq-of-cons-eq}
+use mathlib.Core.List.{List, [], _∷_, _++_, append-nil, append-cancel-right, map, nil≢cons, tail-eq-of-cons-eq}
 use Prim.Native.Nat.{ℕ, suc, _≤_}
 use native.Mathlib.Omega.{arith}
-use lib.ListN.{length, take, drop, getD, length-append, take-append-drop}
-use lib.Seq.{take-length, take-append-seam}
+use lib.ListN.{length, take, drop, getD, take-append-drop}
+use lib.Seq.{take-length}
 use Rattle.decoder.specs.Push.{State, Out}
 use Rattle.decoder.specs.Record.{DecoderAnswer, nothing, refusal, setup, stateOf, newRecord, unknownWay, pushRecord, resetRecord, hasPayload, payloadRecord, askRecord, numbered}
 use Rattle.decoder.specs.Run.{KnownWay, Op, push, finalize, reset, act}
@@ -192,11 +192,6 @@ larger-asked C D m n p q w le us none = two-ask (to-the-end isFullCall (goes-by-
 
 -- ---- slices that are cut anyhow, of any decoder of which `Chunks` and `Larger` hold
 
-same-heads : (a b c : List ℕ) → a ++ c ≡ b ++ c → a ≡ b
-same-heads a b c e =
-    let n : length a ≡ length b = omega (arith, ap length e, length-append a c, length-append b c) in
-    sym (take-append-seam a c) ∙ ap (take (length a)) e ∙ ap (λ (k : ℕ). take k (b ++ c)) n ∙ take-append-seam b c
-
 module _ {S : Type 0} (M : Slicer S) (c : Chunks M) (C : Setup) (m : List ℕ) (p : OwnBuffer C m) (w : KnownWay (C .way)) where
   abbrev kept : List Op → LeftBehind S
   kept before = leftBehind (M .machine) (M .machine .new C) m before
@@ -211,7 +206,7 @@ module _ {S : Type 0} (M : Slicer S) (c : Chunks M) (C : Setup) (m : List ℕ) (
   one-part before chunk n =
       let s = c C m w (p .long) (p .within) before chunk (n ∷ []) in
       let t = M .pushSlice (kept before .decoder) (kept before .memory) (take n chunk) in
-      let g : s .took ≡ take (t .taken) chunk = same-heads (s .took) (take (t .taken) chunk) (drop (t .taken) chunk) (s .parts ∙ sym (take-append-drop (t .taken) chunk)) in
+      let g : s .took ≡ take (t .taken) chunk = append-cancel-right (s .took) (take (t .taken) chunk) (drop (t .taken) chunk) (s .parts ∙ sym (take-append-drop (t .taken) chunk)) in
       record {
         hears = sym (append-nil (eachByte (t .taken) (t .answer))) ∙ (rw g at (s .same-answers));
         leaves = (rw g at (s .same-kept)) ∙ sym (left-join (M .machine) before (map push (take (t .taken) chunk)) (M .machine .new C) m);

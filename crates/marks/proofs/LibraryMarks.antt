@@ -25,6 +25,7 @@ use Rattle.marks.specs.Larger.{OwnBuffer, newDoes, LosesNothingCut}
 use Rattle.marks.specs.Library.{Library, LentByCaller, KeptByCaller, decoderBy, slicerBy, UsesBytes, CallerBegins, CallersBegin, encodeBy, HearsOurs, JobsOfBytes, LosesNothingBy, MarksBy}
 use Rattle.marks.proofs.Narrow.{bytes-join, bytes-run, bytes-at, bytes-all, start-bytes}
 use Rattle.marks.proofs.Packed.{singly, singly-bytes, singly-leaves, singly-answers}
+use Rattle.marks.proofs.Chunks.{answers-join, left-join}
 use Rattle.marks.proofs.Soundness.{soundness}
 use Rattle.marks.proofs.Recovery.{wrote-is, mark3}
 use Rattle.marks.proofs.Larger.{larger-by-slices, larger-asked, larger-cut-anyhow}
@@ -55,16 +56,19 @@ pushes-bytes (x ∷ l) h = (h .0, pushes-bytes l (h .1))
 -- ---- one more operation, of any decoder
 
 module _ {S : Type 0} (M : Machine S) (o : Op) where
+  behind-is : (os : List Op) (d : S) (m : List ℕ) → behindOf M d m os o ≡ M .act (leftBehind M d m os .decoder) (leftBehind M d m os .memory) o
+  unfolding leftBehind behindOf
+  behind-is [] d m = refl
+  behind-is (p ∷ os) d m = behind-is os (M .act d m p .decoder) (M .act d m p .memory)
+
   left-more : (os : List Op) (d : S) (m : List ℕ)
       → leftBehind M d m (os ++ o ∷ []) ≡ record { decoder = behindOf M d m os o .decoder; memory = behindOf M d m os o .memory }
-  unfolding leftBehind behindOf
-  left-more [] d m = refl
-  left-more (p ∷ os) d m = left-more os (M .act d m p .decoder) (M .act d m p .memory)
+  unfolding leftBehind
+  left-more os d m = rw (behind-is os d m) (left-join M os (o ∷ []) d m)
 
   answers-more : (os : List Op) (d : S) (m : List ℕ) → answers M d m (os ++ o ∷ []) ≡ answers M d m os ++ behindOf M d m os o .answer ∷ []
-  unfolding answers behindOf
-  answers-more [] d m = refl
-  answers-more (p ∷ os) d m = ap (λ (l : List DecoderAnswer). M .act d m p .answer ∷ l) (answers-more os (M .act d m p .decoder) (M .act d m p .memory))
+  unfolding answers
+  answers-more os d m = rw (behind-is os d m) (answers-join M os (o ∷ []) d m)
 
 last-same : (l k : List DecoderAnswer) (a b : DecoderAnswer) → l ≡ k → l ++ a ∷ [] ≡ k ++ b ∷ [] → a ≡ b
 last-same l k a b same e = sym (last-of l a) ∙ ap (λ (x : List DecoderAnswer). getD x (length l) a) (e ∙ ap (λ (x : List DecoderAnswer). x ++ b ∷ []) (sym same)) ∙ last-from l a b

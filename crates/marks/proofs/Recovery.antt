@@ -1,6 +1,6 @@
 -- From any state that a decoder comes to, C + 5 zero bytes bring it back to a search, and then every frame is heard.
 use mathlib.Core.Path.{_≡_, refl, ap, sym, _∙_, subst}
-use mathlib.Core.List.{List, [], _∷_, _++_, map}
+use mathlib.Core.List.{List, [], _∷_, _++_, map, map-append}
 use Prim.Native.Nat.{ℕ, zero, suc, _+_, _-_, _≤_, _<_}
 use native.Mathlib.Omega.{arith}
 use native.Mathlib.Nat.{sub-zero}
@@ -10,7 +10,7 @@ use borrow.Author.Tests.{ne-eqb, le-leb}
 use Rattle.frame.specs.Frame.{restartSeq, frameOf, closed}
 use Rattle.decoder.specs.Push.{Mem, State, search, body, escape, done, silent, memory, Out, searching, says, put, step, noticed, fresh, stopped}
 use Rattle.decoder.specs.Record.{DecoderAnswer, nothing, payload, count, refusal, numbered, newRecord}
-use Rattle.decoder.specs.Run.{Op, push, finalize, reset, act, run}
+use Rattle.decoder.specs.Run.{Op, push, act, run}
 use Rattle.decoder.proofs.States.{runState, stateBehind, actState, answerState}
 use Rattle.decoder.specs.Saw as W
 use Rattle.decoder.specs.Saw.{Judged, is-data, restarts, good, bad, shifts, Saw, sought, began, again, waits, opens, stores, full, collects, judges, full′}
@@ -189,10 +189,6 @@ unfolding runState stateBehind
 run-state-append C [] b s = refl
 run-state-append C (o ∷ a) b s = ap (λ (l : List DecoderAnswer). answerState C s o ∷ l) (run-state-append C a b (actState C s o))
 
-pub map-push : (a b : List ℕ) → map push (a ++ b) ≡ map push a ++ map push b
-map-push [] b = refl
-map-push (x ∷ a) b = ap (λ (l : List Op). push x ∷ l) (map-push a b)
-
 -- encode writes the frame
 pub wrote-frame : (j : Job) → length (j .payload) ≤ limit → length (frameOf (j .payload)) ≤ length (j .output) → wroteFor encodeTo j ≡ frameOf (j .payload)
 unfolding encodeTo
@@ -215,7 +211,7 @@ no-frames C P = refl
 module _ (C : Setup) (small : C .capacity ≤ 1048576) where
   frames-cons : (j : Job) (js : List Job) → Suits C j → map push (framesFor encodeTo (j ∷ js)) ≡ map push (frameOf (j .payload)) ++ map push (framesFor encodeTo js)
   unfolding framesFor
-  frames-cons j js s = ap (λ (l : List ℕ). map push (l ++ framesFor encodeTo js)) (wrote-is C j small s) ∙ map-push (frameOf (j .payload)) (framesFor encodeTo js)
+  frames-cons j js s = ap (λ (l : List ℕ). map push (l ++ framesFor encodeTo js)) (wrote-is C j small s) ∙ map-append push (frameOf (j .payload)) (framesFor encodeTo js)
 
   rest-says : (js : List Job) (P : List ℕ) → AllSuit C js → runState C (done P) (map push (framesFor encodeTo js)) ≡ restSays encodeTo js
   unfolding restSays

@@ -1,6 +1,6 @@
 -- The second way of searching: when a frame begins, where it searches, and that noise in which no whole start sequence lies hides none.
 use mathlib.Core.Path.{_≡_, refl, ap, sym, _∙_, subst}
-use mathlib.Core.List.{List, [], _∷_, _++_, append-assoc, append-nil, map}
+use mathlib.Core.List.{List, [], _∷_, _++_, append-assoc, append-nil, map, map-append}
 use Prim.Native.Nat.{ℕ, suc, _+_, _-_, _≤_}
 use native.Mathlib.Omega.{arith}
 use lib.ListN.{length, take, replicate, length-append}
@@ -28,13 +28,13 @@ use Rattle.since.proofs.Kept.{kept, reads-fresh, second-most-matched}
 use Rattle.since.proofs.Counts.{reads-counted, record-reads, record-counts}
 use Rattle.marks.specs.Decoders.{LeftBehind, ours, answers, leftBehind, searchedFrom, countSince, frameSays}
 use Rattle.marks.specs.Mark2.{eighth, Ready, someMatched, behindPayload, OurSearch}
-use Rattle.marks.specs.Mark3.{Job, Suits, wroteFor}
+use Rattle.marks.specs.Mark3.{wroteFor}
 use Rattle.marks.specs.Second.{FindsStart, Begins, SearchesAgain, HearsBehindNoise, Seeking, inSearch, beforeSearch, ourSeeks, ourBegun}
-use Rattle.marks.proofs.Rules.{Silent, stop, silentOn, nothings, silent-run}
+use Rattle.marks.proofs.Rules.{Silent, stop, silentOn, silent-run}
 use Rattle.marks.proofs.Starts.{starts-second}
 use Rattle.marks.proofs.RoundTrip.{quiet-replicate, round-trip}
 use Rattle.marks.proofs.Searched.{Heard, heard-fresh, heard-behind}
-use Rattle.marks.proofs.Recovery.{run-state-append, map-push, wrote-is, answers-run, answers-new}
+use Rattle.marks.proofs.Recovery.{run-state-append, wrote-is, answers-run, answers-new}
 use Rattle.marks.proofs.Completeness.{eighth-is}
 use Rattle.marks.proofs.Hides.{looking-back, done-back, kept-is}
 
@@ -100,7 +100,7 @@ hears-state C second h n noise raw k l P fit none =
     let c = reads-counted C (h ++ l) s (q .reads) in
     let all : stopped (q .dropped + q .n) ≡ stopped (length h + length l) = omega (arith, c .0, c .2, length-append h l) in
     let finds = starts-second C (q .n) (q .dropped) (q .raw) second (c .1) (omega (arith, c .2)) in
-    ap (runState C (search n noise raw)) (map-push l f) ∙ silent-run (q .quietly) (map push f)
+    ap (runState C (search n noise raw)) (map-append push l f) ∙ silent-run (q .quietly) (map push f)
     ∙ ap (λ (x : List DecoderAnswer). x ++ runState C s (map push f)) (quiet-replicate l)
     ∙ ap (λ (x : List DecoderAnswer). replicate (length l) nothing ++ x)
     (ap (runState C s) (sym (append-nil (map push f))) ∙ round-trip C s _ finds P fit .answers′ [] ∙ append-nil (frameSays (numbered (noticed (stopped (q .dropped + q .n)))) f P)
