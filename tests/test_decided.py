@@ -42,7 +42,7 @@ def lines(crate):
     if len(found) != len(re.findall(r"^  pub ", text, re.M)):
         bad.append(f"{path}: a line of another form")
     raw.update({name: said for name, _, _, said in found})
-    return {name: (set(" ".join(re.findall(r"\((\w[\w ]*) :", over)).split()), answer, plain(said)) for name, over, answer, said in found}
+    return {name: (set(" ".join(re.findall(r"\(«?(\w[\w ]*)»? :", over)).split()), answer, plain(said)) for name, over, answer, said in found}
 
 
 def held(crate, paths):

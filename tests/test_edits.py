@@ -1,4 +1,4 @@
-"""Each wrong reading is a must-fail edit, or a theorem of a crate's proofs/Wrong.antt that has its name, and is told in docs/WRONG-READINGS.md in four lines and named in docs/STATEMENTS.md. The prover refused each edit at a fact and not at a shape: where the edits were tried (target/must-fail), and always in the gate, each has its log. A theorem rules out an outcome of the equation that a public function's contract has, or a fake of a claim that marks or places makes, or a claim that a part of Marks says is false of ours: its last premise is that; each premise before it speaks of a variable of the theorem, and whether they can all hold is for the reader to see. Each public function has two of them at least."""
+"""Each wrong reading is a must-fail edit, or a theorem of a crate's proofs/Wrong.antt that has its name, and is told in docs/WRONG-READINGS.md in four lines and named in docs/STATEMENTS.md. The prover refused each edit at a fact and not at a shape: where the edits were tried (target/must-fail), and always in the gate, each has its log. A theorem rules out an outcome of the equation that a public function's contract has, or a fake of a claim that marks, places or written makes, or a claim that a part of Marks says is false of ours: its last premise is that; each premise before it speaks of a variable of the theorem, and whether they can all hold is for the reader to see. Each public function has two of them at least."""
 import glob, os, re, sys
 
 os.chdir(os.path.join(os.path.dirname(os.path.abspath(__file__)), ".."))
@@ -78,6 +78,7 @@ def promises(crate):
 claims = {
     "marks": set(re.findall(r"^  pub [\w-]+ : ([A-Z]\w*) ", open("crates/marks/specs/Marks.antt", encoding="utf-8").read(), re.M)),
     "places": set(re.findall(r"^  pub [\w-]+ : .*→ ([A-Z]\w*) \(λ s\. ", open("crates/places/specs/Readers.antt", encoding="utf-8").read(), re.M)),
+    "written": set(re.findall(r"^  pub [\w-]+ : ([A-Z]\w*) W$", open("crates/written/specs/Writers.antt", encoding="utf-8").read(), re.M)),
 }
 # claims that nobody makes, and that a part of a record of Marks says are false of ours
 refused = {said for path in glob.glob("crates/marks/specs/Fake*.antt") for said in re.findall(r"^  pub [\w-]+ : ([A-Z]\w* ours) → ⊥$", open(path, encoding="utf-8").read(), re.M)}

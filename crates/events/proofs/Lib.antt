@@ -4,7 +4,6 @@ pub mod Lists
 pub mod Whole
 pub mod Refuses
 pub mod Gets
-pub mod Meaning
 pub mod Parts
 pub mod Vectors
 pub mod Cuts

@@ -16,7 +16,7 @@ use Rattle.message.specs.Messages.{openBody, closeBody, listBody, listStartAt, 
 use Rattle.trailer.specs.Trailer.{messageEndAt, crcFrom, trailerAt}
 use Rattle.streaming.specs.Next.{MessageEvent, startEvent, entryEvent, endEvent, Said, event, noEvent, failed, alone}
 use Rattle.events.specs.Events.{saysFirst, atStart, inside, entriesFrom, contentFrom, messagesFrom, eventsOf}
-use Rattle.events.specs.Meaning.{meaning}
+use Rattle.streaming.specs.Meaning.{meaning}
 use Rattle.events.proofs.Cuts.{openMessage, listMessage, closeMessage}
 
 -- the meanings of the events that the calls answer on an input

@@ -8,39 +8,14 @@ use Rattle.refusals.specs.declared.Span.{Span}
 use Rattle.octet_string.specs.Strings.{partOf, spanRefusal}
 use Rattle.octet_string.proofs.Strings.{part-is, never-refused}
 use Rattle.octet_string.proofs.Within.{Within, Has}
-use Rattle.value.specs.Values.{Status, Value, truth, bytes, signed, unsigned, listTime}
+use Rattle.value.specs.Values.{Value, truth, bytes, signed, unsigned, listTime}
 use Rattle.value.proofs.Values.{ValueWithin}
-use Rattle.common.specs.Fields.{OpenResponse, CloseResponse, ListEntry}
-use Rattle.common.proofs.Fields.{OpenWithin, CloseWithin, EntryWithin}
-use Rattle.message.specs.Messages.{ListStart, ListEnd, Body, openBody, closeBody, listBody, MessageStart}
-use Rattle.message.proofs.Messages.{ListStartWithin, ListEndWithin, BodyWithin, StartWithin}
-use Rattle.streaming.specs.Next.{MessageEvent, startEvent, entryEvent, endEvent, Said, event, noEvent, failed, ReaderAfter, nextAt}
-use Rattle.events.specs.Meaning.{each, valueMeans, bodyMeans, meaning}
+use Rattle.message.specs.Messages.{Body, openBody, closeBody, listBody}
+use Rattle.message.proofs.Messages.{BodyWithin}
+use Rattle.streaming.specs.Next.{MessageEvent, startEvent, entryEvent, endEvent, event, nextAt}
+use Rattle.streaming.specs.Meaning.{each, valueMeans, bodyMeans, meaning, opt, valueStrings, bodyStrings, stringsOf}
 use Rattle.events.proofs.Calls.{SoundReader}
-use Rattle.events.proofs.Places.{EventWithin, SaidWithin, Kept, next-kept}
-
--- a string that is there, before others
-abbrev pub opt : {T : Type 0} → Option T → List T → List T
-opt (some p) l = p ∷ l
-opt none l = l
-
-abbrev pub valueStrings : {T : Type 0} → Value T → List T → List T
-valueStrings (truth b) l = l
-valueStrings (bytes p) l = p ∷ l
-valueStrings (signed w z) l = l
-valueStrings (unsigned w n) l = l
-valueStrings (listTime n) l = l
-
-abbrev pub bodyStrings : {T : Type 0} → Body T → List T
-bodyStrings (openBody b) = opt (b .codepage) (opt (b .«client_id») (b .«req_file_id» ∷ b .«server_id» ∷ []))
-bodyStrings (closeBody b) = opt (b .«global_signature») []
-bodyStrings (listBody b) = opt (b .«client_id») (b .«server_id» ∷ opt (b .«list_name») [])
-
--- all strings of an event, in the order of its fields
-abbrev pub stringsOf : {T : Type 0} → MessageEvent T → List T
-stringsOf (startEvent m) = m .«transaction_id» ∷ bodyStrings (m .«message_body»)
-stringsOf (entryEvent e) = e .«obj_name» ∷ valueStrings (e .value) (opt (e .«value_signature») [])
-stringsOf (endEvent e) = opt (e .«list_signature») []
+use Rattle.events.proofs.Places.{EventWithin, next-kept}
 
 map-opt : {A B : Type 0} (f : A → B) (m : Option A) (l : List A) → map f (opt m l) ≡ opt (each f m) (map f l)
 map-opt f (some a) l = refl

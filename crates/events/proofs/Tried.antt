@@ -1,31 +1,30 @@
 -- The laws of what is left, put together: the bytes of a list and of a close response, wherever they stand, are read as these responses, and what follows them is left.
-use mathlib.Core.Path.{_≡_, refl}
+use mathlib.Core.Path.{refl}
 use mathlib.Core.List.{List, [], _∷_, _++_}
-use mathlib.Core.Bool.{true}
-use mathlib.Core.Option.{Option, some, none}
-use Prim.Native.Nat.{ℕ, _+_, _^_, _≤_, _<_}
+use mathlib.Core.Option.{some, none}
+use Prim.Native.Nat.{ℕ, _+_, _≤_, _<_}
 use native.Mathlib.Omega.{arith}
 use lib.ListN.{length}
-use lib.IntN.{pos, negsuc}
+use lib.IntN.{negsuc}
 use Rattle.crc_x25.specs.Crc.{reflect, polynomial, bitStep, bitSteps, byteStep, register, finalXor, crcOf}
 use Rattle.refusals.specs.Read.{Read}
 use Rattle.refusals.specs.declared.Span.{Span}
 use Rattle.refusals.proofs.Rest.{Reads, Is, Made, OneMore, none-reads, more-reads}
-use Rattle.tlf.specs.Lengths.{tlfAt, listOfAt, isBoolean}
+use Rattle.tlf.specs.Lengths.{tlfAt, listOfAt}
 use Rattle.tlf.specs.declared.Ty.{Ty}
-use Rattle.tlf.specs.declared.Ty.the-variants.{OctetString, Boolean, Integer, Unsigned, ListOf}
-use Rattle.tlf.specs.declared.TypeLengthField.{TypeLengthField}
-use Rattle.tlf.proofs.Gets.{tyNumber, total, lengthBytes, typed, typed-reads, typed-not-one, list-of-reads}
+use Rattle.tlf.specs.declared.Ty.the-variants.{OctetString, Integer, Unsigned, ListOf}
+use Rattle.tlf.specs.Written.{tyNumber, total, lengthBytes, typed}
+use Rattle.tlf.proofs.Gets.{typed-reads, typed-not-one, list-of-reads}
 use Rattle.numbers.specs.Numbers.{number, unsignedAt, signedOf, signedAt}
 use Rattle.numbers.proofs.Gets.{unsigned-reads, signed-reads}
 use Rattle.octet_string.specs.Strings.{octetsAt}
 use Rattle.octet_string.specs.Optional.{optional}
 use Rattle.octet_string.proofs.Gets.{Part, octets-reads, absent-reads, present-reads}
-use Rattle.value.specs.Values.{bytes, signed, timeAt, statusAt, valueAt}
+use Rattle.value.specs.Values.{bytes, signed, timeAt, statusAt}
 use Rattle.value.proofs.Gets.{time-reads, bare-time-reads, status-reads, bytes-value-reads, signed-value-reads}
 use Rattle.common.specs.Fields.{ListEntry, entryAt}
 use Rattle.common.proofs.Gets.{CloseHas, EntryHas, close-reads, entry-reads}
-use Rattle.message.specs.Messages.{MessageStart, closeBody, listBody, bodyAt, startAt, listEndAt}
+use Rattle.message.specs.Messages.{MessageStart, closeBody, listBody, startAt, listEndAt}
 use Rattle.message.proofs.Gets.{ListStartHas, ListEndHas, StartHas, list-start-reads, list-end-reads, close-content-reads, list-content-reads, body-reads, start-reads}
 use Rattle.trailer.specs.Trailer.{swapped}
 use Rattle.trailer.proofs.Gets.{message-end-reads}

@@ -1,5 +1,4 @@
 pub mod Message
 pub mod Events
 pub mod Calls
-pub mod Meaning
 pub mod Telling

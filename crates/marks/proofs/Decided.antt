@@ -4,6 +4,7 @@ use Rattle.refusals.proofs.Decided as Refusals
 use Rattle.tlf.proofs.Decided as Tlf
 use Rattle.numbers.proofs.Decided as Numbers
 use Rattle.octet_string.proofs.Decided as OctetString
+use Rattle.byte_count.proofs.Decided as ByteCount
 use Rattle.encoder.proofs.Decided as Encoder
 use Rattle.search.proofs.Decided as Search
 use Rattle.decoder.proofs.Decided as Decoder
@@ -17,6 +18,7 @@ use Rattle.message.proofs.Decided as Message
 use Rattle.trailer.proofs.Decided as Trailer
 use Rattle.streaming.proofs.Decided as Streaming
 use Rattle.parser.proofs.Decided as Parser
+use Rattle.writer.proofs.Decided as Writer
 use Rattle.words.proofs.Decided as Words
 use Rattle.sartrogheo.proofs.Decided as Library
 use Rattle.marks.specs.Decided.{Views, Decided}
@@ -39,6 +41,7 @@ views =
       message = Message.views;
       streaming = Streaming.views;
       parser = Parser.views;
+      writer = Writer.views;
     }
 
 pub decided : Decided
@@ -49,6 +52,7 @@ decided =
       tlf = Tlf.decided;
       numbers = Numbers.decided;
       octet-string = OctetString.decided;
+      byte-count = ByteCount.decided;
       encoder = Encoder.decided;
       search = Search.decided;
       decoder = Decoder.decided;
@@ -62,6 +66,7 @@ decided =
       trailer = Trailer.decided;
       streaming = Streaming.decided;
       parser = Parser.decided;
+      writer = Writer.decided;
       words = Words.decided;
       library = Library.decided;
     }

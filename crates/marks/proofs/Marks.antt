@@ -1,5 +1,7 @@
 -- All that is claimed, together.
 use Rattle.tlf.proofs.Overflow.{overflows}
+use Rattle.written.proofs.Claims.{written-claims}
+use Rattle.written.proofs.Fakes.{fall-writers}
 use Rattle.places.proofs.Readers.{readers}
 use Rattle.places.proofs.Fakes.{fall-readers}
 use Rattle.marks.specs.Marks.{Marks}
@@ -73,6 +75,8 @@ marks =
       library-reader = hears-ours .reader;
       library-gives = library-gives;
       library-marks = marks-by;
+      writer = written-claims;
+      fall-writers = fall-writers;
       overflows = overflows;
       readers = readers;
       reader-says-where = reader-says-where;

@@ -4,6 +4,7 @@ use Rattle.refusals.specs.Decided as Refusals
 use Rattle.tlf.specs.Decided as Tlf
 use Rattle.numbers.specs.Decided as Numbers
 use Rattle.octet_string.specs.Decided as OctetString
+use Rattle.byte_count.specs.Decided as ByteCount
 use Rattle.encoder.specs.Decided as Encoder
 use Rattle.search.specs.Decided as Search
 use Rattle.decoder.specs.Decided as Decoder
@@ -17,6 +18,7 @@ use Rattle.message.specs.Decided as Message
 use Rattle.trailer.specs.Decided as Trailer
 use Rattle.streaming.specs.Decided as Streaming
 use Rattle.parser.specs.Decided as Parser
+use Rattle.writer.specs.Decided as Writer
 use Rattle.words.specs.Decided as Words
 use Rattle.sartrogheo.specs.Decided as Library
 
@@ -37,6 +39,7 @@ pub record Views : Type 0 where
   pub message : Message.Views
   pub streaming : Streaming.Views
   pub parser : Parser.Views
+  pub writer : Writer.Views
 
 -- one outcome for each input: answer, record and the content of lent memory. No public function has a `requires`
 pub record Decided : Type 0 where
@@ -45,6 +48,7 @@ pub record Decided : Type 0 where
   pub tlf : Tlf.Decided
   pub numbers : Numbers.Decided
   pub octet-string : OctetString.Decided
+  pub byte-count : ByteCount.Decided
   pub encoder : Encoder.Decided
   pub search : Search.Decided
   pub decoder : Decoder.Decided
@@ -58,5 +62,6 @@ pub record Decided : Type 0 where
   pub trailer : Trailer.Decided
   pub streaming : Streaming.Decided
   pub parser : Parser.Decided
+  pub writer : Writer.Decided
   pub words : Words.Decided
   pub library : Library.Decided

@@ -13,6 +13,8 @@ use Rattle.search.specs.Found.{NoneWhole}
 use Rattle.since.specs.Bytes.{sinceFrom, Counted}
 use Rattle.tlf.specs.Lengths.{tlfAt}
 use Rattle.tlf.specs.Overflow.{Overflows}
+use Rattle.written.specs.Claims.{WrittenClaims}
+use Rattle.written.specs.Fakes.{FallWriters}
 use Rattle.places.specs.Readers.{Readers}
 use Rattle.places.specs.Fakes.{FallReaders}
 use Rattle.marks.specs.Decided.{Views, Decided}
@@ -101,6 +103,9 @@ pub record Marks : Type 0 where
   pub library-reader : HearsReader ourLibrary
   pub library-gives : ReaderGives (readerBy ourLibrary)
   pub library-marks : (L : Library) → HearsOurs L → MarksBy L
+  -- the writer of messages: what it writes is read back, in the fewest bytes; it takes what fits, counts entries, and refuses in order. And what that is false of
+  pub writer : WrittenClaims
+  pub fall-writers : FallWriters
   -- a length that passes 32 bits is refused, and no other is refused so
   pub overflows : Overflows tlfAt
   -- a refusal says where it broke: of every reader, of the calls on an input, of one call from any numbers; and what that is false of

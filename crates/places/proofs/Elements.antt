@@ -17,7 +17,8 @@ use Rattle.tlf.specs.declared.Ty.the-variants.{ListOf}
 use Rattle.tlf.specs.declared.TypeLengthField.{TypeLengthField}
 use Rattle.tlf.proofs.Lengths.{tlf-ok}
 use Rattle.tlf.proofs.Short.{list-one, field-one}
-use Rattle.tlf.proofs.Gets.{moreBit, lengthBytes, typed, typed-reads}
+use Rattle.tlf.specs.Written.{moreBit, lengthBytes, typed}
+use Rattle.tlf.proofs.Gets.{typed-reads}
 use Rattle.refusals.proofs.Rest.{reads-at}
 use Rattle.places.specs.Stands.{Element, Instead, Whatever, over, badLength, unwanted}
 use Rattle.places.specs.Readers.{More}

@@ -1,3 +1,4 @@
 pub mod Next
 pub mod Answers
 pub mod Decided
+pub mod Meaning

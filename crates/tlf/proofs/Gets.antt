@@ -1,48 +1,21 @@
 -- What length bytes are read as, and what they leave: a type and a length in any number of length bytes that holds it.
-use mathlib.Core.Path.{_≡_, refl, sym, ap, _∙_}
-use mathlib.Core.List.{List, [], _∷_, _++_}
-use mathlib.Core.Bool.{Bool, true, false, cond, not, _&&_}
-use mathlib.Core.Option.{Option, some, none}
+use mathlib.Core.Path.{_≡_, refl, ap, _∙_}
+use mathlib.Core.List.{List, _∷_, _++_}
+use mathlib.Core.Bool.{true, false, not, _&&_}
+use mathlib.Core.Option.{some}
 use Prim.Native.Nat.{ℕ, zero, suc, _+_, _*_, _/_, _%_, _^_, _-_, _≤_, _<_}
 use native.Mathlib.Nat.{pow-suc, mod-eq-of-lt, mul-comm, one-le-pow, div-div-eq-div-mul, div-le-self, div-lt-iff-lt-mul}
 use native.Mathlib.Omega.{arith}
-use lib.ListN.{length, getD, drop}
-use lib.Dec.{ltb, leb, eqb, lit<}
+use lib.ListN.{length, getD}
+use lib.Dec.{lit<}
 use borrow.Author.Tests.{lt-ltb, le-leb, lt-leb, eq-eqb}
-use Rattle.refusals.specs.Read.{Read, got, then, guard, need, byteAt}
+use Rattle.refusals.specs.Read.{got, then, guard, need, byteAt}
 use Rattle.refusals.proofs.Rest.{Rest, Gets, Reads, Is, rest-length, rest-skip, rest-byte, rest-next, gets-got, gets-is, gets-guard}
-use Rattle.tlf.specs.Lengths.{tyOf, isList, isBoolean, isListOf, longer, longest, lengthFrom, lessOwn, tlfAt, listOfAt}
+use Rattle.tlf.specs.Lengths.{tyOf, isBoolean, isListOf, longer, longest, lengthFrom, lessOwn, tlfAt, listOfAt}
+use Rattle.tlf.specs.Written.{tyNumber, total, lengthBytes, typed}
 use Rattle.tlf.specs.declared.Ty.{Ty}
 use Rattle.tlf.specs.declared.Ty.the-variants.{OctetString, Boolean, Integer, Unsigned, ListOf}
-use Rattle.tlf.specs.declared.TypeLengthField.{TypeLengthField}
 use Rattle.tlf.proofs.Lengths.{length-stop}
-
--- the number of a type, in bits 6 to 4
-abbrev pub tyNumber : Ty → ℕ
-tyNumber OctetString = 0
-tyNumber Boolean = 4
-tyNumber Integer = 5
-tyNumber Unsigned = 6
-tyNumber ListOf = 7
-
--- what n length bytes say of a content of `len`: except for lists they count themselves
-abbrev pub total : Ty → ℕ → ℕ → ℕ
-total ty len n = cond (isList ty) len (len + n)
-
--- bit 7, where k more bytes follow
-abbrev pub moreBit : ℕ → ℕ
-moreBit zero = 0
-moreBit (suc k) = 128
-
--- v in k length bytes, high four bits first
-unfoldable pub lengthBytes : ℕ → ℕ → List ℕ
-lengthBytes zero v = []
-lengthBytes (suc k) v = (moreBit k + v / 16 ^ k % 16) ∷ lengthBytes k v
-
--- v in n length bytes, the type in the first
-unfoldable pub typed : Ty → ℕ → ℕ → List ℕ
-typed ty zero v = []
-typed ty (suc k) v = (moreBit k + 16 * tyNumber ty + v / 16 ^ k % 16) ∷ lengthBytes k v
 
 div-up : (v k : ℕ) → v / 16 ^ suc k ≡ v / 16 ^ k / 16
 div-up v k = rw (pow-suc 16 k, div-div-eq-div-mul)
@@ -77,7 +50,7 @@ ty-is Integer x d h = let e : (128 * x + 16 * 5 + d) / 16 % 8 ≡ 5 = omega arit
 ty-is Unsigned x d h = let e : (128 * x + 16 * 6 + d) / 16 % 8 ≡ 6 = omega arith in rw e
 ty-is ListOf x d h = let e : (128 * x + 16 * 7 + d) / 16 % 8 ≡ 7 = omega arith in rw e
 
-ty-small : (ty : Ty) → tyNumber ty ≤ 7
+pub ty-small : (ty : Ty) → tyNumber ty ≤ 7
 ty-small OctetString = omega arith
 ty-small Boolean = omega arith
 ty-small Integer = omega arith

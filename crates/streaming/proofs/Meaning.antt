@@ -1,19 +1,18 @@
 -- Meaning forgets the width of a number and the place of a string, and nothing else: two events have one meaning exactly if they are of one kind, with the same bytes in their strings and the same numbers.
 use mathlib.Core.Path.{_≡_, refl, sym, ap, _∙_}
 use mathlib.Core.List.{List}
-use mathlib.Core.Bool.{Bool}
 use mathlib.Core.Option.{Option, some, none}
 use Prim.Native.Nat.{ℕ}
 use lib.IntN.{ℤ}
 use Rattle.refusals.specs.declared.Span.{Span}
-use Rattle.refusals.proofs.Rest.{Made, Is}
+use Rattle.refusals.proofs.Rest.{Made}
 use Rattle.octet_string.specs.Strings.{partOf}
 use Rattle.octet_string.proofs.Gets.{Part}
 use Rattle.value.specs.Values.{Status, Value, truth, bytes, signed, unsigned, listTime}
-use Rattle.common.specs.Fields.{OpenResponse, CloseResponse, ListEntry}
-use Rattle.message.specs.Messages.{ListStart, ListEnd, Body, openBody, closeBody, listBody, MessageStart}
+use Rattle.common.specs.Fields.{ListEntry}
+use Rattle.message.specs.Messages.{ListEnd, Body, openBody, closeBody, listBody, MessageStart}
 use Rattle.streaming.specs.Next.{MessageEvent, startEvent, entryEvent, endEvent}
-use Rattle.events.specs.Meaning.{each, statusMeans, valueMeans, entryMeans, openMeans, closeMeans, listStartMeans, listEndMeans, bodyMeans, startMeans, meaning}
+use Rattle.streaming.specs.Meaning.{each, statusMeans, valueMeans, entryMeans, openMeans, closeMeans, listStartMeans, listEndMeans, bodyMeans, startMeans, meaning}
 
 -- any width will do
 abbrev AnyWidth : List ℕ → ℕ → Type 0

@@ -1,13 +1,13 @@
--- claim: what an event means, whatever the width of its numbers and wherever its strings stand.
+-- rule: what an event means, whatever the width of its numbers and wherever its strings stand, and which strings it has.
 use Prim.Native.Nat.{ℕ}
-use mathlib.Core.List.{List}
+use mathlib.Core.List.{List, [], _∷_}
 use mathlib.Core.Option.{Option, some, none}
 use Rattle.refusals.specs.declared.Span.{Span}
 use Rattle.octet_string.specs.Strings.{partOf}
 use Rattle.value.specs.Values.{Status, Value, truth, bytes, signed, unsigned, listTime}
 use Rattle.common.specs.Fields.{OpenResponse, CloseResponse, ListEntry}
 use Rattle.message.specs.Messages.{ListStart, ListEnd, Body, openBody, closeBody, listBody, MessageStart}
 use Rattle.streaming.specs.Next.{MessageEvent, startEvent, entryEvent, endEvent}
 
 abbrev pub each : {A B : Type 0} → (A → B) → Option A → Option B
 each f (some a) = some (f a)
@@ -82,3 +82,26 @@ unfoldable pub meaning : List ℕ → MessageEvent Span → MessageEvent (List �
 meaning s (startEvent m) = startEvent (startMeans s m)
 meaning s (entryEvent e) = entryEvent (entryMeans s e)
 meaning s (endEvent e) = endEvent (listEndMeans s e)
+
+-- a string that is there, before others
+abbrev pub opt : {T : Type 0} → Option T → List T → List T
+opt (some p) l = p ∷ l
+opt none l = l
+
+abbrev pub valueStrings : {T : Type 0} → Value T → List T → List T
+valueStrings (truth b) l = l
+valueStrings (bytes p) l = p ∷ l
+valueStrings (signed w z) l = l
+valueStrings (unsigned w n) l = l
+valueStrings (listTime n) l = l
+
+abbrev pub bodyStrings : {T : Type 0} → Body T → List T
+bodyStrings (openBody b) = opt (b .codepage) (opt (b .«client_id») (b .«req_file_id» ∷ b .«server_id» ∷ []))
+bodyStrings (closeBody b) = opt (b .«global_signature») []
+bodyStrings (listBody b) = opt (b .«client_id») (b .«server_id» ∷ opt (b .«list_name») [])
+
+-- all strings of an event, in the order of its fields
+abbrev pub stringsOf : {T : Type 0} → MessageEvent T → List T
+stringsOf (startEvent m) = m .«transaction_id» ∷ bodyStrings (m .«message_body»)
+stringsOf (entryEvent e) = e .«obj_name» ∷ valueStrings (e .value) (opt (e .«value_signature») [])
+stringsOf (endEvent e) = opt (e .«list_signature») []

@@ -1,0 +1,3 @@
+pub mod Least
+pub mod Bytes
+pub mod Decided

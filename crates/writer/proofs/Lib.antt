@@ -1,0 +1,9 @@
+pub mod Puts
+pub mod Numbers
+pub mod Signs
+pub mod Starts
+pub mod Strings
+pub mod Bounds
+pub mod Sums
+pub mod Calls
+pub mod Decided

@@ -1,0 +1,10 @@
+pub mod Messages
+pub mod Fits
+pub mod Round
+pub mod Calls
+pub mod Writers
+pub mod Typed
+pub mod Bench
+pub mod Fakes
+pub mod Jobs
+pub mod Claims
