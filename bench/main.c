@@ -20,12 +20,13 @@ extern size_t bench_packed(u8 *, size_t, u8 *, size_t, const u8 *, size_t);
 extern u64 bench_encode(const u8 *, size_t, u8 *, size_t);
 extern u64 bench_stream(const u8 *, size_t);
 extern u64 bench_events(const u8 *, size_t);
+extern u64 bench_write(const u8 *, size_t, u8 *, size_t, uint32_t);
 extern u64 bench_crc(const u8 *, size_t);
 extern u64 bench_crc_byte(const u8 *, size_t);
 
 static u8 in[1 << 20], out[1 << 22];
 
-static const char *names[] = {"bench_push", "bench_push_slice", "bench_push_slice_second", "bench_encode", "bench_stream", "bench_events", "bench_crc", "bench_crc_byte", "bench_packed", "sgh_push_byte", "sgh_push_slice"};
+static const char *names[] = {"bench_push", "bench_push_slice", "bench_push_slice_second", "bench_encode", "bench_stream", "bench_events", "bench_crc", "bench_crc_byte", "bench_packed", "sgh_push_byte", "sgh_push_slice", "bench_write"};
 
 /* pushes of slices over the 28 bytes of a decoder, a call for each event */
 static u64 packed(size_t n, size_t cap) {
@@ -71,6 +72,7 @@ static u64 call(size_t which, size_t n, size_t cap, size_t step) {
     case 8: return packed(n, cap);
     case 9: return library_bytes(n, cap);
     case 10: return library_slices(n, cap, step);
+    case 11: return bench_write(in, n, out, cap, step) == step ? step : ~0ul;
     }
     return ~0ul;
 }

@@ -31,6 +31,7 @@ decided =
       bench-encode = λ payload out. injective (λ (r : With ℕ). counted (r .answer) (r .memory)) (views .number) _;
       bench-stream = λ payload. oneOutcome _;
       bench-events = λ input. oneOutcome _;
+      bench-write = λ input out count. injective (λ (r : With ℕ). counted (r .answer) (r .memory)) (views .number) _;
       bench-crc = λ src. oneOutcome _;
       bench-crc-byte = λ src. oneOutcome _;
     }

@@ -2,3 +2,4 @@ pub mod Events
 pub mod Pushes
 pub mod Streams
 pub mod Decided
+pub mod Writes

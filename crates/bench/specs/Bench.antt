@@ -13,6 +13,13 @@ use Rattle.packed.specs.Packed.{slicePacked}
 use Rattle.encoder.specs.Encode as E
 use Rattle.refusals.specs.Numbers.{limit}
 use Rattle.encoder.specs.Encode.{length-is, encodeTo}
+use Rattle.crc_x25.specs.Crc.{start}
+use Rattle.refusals.specs.Read.{Read, got, refused}
+use Rattle.refusals.specs.declared.Span.{Span}
+use Rattle.common.specs.Fields.{ListEntry}
+use Rattle.writer.specs.Calls.{WriteOutcome, to, notWritten, entryTo}
+use Rattle.writer.specs.declared.ListState.the-variants.{Entries}
+use Rattle.writer.specs.declared.ListWriter.{ListWriter}
 use Rattle.streaming.specs.Next as N
 use Rattle.streaming.specs.Next.{Said, event, noEvent, failed, alone, nextAt}
 
@@ -93,3 +100,22 @@ eventsFrom (suc k) input at start pending =
 -- from a new reader; an event takes a byte at least, so there are no more of them than bytes
 abbrev pub events : List ℕ → ℕ
 events input = eventsFrom (length input) input 0 0 0
+
+-- ---- entries that are written
+
+abbrev pub firstWriter : ℕ → ListWriter
+firstWriter many = record { place = 0; state = Entries many start }
+
+-- one more of what follows an accepted call; none behind a refused one
+abbrev pub oneAnd : WriteOutcome ListWriter → List ℕ → (ListWriter → List ℕ → CountedIn) → CountedIn
+oneAnd (to w) out k = counted (suc (k w out .number)) (k w out .memory)
+oneAnd (notWritten n) out k = counted 0 out
+
+-- an entry so many times, up to the first that is refused
+unfoldable pub writtenTimes : ℕ → List ℕ → ListWriter → List ℕ → ListEntry Span → CountedIn
+writtenTimes zero out w strings e = counted 0 out
+writtenTimes (suc k) out w strings e = oneAnd (entryTo out w strings e .answer) (entryTo out w strings e .output) λ v next. writtenTimes k next v strings e
+
+abbrev pub writesOfEntry : Read (ListEntry Span) → List ℕ → ℕ → List ℕ → CountedIn
+writesOfEntry (got e n) out many input = writtenTimes many out (firstWriter many) input e
+writesOfEntry (refused f) out many input = counted 0 out

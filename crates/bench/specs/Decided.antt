@@ -6,7 +6,8 @@ use Rattle.crc_x25.specs.Crc.{crcOf}
 use Rattle.decoder.specs.Push.{firstWay, secondWay, sized}
 use Rattle.decoder.specs.Record.{newRecord}
 use Rattle.packed.specs.Packed.{packInto}
-use Rattle.bench.specs.Bench.{counted, payloads, tookIn, tookOver, encoded, streamed, events}
+use Rattle.common.specs.Fields.{entryAt}
+use Rattle.bench.specs.Bench.{counted, payloads, tookIn, tookOver, encoded, streamed, events, writesOfEntry}
 use Rattle.decided.specs.One.{One, With, Beside, Injective}
 
 -- every view that a contract cites, of the answer together with the lent memory, and with the bytes of a decoder
@@ -24,5 +25,6 @@ pub record Decided : Type 0 where
   pub bench-encode : (payload out : List ℕ) → One (λ (r : With ℕ). counted (r .answer) (r .memory) ≡ encoded payload out)
   pub bench-stream : (payload : List ℕ) → One (λ (r : ℕ). r ≡ streamed payload)
   pub bench-events : (input : List ℕ) → One (λ (r : ℕ). r ≡ events input)
+  pub bench-write : (input out : List ℕ) (count : ℕ) → One (λ (r : With ℕ). counted (r .answer) (r .memory) ≡ writesOfEntry (entryAt input 0) out count input)
   pub bench-crc : (src : List ℕ) → One (λ (r : ℕ). r ≡ crcOf src)
   pub bench-crc-byte : (src : List ℕ) → One (λ (r : ℕ). r ≡ crcOf src)

@@ -13,14 +13,21 @@ ghost use Rattle.encoder.specs.Encode as E;
 ghost use Rattle.refusals.specs.Numbers.{limit};
 ghost use Rattle.encoder.specs.Encoder.{nextAnswer};
 ghost use Rattle.streaming.specs.Answers.{said};
-ghost use Rattle.bench.specs.Bench.{counted, one, payloadsFrom, payloads, tookIn, tookOver, lengthIn, encoded, sum, streamed, isEvent, events};
+ghost use Rattle.common.specs.Fields.{entryAt};
+ghost use Rattle.common.specs.Answers.{listEntry};
+ghost use Rattle.bench.specs.Bench.{counted, one, payloadsFrom, payloads, tookIn, tookOver, lengthIn, encoded, sum, streamed, isEvent, events, firstWriter, writtenTimes, writesOfEntry};
 ghost use Rattle.bench.specs.Given.{isByte, given};
+use common::EntryRead;
+use common::ListEntry;
 use decoder::Decoder;
 use decoder::Event;
 use encoder::Encoded;
 use encoder::Encoder;
 use encoder::Item;
 use streaming::Answer;
+use writer::ListState;
+use writer::ListWriter;
+use writer::ListWritten;
 
 // 1 for a payload, 0 for all else.
 fn one_payload(e: Event) -> u64
@@ -262,4 +269,37 @@ pub extern "C" fn bench_crc_byte(src: &[u8]) -> u64
         i += 1;
     }
     crc_x25::finalize(reg) as u64
+}
+
+// An entry written so many times, each behind the one before; how many there was room for.
+fn write_again(input: &[u8], out: &mut [u8], entry: ListEntry, count: u32) -> u64
+    ensures { λ r. ⌜ counted r (now (out .exit)) ≡ writtenTimes count (now (out .entry)) (firstWriter count) (now (input .entry)) (listEntry entry) ⌝ }
+{
+    let mut w = ListWriter {
+        place: 0,
+        state: ListState::Entries {
+            left: count,
+            crc: crc_x25::digest(),
+        },
+    };
+    let mut n: u32 = 0;
+    while n < count {
+        match writer::write_list_entry(out, w, input, entry) {
+            ListWritten::To(v) => w = v,
+            ListWritten::Refused(_) => return n as u64,
+        }
+        n += 1;
+    }
+    n as u64
+}
+
+// The entry at the input's start, written so many times.
+#[no_mangle]
+pub extern "C" fn bench_write(input: &[u8], out: &mut [u8], count: u32) -> u64
+    ensures { λ r. ⌜ counted r (now (out .exit)) ≡ writesOfEntry (entryAt (now (input .entry)) 0) (now (out .entry)) count (now (input .entry)) ⌝ }
+{
+    match common::parse_list_entry(input, 0) {
+        EntryRead::Is { entry, next: _ } => write_again(input, out, entry, count),
+        EntryRead::Refused(_) => 0,
+    }
 }

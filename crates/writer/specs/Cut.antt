@@ -1,4 +1,4 @@
--- cut: how the code is cut. Each private function puts its bytes from a place on; run over no output it tells where they would end.
+-- cut: how the code is cut. Each private function puts its bytes from a place on; run over a byte of the code's own it tells where they would end.
 use Prim.Native.Nat.{ℕ, _+_, _^_, _-_, _≤_}
 use mathlib.Core.Path.{_≡_}
 use mathlib.Core.List.{List, _++_}

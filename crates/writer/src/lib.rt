@@ -91,7 +91,7 @@ fn moved(place: usize, n: usize) -> usize
     }
 }
 
-// One byte; beyond the output the place moves all the same, so that a run over no output tells where all ends.
+// One byte; beyond the output the place moves all the same, so that a run over a byte of our own tells where all would end.
 fn put_next(out: &mut [u8], at: usize, b: u8) -> usize
     ensures { λ r. ⌜ Puts (now (out .entry)) at (b ∷ []) (now (out .exit)) r ⌝ }
 {
@@ -221,7 +221,7 @@ fn put_tlf(out: &mut [u8], at: usize, ty: Ty, len: usize) -> usize
     put_long_tlf(out, at, ty, len)
 }
 
-// An unsigned number with the fewest bytes.
+// An unsigned number with the fewest bytes: at most eight, so one length byte, of type 6, says them and itself.
 fn put_unsigned(out: &mut [u8], at: usize, v: u64) -> usize
     ensures { λ r. ⌜ Puts (now (out .entry)) at (writeUnsigned v) (now (out .exit)) r ⌝ }
 {
@@ -249,7 +249,7 @@ fn low_bytes(n: u32, z: i64) -> u64
     }
 }
 
-// A signed number with the fewest bytes that carry its sign.
+// A signed number with the fewest bytes that carry its sign: as many as twice its magnitude has; type 5.
 fn put_signed(out: &mut [u8], at: usize, z: i64) -> usize
     ensures { λ r. ⌜ Puts (now (out .entry)) at (writeSigned z) (now (out .exit)) r ⌝ }
 {
@@ -474,7 +474,7 @@ fn put_close(out: &mut [u8], at: usize, strings: &[u8], x: CloseResponse) -> usi
 }
 
 // Up to the head of the list of entries, which says how many they are.
-fn put_list_start(out: &mut [u8], at: usize, strings: &[u8], x: GetListResponseStart) -> usize
+fn put_list(out: &mut [u8], at: usize, strings: &[u8], x: GetListResponseStart) -> usize
     ensures { λ r. ⌜ Puts (now (out .entry)) at (listStartBytes (listStartMeans (now (strings .entry)) (listStart x))) (now (out .exit)) r ⌝ }
 {
     let client_id = x.client_id;
@@ -524,14 +524,20 @@ fn put_close_start(out: &mut [u8], at: usize, strings: &[u8], head: Head, x: Clo
 }
 
 // A list response up to its first entry.
-fn put_list(out: &mut [u8], at: usize, strings: &[u8], head: Head, x: GetListResponseStart) -> usize
+fn put_list_start(
+    out: &mut [u8],
+    at: usize,
+    strings: &[u8],
+    head: Head,
+    x: GetListResponseStart,
+) -> usize
     ensures { λ r. ⌜ Puts (now (out .entry)) at (writeStart (startMeans (now (strings .entry)) (startWith head (listBody (listStart x))))) (now (out .exit)) r ⌝ }
 {
     let p = put_head(out, at, strings, head, 0x0701);
-    put_list_start(out, p, strings, x)
+    put_list(out, p, strings, x)
 }
 
-// The register behind an octet string: its length bytes, then its bytes.
+// The register behind an octet string: its length bytes, of which 32 places hold any number, then its bytes.
 fn sum_octets(crc: u16, strings: &[u8], span: Span) -> u16
     ensures { λ r. ⌜ r ≡ register crc (writeOctets (partOf (now (strings .entry)) span)) ⌝ }
 {
@@ -570,7 +576,7 @@ fn sum_head(strings: &[u8], head: Head, tag: u64) -> u16
     crc_x25::update(r1, &bytes[..n3])
 }
 
-// The register behind an open response: strings as they stand, time and version from an array.
+// The register behind an open response: strings as they stand; 128 places hold any time and version.
 fn sum_open(crc: u16, strings: &[u8], x: OpenResponse) -> u16
     ensures { λ r. ⌜ r ≡ register crc (openBytes (openMeans (now (strings .entry)) (openResponse x))) ⌝ }
 {
@@ -597,7 +603,7 @@ fn sum_close(crc: u16, strings: &[u8], x: CloseResponse) -> u16
     sum_opt_octets(crc_x25::update_byte(crc, 0x71), strings, global_signature)
 }
 
-// The register behind the fields of a list's end.
+// The register behind the fields of a list's end; 128 places hold any time.
 fn sum_list_end(crc: u16, strings: &[u8], x: GetListResponseEnd) -> u16
     ensures { λ r. ⌜ r ≡ register crc (listEndBytes (listEndMeans (now (strings .entry)) (listEnd x))) ⌝ }
 {
@@ -776,10 +782,10 @@ pub fn write_list_start(
         return ListWritten::Refused(WriteError::BadSpan);
     }
     let mut nowhere = [0u8; 1];
-    if out.len() < put_list(&mut nowhere, at, strings, head, list) {
+    if out.len() < put_list_start(&mut nowhere, at, strings, head, list) {
         return ListWritten::Refused(WriteError::OutputTooShort);
     }
-    let p = put_list(out, at, strings, head, list);
+    let p = put_list_start(out, at, strings, head, list);
     ListWritten::To(ListWriter {
         place: p,
         state: ListState::Entries {
@@ -789,7 +795,7 @@ pub fn write_list_start(
     })
 }
 
-// Whether an optional string is short, as a meter's are.
+// Whether an optional string has at most 64 bytes, as a meter's have.
 fn short_opt(field: OptSpan) -> bool
     ensures { λ r. ⌜ r ≡ shortField (optSpan field) ⌝ }
 {
@@ -832,7 +838,7 @@ fn short_entry(x: ListEntry) -> bool
     false
 }
 
-// Whether an entry fits from a place on: seen at once where 512 bytes are left for a short one, else found by a run over no output.
+// Whether an entry fits from a place on: seen at once where 512 bytes are left for a short one, else found by a run over a byte of our own.
 fn entry_fits(len: usize, place: usize, strings: &[u8], x: ListEntry) -> bool
     requires { ⌜ len < 2 ^ 63 ⌝ }
     ensures { λ r. ⌜ r ≡ leb (place + length (writeEntry (entryMeans (now (strings .entry)) (listEntry x)))) len ⌝ }

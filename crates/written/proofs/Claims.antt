@@ -17,7 +17,7 @@ use Rattle.written.specs.Calls.{Writer, listTo, wholeList}
 use Rattle.written.specs.Writers.{Accepted, Back, WritesBack}
 use Rattle.written.specs.Claims.{WrittenClaims}
 use Rattle.written.proofs.Fewest.{fewest-unsigned, fewest-signed, shortest-length}
-use Rattle.written.proofs.Empty.{only-empty}
+use Rattle.written.proofs.Empty.{empty-there, only-empty}
 use Rattle.written.proofs.Round.{message-back}
 use Rattle.written.proofs.Events.{means-told, events-back, back-to-back}
 use Rattle.written.proofs.Again.{read-fits, written-again}
@@ -39,7 +39,7 @@ calls-told W good out at strings head list es x f g i h = accept-weak (λ w o b.
 pub written-claims : WrittenClaims
 written-claims =
     record {
-      fewest = record { unsigneds = fewest-unsigned; signeds = fewest-signed; lengths = shortest-length; empty = only-empty };
+      fewest = record { unsigneds = fewest-unsigned; signeds = fewest-signed; lengths = shortest-length; present = empty-there; empty = only-empty };
       back = record { message = message-back; events = events-back; several = back-to-back; again = written-again; calls = calls-told; several-calls = tells-several };
       writer = good-writer;
       fits = record { entry = entry-fits; end = list-end-fits; opening = open-start-fits; closing = close-start-fits; listing = list-body-fits; read = read-fits };

@@ -1,11 +1,12 @@
 -- A string that is present and empty: 80 02 is read so, and no other field of two bytes is.
 use mathlib.Core.Path.{_≡_, refl, sym, ap, _∙_}
-use mathlib.Core.List.{List, [], _∷_}
+use mathlib.Core.List.{List, [], _∷_, _++_}
 use mathlib.Core.Bool.{true}
 use mathlib.Core.Option.{Option, some, none}
 use Prim.Native.Nat.{ℕ, zero, suc, _+_, _*_, _/_, _%_, _-_, _≤_, _<_}
 use native.Mathlib.Omega.{arith}
-use lib.ListN.{length}
+use lib.ListN.{length, take, drop, length-drop}
+use lib.Seq.{length-take-le}
 use borrow.Author.Tests.{leb-true, leb-false, eqb-true}
 use Rattle.refusals.specs.Read.{Read, got, Refusal, need}
 use Rattle.tlf.specs.Lengths.{tyOf, moreFollow, lengthFrom, lessOwn, tlfAt}
@@ -15,12 +16,14 @@ use Rattle.tlf.specs.declared.Ty.the-variants.{OctetString, Boolean, Integer, U
 use Rattle.tlf.specs.declared.TypeLengthField.{TypeLengthField}
 use Rattle.refusals.proofs.Read.{Ok, ok-any, ok-at, ok-got, ok-then, ok-guard, ok-cond, ok-weak, byte-ok, Inside, span-ok}
 use Rattle.tlf.specs.Written.{tyNumber}
-use Rattle.refusals.proofs.Rest.{Reads}
+use Rattle.refusals.proofs.Rest.{Reads, reads-at}
 use Rattle.octet_string.specs.Strings.{isOctets, octetsAt, partOf}
 use Rattle.octet_string.specs.Optional.{absentAt, optional}
+use Rattle.octet_string.proofs.Strings.{part-is}
 use Rattle.octet_string.proofs.Optional.{OfField}
 use Rattle.streaming.specs.Meaning.{each}
 use Rattle.written.specs.Fits.{OnlyBytes}
+use Rattle.written.specs.Claims.{EmptyThere}
 use Rattle.writer.specs.Fields.{writeOptional, writePresent}
 use Rattle.written.proofs.Lens.{not-so}
 use Rattle.written.proofs.Fields.{written-opt-string}
@@ -42,17 +45,36 @@ is-string ListOf len p m e a b = not-so e
 record Behind (s : List ℕ) (at : ℕ) (p : Span) (next : ℕ) : Type 0 where
   tlf : tlfAt s at ≡ got (record { ty = OctetString; len = p .len }) (p .start)
   end : next ≡ p .start + p .len
+  within : next ≤ length s
 
 octets-behind : (s : List ℕ) (at : ℕ) → Ok (λ p n. Behind s at p n) (octetsAt s at)
 unfolding octetsAt
 octets-behind s at =
     ok-then _ _ (ok-any (tlfAt s at)) (λ t m a. ok-guard _ _ _ (λ e.
-    ok-weak (λ p n (i : Inside s m (t .len) p n). record { tlf = a ∙ is-string (t .ty) (t .len) p m e (i .start-is) (i .len-is); end = omega (arith, i .start-is, i .len-is, i .next-is) })
+    ok-weak (λ p n (i : Inside s m (t .len) p n). record { tlf = a ∙ is-string (t .ty) (t .len) p m e (i .start-is) (i .len-is); end = omega (arith, i .start-is, i .len-is, i .next-is); within = i .within })
     (span-ok s m (t .len))))
 
 present-behind : (s : List ℕ) (at : ℕ) → Ok (λ m n. OfField (Behind s at) m n) (optional octetsAt s at)
 unfolding optional
 present-behind s at = ok-cond (absentAt s at) _ _ (λ e. ok-got _ _ tt) (λ e. ok-then _ _ (octets-behind s at) (λ p n q. ok-got _ _ q))
+
+-- the bytes of a string, and one where there is none
+abbrev bytesOrOne : Option (List ℕ) → List ℕ
+bytesOrOne (some b) = b
+bytesOrOne none = 0 ∷ []
+
+-- so its span has no byte
+pub empty-there : (pre l : List ℕ) → EmptyThere (pre ++ (0x80 ∷ 0x02 ∷ l)) (length pre)
+empty-there pre l = let g = reads-at present-empty pre l in by (pre ++ (0x80 ∷ 0x02 ∷ l)) (length pre) (g .value) (g .is) (g .has)
+  where
+    by : (s : List ℕ) (at : ℕ) (m : Option Span) → optional octetsAt s at ≡ got m (at + 2) → each (partOf s) m ≡ some [] → EmptyThere s at
+    by s at none e q = let z : _≡_ {A = ℕ} 1 0 = ap (λ (m : Option (List ℕ)). length (bytesOrOne m)) q in absurd (omega arith)
+    by s at (some p) e q =
+        let b = ok-at (sym e) (present-behind s at) in
+        let w : p .start + p .len ≤ length s = omega (arith, b .end, b .within) in
+        let nothing : partOf s p ≡ [] = ap bytesOrOne q in
+        let n : length (take (p .len) (drop (p .start) s)) ≡ 0 = ap length (sym (part-is s p w) ∙ nothing) in
+        record { found = p; is = e; no-bytes = omega (arith, n, length-take-le (p .len) (drop (p .start) s) (omega (arith, w, length-drop (p .start) s))) }
 
 need-is : {A B : Type 0} {P : B → ℕ → Type 0} (m : Option A) (f : Refusal) (k : A → Read B) → ((a : A) → m ≡ some a → Ok P (k a)) → Ok P (need m f k)
 unfolding need

@@ -1,12 +1,14 @@
 -- Each fake falls: one call, or the calls of one list, by computing.
 use mathlib.Core.Path.{_≡_, refl, ap, _∙_}
-use mathlib.Core.List.{List, [], _∷_}
-use mathlib.Core.Bool.{true}
+use mathlib.Core.List.{List, [], _∷_, _++_}
+use mathlib.Core.Bool.{true, cond}
 use mathlib.Core.Option.{Option, some, none}
-use Prim.Native.Nat.{ℕ, zero, suc}
+use Prim.Native.Nat.{ℕ, zero, suc, _≤_, _<_}
 use native.Mathlib.Omega.{arith}
-use lib.ListN.{length, getD, replicate}
+use lib.ListN.{length, getD, replicate, length-append, length-replicate}
+use lib.Dec.{ltb}
 use lib.IntN.{pos, negsuc}
+use borrow.Author.Tests.{lt-ltb}
 use Rattle.refusals.specs.Read.{Read, got, refused, then, guard, need, many, byteAt, spanAt}
 use Rattle.refusals.specs.declared.Span.{Span}
 use Rattle.crc_x25.specs.Crc.{reflect, polynomial, bitStep, bitSteps, byteStep, register, finalXor, crcOf}
@@ -25,16 +27,17 @@ use Rattle.writer.specs.Fields.{lengthCount, writeTlf, inBytes, signedCount, lo
 use Rattle.writer.specs.Messages.{openBytes, closeBytes, listStartBytes, listEndBytes, writeBody, writeStart, writeTrailer}
 use Rattle.writer.specs.Calls.{putIn, writeRefusal, WriteOutcome, to, notWritten, AfterWrite, allWithin, startWith}
 use Rattle.writer.specs.declared.Head.{Head}
-use Rattle.writer.specs.declared.ListState.the-variants.{Ended}
+use Rattle.writer.specs.declared.ListState.the-variants.{Entries, Ended}
 use Rattle.writer.specs.declared.ListWriter.{ListWriter}
 use Rattle.events.specs.Message.{Message, contentOf, messageAt}
 use Rattle.written.specs.Messages.{writeEntries, writeEnd, writeContent, writeMessage, messageMeans}
 use Rattle.written.specs.Fits.{OnlyBytes, WideValueFits, StartFits}
 use Rattle.written.specs.Calls.{Writer, thenCall, entriesTo, begunTo, listTo, loneMessage, wholeList}
-use Rattle.written.specs.Writers.{Accepting, Accepted, Back, WritesBack}
-use Rattle.written.specs.Fakes.{countsWhatFollows, countsOneByte, countsTheList, emptyIsAbsent, absentIsZero, forgetsSignBit, timeAsValue, crcAsItIs, endsWithOne, writesNone, dropsTheRest, crcOfTheLast, FallWriters}
+use Rattle.written.specs.Writers.{Accepting, Accepted, Back, WritesBack, AloneFrom, ReadsAlone}
+use Rattle.written.specs.Fakes.{countsWhatFollows, countsOneByte, countsTheList, emptyIsAbsent, absentIsZero, forgetsSignBit, timeAsValue, crcAsItIs, endsWithOne, writesNone, dropsTheRest, crcOfTheLast, Manner, putBy, writesOnlyShort, FallWriters}
 use Rattle.written.proofs.Bytes.{none-bytes, more-bytes}
 use Rattle.written.proofs.Again.{part-bytes, each-bytes}
+use Rattle.written.proofs.Calls.{free}
 use Rattle.written.proofs.Writers.{callNo}
 use Rattle.written.proofs.Habits.{same-writer}
 
@@ -152,6 +155,31 @@ abbrev signOf : List (ListEntry (List ℕ)) → ℕ
 signOf [] = 0
 signOf (e ∷ es) = valueSign (e .value)
 
+-- an output of so many bytes at least
+record LongOutput (n : ℕ) : Type 0 where
+  bytes : List ℕ
+  long : n ≤ length bytes
+
+zeros-long : (n : ℕ) → LongOutput n
+zeros-long n = record { bytes = replicate n 0; long = omega (arith, length-replicate {A = ℕ} n 0) }
+
+when-none : {A : Type 0} {P : A → List ℕ → Type 0} (manner : Manner) (r : Option ℕ) (out : List ℕ) (at : ℕ) (b : List ℕ) (a : A) → r ≡ none → Accepted P (putBy manner r out at b a) → P a (manner .put out at b)
+when-none {A} {P} manner r out at b a e h = let k : Accepted P (putBy manner none out at b a) = rw e at h in k .holds
+
+long-fall : (rest : List ℕ) → 1048576 ≤ length rest → ReadsAlone writesOnlyShort → ⊥
+unfolding then guard need byteAt tlfAt lengthFrom lessOwn listOfAt isWithin partOf startAt reflect polynomial bitStep bitSteps byteStep register finalXor crcOf messageAt firstThat lengthCount lengthBytes typed writeTlf inBytes unsignedCount writeUnsigned writeOctets writeOptional writePresent closeBytes writeBody writeStart writeTrailer writeEntries writeEnd writeContent writeMessage allWithin
+long-fall rest long h =
+    let out = replicate 16 0 ++ rest in
+    let m = messageMeans [] (loneMessage (headWith noPart) (closeBody (closeOf none))) in
+    let b = writeMessage m in
+    let n : length b ≡ 16 = refl in
+    let more : 1048576 < length out = omega (arith, long, length-append (replicate 16 0) rest) in
+    let k : AloneFrom m 0 16 (cond (ltb 1048576 (length out)) out (putIn out 0 b)) =
+    when-none {P = λ next o. AloneFrom m 0 next o} _ _ out 0 b 16 (free out 0 b (omega (arith, n, more))) (h .closes out 0 [] (headWith noPart) (closeOf none) (close-fits-with [] noPart none none-bytes)) in
+    let j : AloneFrom m 0 16 out = rw (lt-ltb 1048576 (length out) more) at k in
+    let r = j (omega arith) in
+    omega (arith, ap (saysOf nothingOf (replicate 16 0)) (r .is))
+
 pub fall-writers : FallWriters
 unfolding then guard need many byteAt spanAt tlfAt lengthFrom lessOwn listOfAt number bytesAt rawFrom rawAt unsignedAt signedOf signedAt boolFrom boolAt octetsAt isWithin partOf absentAt optional timeAt statusOf statusAt signedValue unsignedValue listTypeAt valueOf valueAt openAt closeAt entryAt messageEndAt listStartAt listEndAt contentAt bodyAt startAt reflect polynomial bitStep bitSteps byteStep register finalXor crcOf crcFrom trailerAt contentOf messageAt firstThat lengthCount lengthBytes typed writeTlf inBytes unsignedCount signedCount lowBytes writeUnsigned writeSigned writeOctets writeOptional writePresent writeTime writeStatus writeValue writeBool writeEntry openBytes closeBytes listStartBytes listEndBytes writeBody writeStart writeTrailer writeEntries writeEnd writeContent writeMessage putIn writeRefusal allWithin thenCall entriesTo begunTo listTo
 fall-writers =
@@ -199,6 +227,14 @@ fall-writers =
           let q = h .adds [] (record { place = 0; state = Ended }) [] (entryWith (truth true)) in omega (arith, ap callNo (q .not-due (omega arith) refl));
       room-before-spans = λ h.
           let q = h .closes [] 0 [] (headWith (record { start = 0; len = 1 })) (closeOf none) in omega (arith, ap callNo (q .bad-span (omega arith) refl refl));
+      span-empty = λ h.
+          let q = h .closes sixtyFourZeros 0 [] (headWith (record { start = 0; len = 1 })) (closeOf none) in omega (arith, ap callNo (q .bad-span (omega arith) refl refl));
+      only-short = λ h.
+          let o = zeros-long 1048576 in long-fall (o .bytes) (o .long) h;
+      late-entry = λ h.
+          let q = h .adds (replicate 9 0) (record { place = 0; state = Entries 1 0 }) [] (entryWith (truth true)) .holds in omega (arith, ap (λ (x : List ℕ). getD x 0 0) (q .1));
+      last-byte = λ h.
+          let q = h .starts sixtyFourZeros 0 [] (headWith noPart) (listOf 0) .holds in omega (arith, ap (λ (x : List ℕ). getD x 63 0) (q .1));
       number-first = λ h.
           let q = h .adds [] (record { place = 1; state = Ended }) [] (entryWith (truth true)) in omega (arith, ap callNo (q .beyond (omega arith)));
       end-beyond = λ h.

@@ -1,13 +1,13 @@
 -- Ours does what every writer of messages must.
 use mathlib.Core.Path.{_≡_, refl, sym, ap, _∙_}
-use mathlib.Core.List.{List, [], _∷_, _++_, map, append-assoc}
+use mathlib.Core.List.{List, [], _∷_, _++_, map, append-assoc, append-nil}
 use mathlib.Core.Bool.{Bool, true, false, cond, not}
 use mathlib.Core.Option.{some, none}
 use Prim.Native.Nat.{ℕ, suc, _+_, _-_, _≤_, _<_}
 use native.Mathlib.Omega.{arith}
 use native.Mathlib.Decide.{decLe}
 use lib.ListN.{length, take, drop, length-append}
-use lib.Seq.{length-take-le, take-at, drop-append-seam}
+use lib.Seq.{length-take-le, take-at, drop-at, drop-append-seam}
 use lib.Dec.{ltb, eqb}
 use borrow.Author.Tests.{ltb-false, le-ltb, ne-eqb, eq-eqb}
 use Rattle.refusals.specs.Numbers.{badStateNo, wrongNumberNo, badSpanNo, outputTooShortNo}
@@ -26,10 +26,10 @@ use Rattle.writer.proofs.Puts.{put-length}
 use Rattle.events.specs.Message.{Message, messageAt}
 use Rattle.written.specs.Messages.{writeMessage, messageMeans}
 use Rattle.written.specs.Fits.{StartFits, EntriesFit, ListEndFits, MessageFits}
-use Rattle.written.specs.Calls.{ourWriter, listTo, loneMessage, wholeList}
-use Rattle.written.specs.Writers.{Accepted, RefusedWith, ExactlyIf, Back, WritesBack, PutsExactly, TakesWhatFits, Counts, FirstTrue, RefusesInOrder, GoodWriter}
+use Rattle.written.specs.Calls.{Writer, ourWriter, begunTo, listTo, loneMessage, wholeList}
+use Rattle.written.specs.Writers.{Accepted, RefusedWith, ExactlyIf, Back, WritesBack, ReadAlone, AloneFrom, ReadsAlone, PutsExactly, TakesWhatFits, Counts, FirstTrue, RefusesInOrder, GoodWriter}
 use Rattle.written.proofs.Round.{message-back}
-use Rattle.written.proofs.Calls.{accept-weak, put-holds, passed-all, taken-weak, first-true, StandsBehind, begun-stands, WholeWritten, list-calls, list-accepted, whole-call}
+use Rattle.written.proofs.Calls.{then-accepted, accept-weak, put-holds, passed-all, taken-weak, first-true, StandsBehind, begun-stands, WholeWritten, list-calls, list-accepted, whole-call}
 
 at-place : (s : List ℕ) {p q : ℕ} (n : ℕ) {x : Message Span} → p ≡ q → messageAt s p ≡ got x (p + n) → messageAt s q ≡ got x (q + n)
 at-place s n e h = rw e at h
@@ -95,11 +95,15 @@ whole-puts : (out : List ℕ) (at : ℕ) (strings : List ℕ) (head : Head) (bod
 whole-puts out at strings head body = rw (whole-call out at strings head body) (put-holds _ out at _ _ (λ e. (refl, refl)))
 
 pub puts-exactly : PutsExactly ourWriter
+unfolding startTo entryTo endTo
 puts-exactly =
     record {
       opens = λ out at strings head x. whole-puts out at strings head (openBody x);
       closes = λ out at strings head x. whole-puts out at strings head (closeBody x);
       lists = λ out at strings head list es x. accept-weak (λ w o k. (k .place, k .bytes, k .announced)) (list-calls out at strings head list es x);
+      starts = λ out at strings head list. put-holds _ out at _ _ (λ q. (refl, refl));
+      adds = λ out w strings e. put-holds _ out (w .place) _ _ (λ q. (refl, refl));
+      ends = λ out w strings x. put-holds _ out (w .place) _ _ (λ q. (refl, refl));
     }
 
 whole-first : (out : List ℕ) (at : ℕ) (strings : List ℕ) (head : Head) (body : Body Span)
@@ -123,6 +127,61 @@ refuses-in-order =
       starts = λ out at strings head list. first-true out at true _ _ _;
       adds = λ out w strings e. first-true out (w .place) (entryDue (w .state)) _ _ _;
       ends = λ out w strings x. first-true out (w .place) (endDue (w .state)) _ _ _;
+    }
+
+-- the part that was put at a place within the output
+part-there : (out : List ℕ) (at : ℕ) (b : List ℕ) → at ≤ length out → take (at + length b - at) (drop at (putIn out at b)) ≡ b
+unfolding putIn
+part-there out at b h =
+    let e : length b ≡ at + length b - at = omega arith in
+    rw (drop-at (take at out) (b ++ drop (at + length b) out) at (length-take-le at out h)) (take-at b _ _ e)
+
+-- nothing before it and nothing behind
+message-alone : (m : Message (List ℕ)) → MessageFits m → length (writeMessage m) ≤ 1048576 → ReadAlone m (writeMessage m)
+message-alone m f h =
+    let r = message-back m [] [] f (omega (arith, h, ap length (append-nil (writeMessage m)))) in
+    from (writeMessage m ++ []) (writeMessage m) (r .found) _ (append-nil (writeMessage m)) (omega arith) (r .is) (r .means)
+  where
+    from : (s b : List ℕ) (x : Message Span) (n : ℕ) → s ≡ b → n ≡ length b → messageAt s 0 ≡ got x n → messageMeans s x ≡ m → ReadAlone m b
+    from s b x n e l p q = record { found = x; is = rw (e, l) at p; means = rw e at q }
+
+alone-there : (out : List ℕ) (at : ℕ) (m : Message (List ℕ)) (next : ℕ) (o : List ℕ) → MessageFits m → at ≤ length out → next ≡ at + length (writeMessage m) → o ≡ putIn out at (writeMessage m) → AloneFrom m at next o
+alone-there out at m next o f h place bytes small =
+    let e : take (next - at) (drop at o) ≡ writeMessage m = rw (place, bytes) (part-there out at (writeMessage m) h) in
+    rw e (message-alone m f (omega (arith, place, small)))
+
+refused-any : {A : Type 0} {P : A → List ℕ → Type 0} {n : ℕ} {out : List ℕ} {l : AfterWrite A} → RefusedWith n out l → Accepted P l
+refused-any e = rw e (record { holds = tt })
+
+-- a place beyond the output is refused, so what is accepted begins within
+begins-within : {A : Type 0} {P : A → List ℕ → Type 0} {l : AfterWrite A} (out : List ℕ) (at : ℕ) → (length out < at → Accepted P l) → (at ≤ length out → Accepted P l) → Accepted P l
+begins-within {A} {P} {l} out at f g = by (decLe at (length out))
+  where
+    by : Dec (at ≤ length out) → Accepted P l
+    by (yes h) = g h
+    by (no h) = f (omega arith)
+
+list-beyond : {P : ListWriter → List ℕ → Type 0} (W : Writer) → RefusesInOrder W → (out : List ℕ) (at : ℕ) (strings : List ℕ) (head : Head) (list : ListStart Span) (es : List (ListEntry Span)) (x : ListEnd Span) → length out < at
+    → Accepted P (listTo W out at strings head list es x)
+unfolding listTo begunTo
+list-beyond W order out at strings head list es x h =
+    let q = order .starts out at strings head list in
+    let never : Accepted (λ w o. ⊥) (W .starts out at strings head list) = refused-any (q .beyond h) in
+    then-accepted _ _ (then-accepted {Q = λ w o. ⊥} _ _ never (λ w o z. absurd z)) (λ w o z. absurd z)
+
+-- of any writer that puts exactly the bytes, and refuses a place beyond the output
+pub reads-alone : (W : Writer) → PutsExactly W → RefusesInOrder W → ReadsAlone W
+reads-alone W exactly order =
+    record {
+      opens = λ out at strings head x f.
+          let q = order .opens out at strings head x in
+          begins-within out at (λ h. refused-any (q .beyond h)) (λ h. accept-weak (λ next o k. alone-there out at _ next o (record { start = f; content = (refl, refl) }) h (k .0) (k .1)) (exactly .opens out at strings head x));
+      closes = λ out at strings head x f.
+          let q = order .closes out at strings head x in
+          begins-within out at (λ h. refused-any (q .beyond h)) (λ h. accept-weak (λ next o k. alone-there out at _ next o (record { start = f; content = (refl, refl) }) h (k .0) (k .1)) (exactly .closes out at strings head x));
+      lists = λ out at strings head list es x f g i.
+          begins-within out at (λ h. list-beyond W order out at strings head list es x h) (λ h.
+          accept-weak (λ w o k. alone-there out at _ (w .place) o (record { start = f; content = (k .2 ∙ sym (map-length (entryMeans strings) es), g, i) }) h (k .0) (k .1)) (exactly .lists out at strings head list es x));
     }
 
 abbrev pub outcomeNo : {A : Type 0} → WriteOutcome A → ℕ
@@ -190,4 +249,4 @@ counts-entries =
     }
 
 pub good-writer : GoodWriter ourWriter
-good-writer = record { back = writes-back; exactly = puts-exactly; takes = takes-what-fits; counts = counts-entries; order = refuses-in-order }
+good-writer = record { back = writes-back; alone = reads-alone ourWriter puts-exactly refuses-in-order; exactly = puts-exactly; takes = takes-what-fits; counts = counts-entries; order = refuses-in-order }

@@ -1,6 +1,6 @@
 -- What the claims rule out: each writer of docs/WRONG-READINGS.md that is told here falls, by one of the parts of FallWriters.
-use Rattle.written.specs.Writers.{WritesBack, PutsExactly, TakesWhatFits, Counts, RefusesInOrder}
-use Rattle.written.specs.Fakes.{countsWhatFollows, countsOneByte, countsTheList, emptyIsAbsent, absentIsZero, inFullWidth, forgetsSignBit, writesBareTimes, timeAsValue, crcAsItIs, crcInTwo, endsWithOne, addsMore, endsEarly, endsTwice, roomBeforeNumber, roomBeforeSpans, numberFirst, endIsBeyond, hasNoRoom, fillsUp, writesNone, dropsTheRest, crcOfTheLast}
+use Rattle.written.specs.Writers.{WritesBack, ReadsAlone, PutsExactly, TakesWhatFits, Counts, RefusesInOrder}
+use Rattle.written.specs.Fakes.{countsWhatFollows, countsOneByte, countsTheList, emptyIsAbsent, absentIsZero, inFullWidth, forgetsSignBit, writesBareTimes, timeAsValue, crcAsItIs, crcInTwo, endsWithOne, addsMore, endsEarly, endsTwice, roomBeforeNumber, roomBeforeSpans, numberFirst, endIsBeyond, hasNoRoom, fillsUp, writesNone, dropsTheRest, crcOfTheLast, badSpanEmpty, writesOnlyShort, skipsLateEntries, turnsTheLast}
 use Rattle.written.proofs.Fakes.{fall-writers}
 
 fake-written-length-counts-what-follows : WritesBack countsWhatFollows → ⊥
@@ -54,6 +54,9 @@ fake-room-before-number = fall-writers .room-first
 fake-room-before-spans : RefusesInOrder roomBeforeSpans → ⊥
 fake-room-before-spans = fall-writers .room-before-spans
 
+fake-bad-span-is-empty : RefusesInOrder badSpanEmpty → ⊥
+fake-bad-span-is-empty = fall-writers .span-empty
+
 fake-number-before-place : RefusesInOrder numberFirst → ⊥
 fake-number-before-place = fall-writers .number-first
 
@@ -74,3 +77,12 @@ fake-rest-of-the-output-dropped = fall-writers .drops
 
 fake-crc-of-the-last-part : WritesBack crcOfTheLast → ⊥
 fake-crc-of-the-last-part = fall-writers .the-last
+
+fake-long-output-not-written : ReadsAlone writesOnlyShort → ⊥
+fake-long-output-not-written = fall-writers .only-short
+
+fake-entry-near-the-end-not-written : PutsExactly skipsLateEntries → ⊥
+fake-entry-near-the-end-not-written = fall-writers .late-entry
+
+fake-start-touches-the-last-byte : PutsExactly turnsTheLast → ⊥
+fake-start-touches-the-last-byte = fall-writers .last-byte

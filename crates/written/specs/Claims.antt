@@ -35,11 +35,19 @@ use Rattle.written.specs.Typed.{EntryTyped, OpenTyped, ListStartTyped, L
 use Rattle.written.specs.Jobs.{TellsSeveral}
 use Rattle.written.specs.Bench.{WrittenBench}
 
+-- an optional string of two bytes is read there, present and empty
+pub record EmptyThere (s : List ℕ) (at : ℕ) : Type 0 where
+  pub found : Span
+  pub is : optional octetsAt s at ≡ got (some found) (at + 2)
+  pub no-bytes : found .len ≡ 0
+
 -- whatever is read as a number, or as a type and length, is no shorter than what is written for it, wherever it stands
 pub record Fewest : Type 0 where
   pub unsigneds : (w v : ℕ) (s : List ℕ) (at n : ℕ) → w ≤ 8 → OnlyBytes s → unsignedAt w s at ≡ got v n → at + length (writeUnsigned v) ≤ n
   pub signeds : (w : ℕ) (z : ℤ) (s : List ℕ) (at n : ℕ) → w ≤ 8 → OnlyBytes s → signedAt w s at ≡ got z n → at + length (writeSigned z) ≤ n
   pub lengths : (ty : Ty) (len : ℕ) (s : List ℕ) (at n : ℕ) → tlfAt s at ≡ got (record { ty = ty; len = len }) n → at + length (writeTlf ty len) ≤ n
+  -- 80 02 is read as present and empty, behind any bytes and whatever follows, and no other two bytes are
+  pub present : (pre l : List ℕ) → EmptyThere (pre ++ (0x80 ∷ 0x02 ∷ l)) (length pre)
   pub empty : (b : List ℕ) (p : Span) → OnlyBytes b → length b ≡ 2 → optional octetsAt b 0 ≡ got (some p) 2 → p .len ≡ 0 → b ≡ 0x80 ∷ 0x02 ∷ []
 
 -- messages, wherever they stand in an input of at most 1,048,576 bytes

@@ -1,10 +1,10 @@
 -- check: fakes, each a writer that differs from ours in one habit, and which claim is false of it.
 use Prim.Native.Nat.{ℕ, _+_, _-_, _^_}
 use mathlib.Core.Path.{_≡_}
-use mathlib.Core.List.{List, [], _∷_, _++_}
+use mathlib.Core.List.{List, [], _∷_, _++_, map}
 use mathlib.Core.Bool.{Bool, true, false, cond, not}
 use mathlib.Core.Option.{Option, some, none}
-use lib.ListN.{length, take}
+use lib.ListN.{length, take, drop}
 use lib.Dec.{ltb, leb, eqb}
 use lib.IntN.{ℤ}
 use lib.Signed.{mag}
@@ -29,7 +29,7 @@ use Rattle.writer.specs.declared.ListState.{ListState}
 use Rattle.writer.specs.declared.ListState.the-variants.{Entries, Ended}
 use Rattle.writer.specs.declared.ListWriter.{ListWriter}
 use Rattle.written.specs.Calls.{Writer, ourWriter}
-use Rattle.written.specs.Writers.{WritesBack, PutsExactly, TakesWhatFits, Counts, RefusesInOrder}
+use Rattle.written.specs.Writers.{WritesBack, ReadsAlone, PutsExactly, TakesWhatFits, Counts, RefusesInOrder}
 
 -- how the parts of a message are written; a number comes with the width of its type
 pub record Wording : Type 0 where
@@ -294,6 +294,10 @@ roomBeforeSpans =
 abbrev pub numberFirst : Writer
 numberFirst = refusesBy (λ out at due good b. cond (not due) (some wrongNumberNo) (writeRefusal out at true good b))
 
+-- a span outside the strings is the empty part
+abbrev pub badSpanEmpty : Writer
+badSpanEmpty = refusesBy (λ out at due good b. writeRefusal out at due true b)
+
 -- a place at the output's length is beyond it
 abbrev pub endIsBeyond : Writer
 endIsBeyond =
@@ -325,6 +329,31 @@ dropsTheRest = writerBy ourWording (record { refuse = writeRefusal; leave = λ n
 -- the CRC is that of the last part
 abbrev pub crcOfTheLast : Writer
 crcOfTheLast = writerBy ourWording (record { refuse = writeRefusal; leave = λ n out at b. out; put = putIn; entry-due = entryDue; end-due = endDue; seen = λ crc b. register start b })
+
+-- ours, but for how the bytes of a call are put
+abbrev pub putsBy : (List ℕ → ℕ → List ℕ → List ℕ) → Writer
+putsBy put = writerBy ourWording (record { refuse = writeRefusal; leave = λ n out at b. out; put = put; entry-due = entryDue; end-due = endDue; seen = register })
+
+-- an entry behind which no end has room is accepted and not written
+abbrev pub skipsLateEntries : Writer
+skipsLateEntries =
+    let ours = putsBy putIn in
+    let late = putsBy (λ out at b. cond (ltb (length out - (at + length b)) 5) out (putIn out at b)) in
+    record { opens = ours .opens; closes = ours .closes; starts = ours .starts; adds = late .adds; ends = ours .ends }
+
+abbrev pub lastTurned : List ℕ → List ℕ
+lastTurned out = take (length out - 1) out ++ map (λ b. 255 - b) (drop (length out - 1) out)
+
+-- a list's start turns the output's last byte, and its end turns it back
+abbrev pub turnsTheLast : Writer
+turnsTheLast =
+    let ours = putsBy putIn in
+    let turns = putsBy (λ out at b. putIn (lastTurned out) at b) in
+    record { opens = ours .opens; closes = ours .closes; starts = turns .starts; adds = ours .adds; ends = turns .ends }
+
+-- in an output of more than 1,048,576 bytes nothing is written
+abbrev pub writesOnlyShort : Writer
+writesOnlyShort = putsBy (λ out at b. cond (ltb 1048576 (length out)) out (putIn out at b))
 
 -- two writers that do the same
 pub record SameWriter (U W : Writer) : Type 0 where
@@ -360,3 +389,7 @@ pub record FallWriters : Type 0 where
   pub writes-none : WritesBack writesNone → ⊥
   pub drops : WritesBack dropsTheRest → ⊥
   pub the-last : WritesBack crcOfTheLast → ⊥
+  pub only-short : ReadsAlone writesOnlyShort → ⊥
+  pub late-entry : PutsExactly skipsLateEntries → ⊥
+  pub last-byte : PutsExactly turnsTheLast → ⊥
+  pub span-empty : RefusesInOrder badSpanEmpty → ⊥

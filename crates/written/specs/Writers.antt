@@ -1,5 +1,5 @@
 -- claim: what every writer of messages must do. What accepted calls wrote is read back, what fits is accepted, entries are counted, refusals come in one order and change nothing.
-use Prim.Native.Nat.{ℕ, _+_, _≤_, _<_}
+use Prim.Native.Nat.{ℕ, _+_, _-_, _≤_, _<_}
 use mathlib.Core.Path.{_≡_}
 use mathlib.Core.Bool.{Bool, true, false}
 use mathlib.Core.List.{List, [], _∷_, map}
@@ -7,14 +7,17 @@ use lib.ListN.{length, take, drop}
 use Rattle.refusals.specs.Numbers.{badStateNo, wrongNumberNo, badSpanNo, outputTooShortNo}
 use Rattle.refusals.specs.Read.{got}
 use Rattle.refusals.specs.declared.Span.{Span}
+use Rattle.crc_x25.specs.Crc.{start, register}
 use Rattle.common.specs.Fields.{OpenResponse, CloseResponse, ListEntry}
 use Rattle.message.specs.Messages.{ListStart, ListEnd, openBody, closeBody, listBody}
 use Rattle.streaming.specs.Next.{startEvent, entryEvent, endEvent}
 use Rattle.streaming.specs.Meaning.{entryMeans, listEndMeans, startMeans, stringsOf}
 use Rattle.writer.specs.Fields.{writeEntry}
 use Rattle.writer.specs.Messages.{writeStart, listEndBytes}
-use Rattle.writer.specs.Calls.{putIn, WriteOutcome, to, notWritten, AfterWrite, entryDue, endDue, endBytes, allWithin, startWith}
+use Rattle.writer.specs.Calls.{putIn, WriteOutcome, to, notWritten, AfterWrite, entryDue, endDue, afterEntry, endBytes, allWithin, startWith}
 use Rattle.writer.specs.declared.Head.{Head}
+use Rattle.writer.specs.declared.ListState.{ListState}
+use Rattle.writer.specs.declared.ListState.the-variants.{Entries, Ended}
 use Rattle.writer.specs.declared.ListWriter.{ListWriter}
 use Rattle.events.specs.Message.{Message, messageAt}
 use Rattle.written.specs.Messages.{writeMessage, messageMeans}
@@ -64,6 +67,29 @@ pub record WritesBack (W : Writer) : Type 0 where
       → StartFits (startMeans strings (startWith head (listBody list))) → EntriesFit (map (entryMeans strings) es) → ListEndFits (listEndMeans strings x) → length out ≤ 1048576
       → Accepted (λ w o. Back (messageMeans strings (wholeList head list es x)) out at (w .place) o) (listTo W out at strings head list es x)
 
+-- the bytes alone are a message of this meaning, and nothing stands behind it
+pub record ReadAlone (m : Message (List ℕ)) (b : List ℕ) : Type 0 where
+  pub found : Message Span
+  pub is : messageAt b 0 ≡ got found (length b)
+  pub means : messageMeans b found ≡ m
+
+-- what was written from one place to the other, of at most 1,048,576 bytes, however long the output is
+abbrev pub AloneFrom : Message (List ℕ) → ℕ → ℕ → List ℕ → Type 0
+AloneFrom m at next o = next - at ≤ 1048576 → ReadAlone m (take (next - at) (drop at o))
+
+pub record ReadsAlone (W : Writer) : Type 0 where
+  pub opens : (out : List ℕ) (at : ℕ) (strings : List ℕ) (head : Head) (x : OpenResponse Span) → StartFits (startMeans strings (startWith head (openBody x)))
+      → Accepted (λ next o. AloneFrom (messageMeans strings (loneMessage head (openBody x))) at next o) (W .opens out at strings head x)
+  pub closes : (out : List ℕ) (at : ℕ) (strings : List ℕ) (head : Head) (x : CloseResponse Span) → StartFits (startMeans strings (startWith head (closeBody x)))
+      → Accepted (λ next o. AloneFrom (messageMeans strings (loneMessage head (closeBody x))) at next o) (W .closes out at strings head x)
+  pub lists : (out : List ℕ) (at : ℕ) (strings : List ℕ) (head : Head) (list : ListStart Span) (es : List (ListEntry Span)) (x : ListEnd Span)
+      → StartFits (startMeans strings (startWith head (listBody list))) → EntriesFit (map (entryMeans strings) es) → ListEndFits (listEndMeans strings x)
+      → Accepted (λ w o. AloneFrom (messageMeans strings (wholeList head list es x)) at (w .place) o) (listTo W out at strings head list es x)
+
+-- one accepted call of a list: its bytes at the place and all else as it was, the place behind them, and the state
+abbrev pub PutBehind : List ℕ → ℕ → List ℕ → ListState → ListWriter → List ℕ → Type 0
+PutBehind out at b state w o = (w ≡ record { place = at + length b; state = state }) × (o ≡ putIn out at b)
+
 -- exactly the bytes of the definitions, and a list has as many entries as it announces
 pub record PutsExactly (W : Writer) : Type 0 where
   pub opens : (out : List ℕ) (at : ℕ) (strings : List ℕ) (head : Head) (x : OpenResponse Span)
@@ -73,6 +99,12 @@ pub record PutsExactly (W : Writer) : Type 0 where
   pub lists : (out : List ℕ) (at : ℕ) (strings : List ℕ) (head : Head) (list : ListStart Span) (es : List (ListEntry Span)) (x : ListEnd Span)
       → let b = writeMessage (messageMeans strings (wholeList head list es x)) in
       Accepted (λ w o. (w .place ≡ at + length b) × (o ≡ putIn out at b) × (list .«num_vals» ≡ length es)) (listTo W out at strings head list es x)
+  pub starts : (out : List ℕ) (at : ℕ) (strings : List ℕ) (head : Head) (list : ListStart Span)
+      → let b = writeStart (startMeans strings (startWith head (listBody list))) in Accepted (PutBehind out at b (Entries (list .«num_vals») (register start b))) (W .starts out at strings head list)
+  pub adds : (out : List ℕ) (w : ListWriter) (strings : List ℕ) (e : ListEntry Span)
+      → let b = writeEntry (entryMeans strings e) in Accepted (PutBehind out (w .place) b (afterEntry (w .state) b)) (W .adds out w strings e)
+  pub ends : (out : List ℕ) (w : ListWriter) (strings : List ℕ) (x : ListEnd Span)
+      → let b = endBytes (w .state) (listEndBytes (listEndMeans strings x)) in Accepted (PutBehind out (w .place) b Ended) (W .ends out w strings x)
 
 -- every string of each entry lies within the strings
 abbrev pub AllGood : List ℕ → List (ListEntry Span) → Type 0
@@ -121,6 +153,7 @@ pub record RefusesInOrder (W : Writer) : Type 0 where
 -- all that a writer of messages must do
 pub record GoodWriter (W : Writer) : Type 0 where
   pub back : WritesBack W
+  pub alone : ReadsAlone W
   pub exactly : PutsExactly W
   pub takes : TakesWhatFits W
   pub counts : Counts W

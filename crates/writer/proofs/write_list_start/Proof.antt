@@ -27,30 +27,30 @@ returns-2 c =
     let w = c .before .list-within in
     refuses-span _ _ _ _ _ _ (c .before .before .if1 .left) refl (sym (w .ensures) ∙ not-true (w .result) (c .if2 .taken))
 
-slice-aggregate-put-list : tie.Need-slice-aggregate-put-list
-slice-aggregate-put-list c = search needs
+slice-aggregate-put-list-start : tie.Need-slice-aggregate-put-list-start
+slice-aggregate-put-list-start c = search needs
 
-put-list-requires : tie.Need-put-list-requires
-put-list-requires c κs = search needs
+put-list-start-requires : tie.Need-put-list-start-requires
+put-list-start-requires c κs = search needs
 
 returns-3 : tie.Need-returns-3
 unfolding startTo
 returns-3 c =
     let w = c .before .before .before .before .before .list-within in
-    refuses-room _ _ _ _ _ _ (c .before .before .before .before .before .before .if1 .left) refl (sym (w .ensures) ∙ not-false (w .result) (c .before .before .before .before .if2 .left)) (run-short _ _ (c .before .before .put-list .ensures) (omega arith) (c .if3 .taken))
+    refuses-room _ _ _ _ _ _ (c .before .before .before .before .before .before .if1 .left) refl (sym (w .ensures) ∙ not-false (w .result) (c .before .before .before .before .if2 .left)) (run-short _ _ (c .before .before .put-list-start .ensures) (omega arith) (c .if3 .taken))
 
-put-list-requires-2 : tie.Need-put-list-requires-2
-put-list-requires-2 c κs = search needs
+put-list-start-requires-2 : tie.Need-put-list-start-requires-2
+put-list-start-requires-2 c κs = search needs
 
 digest-requires : tie.Need-digest-requires
 digest-requires c κs = search needs
 
 -- the list's start bytes-stand in the output
-there : (c : tie.After-digest) → WasPut (now (c .before .before .before .before .before .before .before .before .before .before .before .before .before .before .args .out)) (c .before .before .before .before .before .before .before .before .before .before .before .before .before .before .args .at) (writeStart (startMeans (now (c .before .before .before .before .before .before .before .before .before .before .before .before .before .before .args .strings)) (startWith (c .before .before .before .before .before .before .before .before .before .before .before .before .before .before .args .head) (listBody (listStart (c .before .before .before .before .before .before .before .before .before .before .before .before .before .before .args .list)))))) (c .before .before .before .put-list2 .last .0) (c .before .before .before .put-list2 .result)
+there : (c : tie.After-digest) → WasPut (now (c .before .before .before .before .before .before .before .before .before .before .before .before .before .before .args .out)) (c .before .before .before .before .before .before .before .before .before .before .before .before .before .before .args .at) (writeStart (startMeans (now (c .before .before .before .before .before .before .before .before .before .before .before .before .before .before .args .strings)) (startWith (c .before .before .before .before .before .before .before .before .before .before .before .before .before .before .args .head) (listBody (listStart (c .before .before .before .before .before .before .before .before .before .before .before .before .before .before .args .list)))))) (c .before .before .before .put-list-start2 .last .0) (c .before .before .before .put-list-start2 .result)
 there c =
     let a = c .before .before .before .before .before .before .before .before .before .before .before .before .before .before .args in
     let small : length (now (a .out)) < 2 ^ 63 = omega (arith, c .before .before .before .before .before .before .before .before .before .before .before .before .before .before .good) in
-    was-put _ _ _ (c .before .before .before .put-list2 .ensures) (run-fits _ _ (c .before .before .before .before .before .before .before .put-list .ensures) small (c .before .before .before .before .before .if3 .left)) small
+    was-put _ _ _ (c .before .before .before .put-list-start2 .ensures) (run-fits _ _ (c .before .before .before .before .before .before .before .put-list-start .ensures) small (c .before .before .before .before .before .if3 .left)) small
 
 sub-update : tie.Need-sub-update
 sub-update c = let d = there c in search needs
@@ -82,10 +82,10 @@ write-list-start-spec =
     returns
     list-within-requires
     returns-2
-    slice-aggregate-put-list
-    put-list-requires
+    slice-aggregate-put-list-start
+    put-list-start-requires
     returns-3
-    put-list-requires-2
+    put-list-start-requires-2
     digest-requires
     sub-update
     part-update-start
