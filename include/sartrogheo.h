@@ -22,7 +22,7 @@ extern "C" {
 #define SGH_PAYLOAD_TOO_LONG 1u      /* a payload of more than SGH_LIMIT bytes */
 #define SGH_ENCODE_OUT_OF_MEMORY 2u  /* the whole frame doesn't fit in the output */
 #define SGH_DECODER_OUT_OF_MEMORY 3u /* a byte to store doesn't fit in the decoder's buffer */
-#define SGH_BAD_STATE 4u             /* a decoder, Encoder or reader that can't be (zeros are no decoder and no Encoder), or an unknown way */
+#define SGH_BAD_STATE 4u             /* a decoder, Encoder, reader, writer or event that can't be (zeros are no decoder, no Encoder and no event), or an unknown way */
 #define SGH_WRONG_BUFFER 5u          /* the lent buffer isn't as long as the capacity, or a capacity over SGH_LIMIT */
 #define SGH_DISCARDED_BYTES 6u       /* bytes before a start, or before finalize, belong to no frame */
 #define SGH_INVALID_ESC 7u           /* an escape with four bytes that mean nothing */
@@ -39,7 +39,9 @@ extern "C" {
 #define SGH_UNEXPECTED_VARIANT 13u /* an unknown tag */
 #define SGH_CRC_MISMATCH 14u       /* a message's CRC is wrong */
 #define SGH_MSG_END_MISMATCH 15u   /* a message's end byte isn't 00 */
-#define SGH_BAD_SPAN 16u           /* no payload stands in the buffer */
+#define SGH_BAD_SPAN 16u           /* no payload stands in the buffer; an event's string is no part of what is lent for it */
+#define SGH_WRONG_NUMBER 17u       /* an entry or a list's end is to be written where none is due */
+#define SGH_OUTPUT_TOO_SHORT 18u   /* what is to be written doesn't fit in the output */
 
 #define SGH_LIMIT 1048576u /* the longest payload to encode, the longest buffer and message input; a decoder hands out SGH_LIMIT - 4 bytes at most */
 
@@ -219,6 +221,20 @@ typedef struct {
    10 to 15, which drop the rest of the input. `event` is written whole each time. Lend the same input at every call, and stop at the first refusal: SGH_FINISHED
    need not follow one (behind one of 10 to 15, once the message's start was given, every later call gives 10). A message's CRC is judged behind its last event. */
 uint32_t sgh_next_event(const uint8_t *input, size_t len, sgh_reader *reader, sgh_event *event);
+
+/* ---- messages that are written, so that a bench can pose as a meter */
+
+/* Where a writer is in the output; {0} is a new one at its first byte, {place} at another. `state` is 1 between a list's start and its end, where `left` entries
+   are to come and `crc` is the CRC register; else all three are 0. */
+typedef struct {
+    uint64_t place, state, left, crc;
+} sgh_writer;
+
+/* Writes an event, as sgh_next_event gives it, whose strings are parts of `strings`, at the writer's place: an open or a close as a whole message, a list's start,
+   an entry or a list's end, with the message's CRC and end byte. Numbers and lengths take the fewest bytes. Gives 0, and the writer stands behind it; 4 for an
+   event or a writer that can't be, else 4 for a place beyond the output, 17 for an entry or end that isn't due, 16, 18, in this order, which leave both as they are.
+   A message's start is due anywhere: behind it a list that was not ended stays cut. */
+uint32_t sgh_write_event(uint8_t *out, size_t out_len, const uint8_t *strings, size_t strings_len, const sgh_event *event, sgh_writer *writer);
 
 #ifdef __cplusplus
 }

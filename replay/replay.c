@@ -148,7 +148,9 @@ static uint8_t bytes[BYTES]; /* those of its hex, or of the operation that is ru
 struct asked {
     uint64_t way, room; /* of a decoder; `room` of an output too */
     struct text ops;
-    size_t len; /* how many bytes its hex has */
+    size_t len;     /* how many bytes its hex has */
+    size_t strings; /* how many of them are lent as strings */
+    uint64_t at;    /* a place in the output, or beyond it */
 };
 
 /* The bytes of a hex word, which is as long as two of them each; gives how many, and none for `-`. */
@@ -236,6 +238,40 @@ static bool takes_packed(struct asked *a, struct text rest)
     a->room = number(first(sized, ' '));
     a->ops = is(ops, "-") ? (struct text){"b-", 2} : ops;
     return a->way <= UINT8_MAX && a->room <= ROOM && are_ops(a->ops);
+}
+
+/* A place, which may be any number of 64 bits. */
+static bool takes_place(struct asked *a, struct text s)
+{
+    for (size_t i = 0; i < s.len; i++) {
+        uint64_t d = (uint64_t)(s.at[i] - '0');
+        if (s.at[i] < '0' || s.at[i] > '9' || a->at > (UINT64_MAX - d) / 10)
+            return false;
+        a->at = 10 * a->at + d;
+    }
+    return s.len > 0;
+}
+
+static bool are_steps(struct text s)
+{
+    for (size_t i = 0; i < s.len; i++)
+        if (s.at[i] != '.' && s.at[i] != '-' && s.at[i] != '+')
+            return false;
+    return s.len > 0;
+}
+
+/* N AT OPS HEX, or N AT OPS HEX K. */
+static bool takes_rewrite(struct asked *a, struct text rest)
+{
+    struct text placed = behind(rest, ' '), stepped = behind(placed, ' '), last = behind(stepped, ' '), hex = first(last, ' ');
+    uint64_t room = number(first(rest, ' ')), most = hex.len < last.len ? number(behind(last, ' ')) : ROOM;
+
+    if (room > ROOM || most > ROOM || !takes_place(a, first(placed, ' ')) || !takes_bytes(a, hex))
+        return false;
+    a->room = room;
+    a->ops = first(stepped, ' ');
+    a->strings = most < a->len ? most : a->len;
+    return are_steps(a->ops);
 }
 
 /* ---- frames */
@@ -745,6 +781,75 @@ static bool says_places(const struct asked *a)
     return read_all(a->len, true);
 }
 
+/* ---- the events of a message, written again; their strings are parts of `bytes`, and the output is `frame` */
+
+struct rewriting {
+    sgh_reader reader;
+    sgh_event event; /* the last that was read */
+    bool any, over;  /* whether there is one, and whether none is left */
+    sgh_writer list;
+    uint64_t place; /* where the next message begins: behind what was last accepted */
+    bool agree, said;
+};
+
+/* Whether there is an event more. Behind the first refusal there is none. */
+static bool read_one(struct rewriting *w, size_t len)
+{
+    sgh_event event;
+
+    w->over = w->over || sgh_next_event(bytes, len, &w->reader, &event) != SGH_GOOD;
+    if (w->over)
+        return false;
+    w->event = event;
+    w->any = true;
+    return true;
+}
+
+/* A message's start is written at the place, an entry or end by the list's writer; an open or close has no part in that. A refusal must leave the writer as it was. */
+static void write_again(struct rewriting *w, const struct asked *a)
+{
+    bool start = w->event.kind == SGH_MESSAGE_START;
+    sgh_writer before = start ? (sgh_writer){.place = w->place} : w->list, after = before;
+    uint32_t answer = sgh_write_event(frame, a->room, bytes, a->strings, &w->event, &after);
+
+    put_counted(answer == SGH_GOOD ? "to " : "refused ", answer == SGH_GOOD ? after.place : answer);
+    if (answer != SGH_GOOD) {
+        w->agree = w->agree && memcmp(&before, &after, sizeof before) == 0;
+        return;
+    }
+    w->place = after.place;
+    if (!start || w->event.message.body == SGH_GET_LIST_RESPONSE)
+        w->list = after;
+}
+
+/* `.` the next event, `+` the one before again. */
+static void step(struct rewriting *w, const struct asked *a, char op)
+{
+    bool found = op == '+' ? w->any : read_one(w, a->len);
+
+    if (op == '-')
+        return;
+    put(w->said ? " | " : "");
+    w->said = true;
+    if (found)
+        write_again(w, a);
+    else
+        put("no event");
+}
+
+static bool says_rewrite(const struct asked *a)
+{
+    struct rewriting w = {.list = {.place = a->at}, .place = a->at, .agree = true};
+
+    memset(frame, 0x5a, a->room);
+    for (size_t i = 0; i < a->ops.len; i++)
+        step(&w, a, a->ops.at[i]);
+    put(w.said ? " | " : "");
+    put(a->room > 0 ? "" : "-");
+    put_hex(frame, a->room);
+    return w.agree;
+}
+
 /* ---- lines */
 
 /* `takes` gives whether the rest of the line is the command's; `says` writes its answer, and gives whether all calls agreed. */
@@ -762,6 +867,7 @@ static const struct command {
     {"packed", takes_packed, says_packed},
     {"events", takes_bytes, says_events},
     {"places", takes_bytes, says_places},
+    {"rewrite", takes_rewrite, says_rewrite},
 };
 
 /* Without a word first, since it is known at the end alone whether all agree. */

@@ -15,7 +15,7 @@ ROOT = programs.ROOT
 LIBRARY = "sartrogheo"
 # what a run of rt does, and how long that takes on two cores that have nothing else to do
 DOING, SECONDS = {"check": "proving", "staticlib": "compiling"}, {"check": 240, "staticlib": 40}
-REPLAY = os.path.join(ROOT, "target/library/replay")
+REPLAY, SMLMETER = (os.path.join(ROOT, "target/library", name) for name in ("replay", "smlmeter"))
 # C11 as any compiler takes it; the toolchain's has no headers of its own, and must not find the machine's
 PLAIN = ["-Wall", "-Wextra", "-Werror", "-O2", "-nostdinc", "-isystem", os.path.join(ROOT, "scripts/headers")]
 C11 = ["-std=c11", *PLAIN]
@@ -106,6 +106,11 @@ def kept(source, out):
 def replay():
     """The words that run the program behind bin/replay whose answers are the library's."""
     return kept(os.path.join(ROOT, "replay/replay.c"), REPLAY)
+
+
+def smlmeter():
+    """The words that run the program behind bin/smlmeter."""
+    return kept(os.path.join(ROOT, "smlmeter/smlmeter.c"), SMLMETER)
 
 
 def main():

@@ -399,6 +399,116 @@ static void readers(void)
     HELD(sgh_next_event(bytes, SGH_LIMIT, &r, &e) == SGH_INVALID_TLF && refused(&e, SGH_REFUSED, SGH_INVALID_TLF, SGH_TLF_LENGTH_UNDERFLOW, 0) && is_reader(&r, SGH_LIMIT, 0, 0));
 }
 
+/* ---- messages that are written */
+
+/* The strings of the events below: a transaction, a name. */
+static const uint8_t STRINGS[] = {0xdd, 0x43, 0x44, 0x00, 1, 0, 1, 8, 0, 0xff};
+/* CLOSE's own event, a list that announces n entries, an entry of 7 under the name, a list's end. */
+static const sgh_event CLOSES = {.kind = SGH_MESSAGE_START, .message = {.transaction_id = {0, 4}, .body = SGH_CLOSE_RESPONSE}};
+static const sgh_event ENTRY = {.kind = SGH_LIST_ENTRY, .entry = {.obj_name = {4, 6}, .value = {.kind = SGH_VALUE_UNSIGNED, .width = 1, .number = 7}}};
+static const sgh_event END = {.kind = SGH_GET_LIST_RESPONSE_END};
+#define ROOM 128u
+#define OVER_32 4294967296
+
+static sgh_event starts(uint64_t n)
+{
+    return (sgh_event){.kind = SGH_MESSAGE_START, .message = {.transaction_id = {0, 4}, .body = SGH_GET_LIST_RESPONSE, .list = {.server_id = {0, 2}, .num_vals = n}}};
+}
+
+static uint32_t write_to(sgh_writer *w, const sgh_event *e)
+{
+    return sgh_write_event(out, ROOM, STRINGS, sizeof STRINGS, e, w);
+}
+
+static bool is_writer(const sgh_writer *w, uint64_t place, uint64_t state, uint64_t left)
+{
+    return w->place == place && w->state == state && w->left == left && (state ? w->crc <= UINT16_MAX : w->crc == 0);
+}
+
+/* Whether a call gives this number and leaves output and writer. */
+static bool leaves(uint32_t number, const sgh_event *e, sgh_writer w)
+{
+    sgh_writer before = w;
+    uint8_t kept[ROOM];
+
+    memcpy(kept, out, ROOM);
+    return write_to(&w, e) == number && memcmp(&w, &before, sizeof w) == 0 && memcmp(out, kept, ROOM) == 0;
+}
+
+static void writing(void)
+{
+    sgh_writer w = {0};
+    sgh_event list = starts(2);
+
+    HELD(sizeof w == 32);
+    memset(out, 0xa5, ROOM);
+    HELD(write_to(&w, &CLOSES) == SGH_GOOD && is_writer(&w, sizeof CLOSE, 0, 0) && memcmp(out, CLOSE, sizeof CLOSE) == 0 && all_are(out + sizeof CLOSE, ROOM - sizeof CLOSE, 0xa5));
+    HELD(leaves(SGH_WRONG_NUMBER, &ENTRY, w) && leaves(SGH_WRONG_NUMBER, &END, w));
+    HELD(write_to(&w, &list) == SGH_GOOD && is_writer(&w, sizeof CLOSE + 22, 1, 2));
+    HELD(leaves(SGH_WRONG_NUMBER, &END, w));
+    HELD(write_to(&w, &ENTRY) == SGH_GOOD && w.left == 1 && write_to(&w, &ENTRY) == SGH_GOOD && is_writer(&w, sizeof CLOSE + 22 + 2 * 15, 1, 0));
+    HELD(leaves(SGH_WRONG_NUMBER, &ENTRY, w));
+    HELD(write_to(&w, &END) == SGH_GOOD && w.state == 0 && w.left == 0 && w.crc == 0);
+
+    /* what was written is read, and ends with the writer's place */
+    sgh_reader r = {0};
+    sgh_event e;
+    for (int i = 0; i < 5; i++)
+        HELD(sgh_next_event(out, w.place, &r, &e) == SGH_GOOD);
+    HELD(e.kind == SGH_GET_LIST_RESPONSE_END && sgh_next_event(out, w.place, &r, &e) == SGH_FINISHED && r.place == w.place);
+}
+
+/* Events that can't be: kinds, bodies, flags, widths, numbers over their types, and words that aren't used. */
+static void no_events(void)
+{
+    static const struct { uint8_t at; uint64_t word; } wrong[] = {{0, 0}, {0, 4}, {0, 5}, {0, TOP}, {3, 2}, {5, 1}, {6, 2}, {7, 1}, {7, OVER_32}, {8, TOP}, {9, 1}, {9, 256}, {10, 2}, {11, 1}, {12, 0}, {12, 6}, {13, 0}, {13, 3}, {13, 16}, {14, 256}, {15, 1}, {16, 1}, {17, 2}, {18, 1}, {20, 1}, {23, 1}};
+    sgh_writer due = {5, 1, 2, 65535};
+
+    HELD(leaves(SGH_BAD_STATE, &(sgh_event){0}, due));
+    for (unsigned k = 0; k < sizeof wrong / sizeof *wrong; k++) {
+        sgh_event e = ENTRY;
+        memcpy((uint8_t *)&e + 8 * wrong[k].at, &wrong[k].word, 8);
+        HELD(leaves(SGH_BAD_STATE, &e, due));
+    }
+    sgh_event e = CLOSES;
+    e.message.body = 4;
+    HELD(leaves(SGH_BAD_STATE, &e, due));
+    e.message.body = SGH_CLOSE_RESPONSE;
+    e.message.group_no = 256;
+    HELD(leaves(SGH_BAD_STATE, &e, due));
+    e = starts(OVER_32);
+    HELD(leaves(SGH_BAD_STATE, &e, due));
+    /* a scaler of -129 */
+    e = ENTRY;
+    e.entry.scaler = (sgh_opt_signed){1, -129};
+    HELD(leaves(SGH_BAD_STATE, &e, due));
+    e.entry.scaler.value = -128;
+    HELD(write_to(&due, &e) == SGH_GOOD);
+}
+
+/* Writers that can't be, whatever the event; then a place, what is due, the strings and the room, in this order. */
+static void writers(void)
+{
+    static const sgh_writer wrong[] = {{0, 2, 0, 0}, {0, TOP, 0, 0}, {0, 0, 1, 0}, {0, 0, 0, 1}, {0, 1, OVER_32, 0}, {0, 1, 1, 65536}, {0, 1, TOP, TOP}};
+    sgh_event outside = ENTRY, list = starts(0);
+
+    for (unsigned k = 0; k < sizeof wrong / sizeof *wrong; k++)
+        HELD(leaves(SGH_BAD_STATE, &CLOSES, wrong[k]) && leaves(SGH_BAD_STATE, &ENTRY, wrong[k]) && leaves(SGH_BAD_STATE, &END, wrong[k]));
+    outside.entry.obj_name.len = 7;
+    HELD(leaves(SGH_BAD_STATE, &outside, (sgh_writer){ROOM + 1, 1, 0, 0}) && leaves(SGH_BAD_STATE, &CLOSES, (sgh_writer){TOP, 0, 0, 0}));
+    HELD(leaves(SGH_WRONG_NUMBER, &outside, (sgh_writer){ROOM, 1, 0, 0}) && leaves(SGH_WRONG_NUMBER, &outside, (sgh_writer){ROOM, 0, 0, 0}));
+    HELD(leaves(SGH_BAD_SPAN, &outside, (sgh_writer){ROOM, 1, 1, 0}));
+    HELD(leaves(SGH_OUTPUT_TOO_SHORT, &ENTRY, (sgh_writer){ROOM, 1, 1, 0}) && leaves(SGH_OUTPUT_TOO_SHORT, &ENTRY, (sgh_writer){ROOM - 14, 1, 1, 0}));
+    HELD(leaves(SGH_OUTPUT_TOO_SHORT, &CLOSES, (sgh_writer){ROOM - sizeof CLOSE + 1, 0, 0, 0}));
+    outside = list;
+    outside.message.list.server_id = (sgh_span){TOP, 1};
+    HELD(leaves(SGH_BAD_SPAN, &outside, (sgh_writer){0, 0, 0, 0}));
+    /* a start is due anywhere, the greatest numbers are taken */
+    sgh_writer w = {0, 1, (OVER_32 - 1), UINT16_MAX};
+    HELD(write_to(&w, &ENTRY) == SGH_GOOD && is_writer(&w, 15, 1, (OVER_32 - 1) - 1));
+    HELD(write_to(&w, &list) == SGH_GOOD && is_writer(&w, 15 + 22, 1, 0));
+}
+
 /* A null pointer with length 0 is an empty slice, wherever one is taken. */
 static void nulls(void)
 {
@@ -428,6 +538,11 @@ static void nulls(void)
     HELD(sgh_encoder_next(&encoder, NULL, 0, &byte) == SGH_BAD_STATE);
     HELD(sgh_crc(NULL, 0) == 0);
     HELD(sgh_next_event(NULL, 0, &r, &e) == SGH_FINISHED && ends_at(&e, SGH_NO_EVENT, 1) && is_reader(&r, 0, 0, 0));
+    sgh_writer w = {0};
+    HELD(sgh_write_event(NULL, 0, NULL, 0, &END, &w) == SGH_WRONG_NUMBER && sgh_write_event(NULL, 0, NULL, 0, &CLOSES, &w) == SGH_BAD_SPAN);
+    e = CLOSES;
+    e.message.transaction_id.len = 0;
+    HELD(sgh_write_event(NULL, 0, NULL, 0, &e, &w) == SGH_OUTPUT_TOO_SHORT && sgh_write_event(out, ROOM, NULL, 0, &e, &w) == SGH_GOOD);
 }
 
 static int calls(void)
@@ -446,6 +561,9 @@ static int calls(void)
     encoder_words();
     reading();
     readers();
+    writing();
+    no_events();
+    writers();
     nulls();
     HELD(sgh_crc((const uint8_t *)"123456789", 9) == 0x906e);
     printf("%u facts, %u failed\n", held, failed);
@@ -636,6 +754,20 @@ static void answer_encode(const uint8_t *s, size_t len)
         printf("differ");
 }
 
+/* The events of an input up to the first call without one, written one behind the other. */
+static void answer_written(const uint8_t *s, size_t len)
+{
+    sgh_reader r = {0};
+    sgh_writer w = {0};
+    sgh_event e;
+    uint32_t number = SGH_GOOD;
+
+    while (number == SGH_GOOD && sgh_next_event(s, len, &r, &e) == SGH_GOOD)
+        number = sgh_write_event(out, sizeof out, s, len, &e, &w);
+    put_hex(out, w.place);
+    printf(" %" PRIu32 " %" PRIu64, number, w.left);
+}
+
 static size_t unhex(const char *text)
 {
     size_t n = 0;
@@ -664,6 +796,8 @@ static int answers(void)
             answer_events(bytes, len);
         else if (line[0] == 'f')
             answer_encode(bytes, len);
+        else if (line[0] == 'w')
+            answer_written(bytes, len);
         else
             printf("%04x", sgh_crc(bytes, len));
         putchar('\n');

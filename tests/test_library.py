@@ -2,8 +2,8 @@
 
 The header says what the crate exports: each constant is the number that the definitions have, each prototype that of one export, each word of an event that of `eventWords`; C++ takes it too. The archive is for x86-64, defines the exports and nothing else, has nothing that can be
 written, and asks for nothing but what a compiler asks for by itself. tests/library.c makes every call with good and bad input, and answers random commands, each as tests/push_rules.py, tests/places_reading.py and oracle/sml.py do, which were written from the documents alone.
-The examples are built with the toolchain, and print of the captures and of a recording with noise and damaged frames what is stored in tests/expected, and what those readings say. An installed folder is moved, holds what docs/LIBRARY.md says, and is all that the program of that page
-is built with; a run of scripts/install that fails leaves a folder as it was.
+The examples are built with the toolchain, and print of the captures and of a recording with noise and damaged frames what is stored in tests/expected, and what those readings say. An installed folder is moved, holds what docs/LIBRARY.md says, and is all that the programs of that page
+are built with; a run of scripts/install that fails leaves a folder as it was.
 
 `python3 tests/test_library.py N` runs N random commands of each kind, with --all 20,000; --store writes the output of the examples to tests/expected.
 """
@@ -68,7 +68,7 @@ TAGS = {("startWords", "m"): "MESSAGE_START", ("endWords", "e"): "GET_LIST_RESPO
         ("valueWords", "truth b"): "VALUE_BOOL", ("valueWords", "bytes s"): "VALUE_BYTES", ("valueWords", "signed width z"): "VALUE_SIGNED", ("valueWords", "unsigned width n"): "VALUE_UNSIGNED", ("valueWords", "listTime n"): "VALUE_TIME"}
 PLACED = {("startWords", "m"): "message.", ("bodyWords", "openBody b"): "message.open.", ("bodyWords", "closeBody b"): "message.close.", ("bodyWords", "listBody b"): "message.list.", ("endWords", "e"): "end.", ("entryWords", "e"): "entry.", ("saidWords", "failed f"): "refused."}
 # the type of a parameter, and of an answer
-TYPES = {"&mut [u8; 28]": "sgh_decoder *", "&[u8; 28]": "const sgh_decoder *", "&mut [u64; 3]": "sgh_reader *", "&mut [u64; 24]": "sgh_event *", "&[u8]": "const uint8_t *, size_t", "&mut [u8]": "uint8_t *, size_t",
+TYPES = {"&mut [u8; 28]": "sgh_decoder *", "&[u8; 28]": "const sgh_decoder *", "&mut [u64; 3]": "sgh_reader *", "&mut [u64; 24]": "sgh_event *", "&[u64; 24]": "const sgh_event *", "&[u8]": "const uint8_t *, size_t", "&mut [u8]": "uint8_t *, size_t",
          "&mut usize": "size_t *", "&mut u8": "uint8_t *", "u8": "uint8_t", "usize": "size_t", "u16": "uint16_t", "u32": "uint32_t", "": "void"}
 
 
@@ -81,8 +81,8 @@ def numbers_of(path, pattern):
     return {name: int(n) for name, n in re.findall(pattern, text(path), re.M)}
 
 
-# document 01's, by number; the kinds of 11, by name
-REFUSALS = {n: upper(name) for name, n in numbers_of("crates/refusals/specs/Numbers.antt", r"^(\w+)No = (\d+)$").items() if n <= 16}
+# document 01's and the writer's two, by number; the kinds of 11, by name
+REFUSALS = {n: upper(name) for name, n in numbers_of("crates/refusals/specs/Numbers.antt", r"^(\w+)No = (\d+)$").items() if n <= 18}
 KINDS = numbers_of("crates/refusals/specs/Answers.antt", r"^kindOf (\w+) = (\d)$")
 
 
@@ -96,7 +96,7 @@ def terms(name, case):
 
 def constants():
     """The header's constants by the definitions and the code that the proofs are about."""
-    held("document 01's numbers", sorted(REFUSALS), list(range(1, 17)))
+    held("the numbers of refusals", sorted(REFUSALS), list(range(1, 19)))
     wanted = {name: n for n, name in REFUSALS.items()} | {upper(name): n for name, n in KINDS.items()}
     wanted |= {upper(name): n for name, n in numbers_of("crates/sartrogheo/specs/Calls.antt", r"^(good|payload|finished)No = (\d+)$").items()}
     wanted |= numbers_of("crates/decoder/src/lib.rt", r"const (\w+_WAY): u8 = (\d);")
@@ -149,9 +149,9 @@ def structs_are(folder):
     words = layout()
     held("layout: fields of sgh_event", sorted(leaves("sgh_event", structs)), sorted(words))
     asked = [f"_Static_assert(offsetof(sgh_event, {path}) == {8 * at} && sizeof(((sgh_event *)0)->{path}) == 8, \"{path}\");" for path, at in words.items()]
-    sizes = {"sgh_decoder": "SGH_DECODER_LEN", "sgh_event": "8 * SGH_EVENT_WORDS", "sgh_encoder": "8 * 4", "sgh_reader": "8 * 3"}
+    sizes = {"sgh_decoder": "SGH_DECODER_LEN", "sgh_event": "8 * SGH_EVENT_WORDS", "sgh_encoder": "8 * 4", "sgh_reader": "8 * 3", "sgh_writer": "8 * 4"}
     asked += [f"_Static_assert(sizeof({name}) == {size}, \"{name}\");" for name, size in sizes.items()]
-    held("layout: Encoder and reader", [list(leaves(name, structs)) for name in ("sgh_encoder", "sgh_reader")], [["kind", "count", "place", "crc"], ["place", "start", "pending"]])
+    held("layout: Encoder, reader and writer", [list(leaves(name, structs)) for name in ("sgh_encoder", "sgh_reader", "sgh_writer")], [["kind", "count", "place", "crc"], ["place", "start", "pending"], ["place", "state", "left", "crc"]])
     compiles(folder, "layout: as the compiler has it", "\n".join(["#include <stddef.h>", "#include <sartrogheo.h>", *asked, ""]), ["-std=c11"])
     compiles(folder, "the header alone, in C11", "#include <sartrogheo.h>\n", ["-std=c11", "-pedantic", "-Wpadded"])
     compiles(folder, "the header alone, in C++", "#include <sartrogheo.h>\n", ["-x", "c++", "-std=c++11", "-pedantic"])
@@ -159,11 +159,12 @@ def structs_are(folder):
 
 
 def prototypes():
-    """Each export as C has it. `values` is a plain array, any other four numbers are an Encoder."""
+    """Each export as C has it. Four numbers are what their name says."""
+    four = {"values": "uint64_t [SGH_VALUES]", "encoder": "sgh_encoder *", "writer": "sgh_writer *"}
     wanted = {}
     for name, parameters, answer in re.findall(r'#\[no_mangle\]\s*pub extern "C" fn (\w+)\(([^)]*)\)(?: -> (\w+))?', EXPORTS):
         pairs = [p.strip().split(": ", 1) for p in parameters.replace("\n", " ").split(",") if p.strip()]
-        types = [TYPES.get(t) or ("uint64_t [SGH_VALUES]" if n == "values" else "sgh_encoder *") for n, t in pairs]
+        types = [TYPES.get(t) or four.get(n) for n, t in pairs]
         held(f"types of {name}", [t for n, t in pairs if t not in TYPES and t != "&mut [u64; 4]"], [])
         wanted[name] = f"{TYPES[answer]} ({', '.join(types)})"
     found = {}
@@ -249,6 +250,51 @@ def numbered(line):
     return re.sub(r"err (\w+)(?: (\w+))? (\d+) @(\d+)", one, line)
 
 
+# how the fields of an event begin, and which of its strings are always there; the tags of messages
+WRITTEN = {"open": (b"\x76", ["tid", "file", "server"]), "close": (b"\x71", ["tid"]), "list": (b"\x77", ["tid", "server"]), "entry": (b"\x77", ["name"]), "end": (b"", [])}
+TAGGED = {"open": 0x101, "close": 0x201, "list": 0x701}
+
+
+def fewest(ty, x):
+    """A number in the fewest bytes that hold it, with its sign if it has one."""
+    return next(element(ty, x.to_bytes(n, "big", signed=ty == INT)) for n in range(1, 9) if (-(256**n) // 2 <= x < 256**n // 2 if ty == INT else x < 256**n))
+
+
+def field(name, word, needed):
+    """A field of an event of the reading as it is written; a string that may be absent, and is there and empty, is 80 02."""
+    kind, _, rest = word.partition(":")
+    if word == "-":
+        return ABSENT
+    if word[0] == "x":
+        return b"\x80\x02" if word == "x" and name not in needed else element(OCT, bytes.fromhex(word[1:]))
+    if kind in ("sec", "list"):
+        return b"\x72" + fewest(UINT, 1) + (fewest(UINT, int(rest)) if kind == "sec" else field(name, rest, needed))
+    if kind == "oct":
+        return element(OCT, bytes.fromhex(rest))
+    if kind == "bool":
+        return element(BOOL, bytes([int(rest)]))
+    return fewest(INT if name == "scaler" or kind[0] == "i" else UINT, int(rest or word))
+
+
+def written(events):
+    """The events of a reading as a writer puts them down, by the documents: each field in its order, numbers and lengths in the fewest bytes, behind a message its CRC and end byte. And the answer, and how many entries are to come."""
+    out, begun, left = b"", 0, 0
+    for event in events:
+        kind, *fields = event.split(" ")
+        head, needed = WRITTEN[kind]
+        fields = [word.split("=", 1) for word in fields]
+        left = int(fields.pop()[1]) if kind == "list" else max(left - (kind == "entry"), 0)
+        fields = [field(name, word, needed) for name, word in fields]
+        if kind in TAGGED:
+            begun = len(out)
+            fields[3:3] = [b"\x72" + fewest(UINT, TAGGED[kind]), head]
+            head = b"\x76"
+        out += head + b"".join(fields) + (length(LIST, left) if kind == "list" else b"")
+        if kind in ("open", "close", "end"):
+            out += fewest(UINT, int.from_bytes(crc(out[begun:]).to_bytes(2, "little"), "big")) + b"\0"
+    return f"{out.hex()} 0 {left}"
+
+
 def commands(n):
     """Commands, and what the readings answer."""
     r = random.Random(SEED)
@@ -260,6 +306,7 @@ def commands(n):
         yield f"c 0 0 0 {data.hex()}", "%04x" % crc(data)
         data = file(r)
         yield f"e 0 0 0 {data.hex()}", numbered(Reading(data).line())
+        yield f"w 0 0 0 {data.hex()}", written(Reading(data).events)
 
 
 def answers(program, n):
@@ -607,15 +654,22 @@ def paged(data):
     return "".join(line + "\n" for line in lines)
 
 
+def put(path, source):
+    open(path, "w").write(source)
+    return path
+
+
 def page_is(folder, moved, exports):
-    """docs/LIBRARY.md: each call, each number, and its program, built with what is installed alone."""
+    """docs/LIBRARY.md: each call, each number, and its two programs, built with what is installed alone."""
     page, path = text("docs/LIBRARY.md"), os.path.join(folder, "page.c")
     held("docs/LIBRARY.md: calls", sorted(re.findall(r"^\| `(sgh_\w+)` \|", page, re.M)), sorted(exports))
-    held("docs/LIBRARY.md: numbers", re.findall(r"^\| (\d+)(?: to \d+)? \| `SGH_(\w+)`", page, re.M), [(str(k), REFUSALS[k]) for k in (*range(1, 11), 16)])
-    source, wanted = (re.search(rf"^```{kind}\n(.*?)^```", page, re.M | re.S).group(1) for kind in ("c", "text"))
-    open(path, "w").write(source)
+    held("docs/LIBRARY.md: numbers", re.findall(r"^\| (\d+)(?: to \d+)? \| `SGH_(\w+)`", page, re.M), [(str(k), REFUSALS[k]) for k in (*range(1, 11), 16, 17, 18)])
+    (source, writes), (wanted, heard) = (re.findall(rf"^```{kind}\n(.*?)^```", page, re.M | re.S) for kind in ("c", "text"))
     include, library = flags_of(moved)
-    program = clink.built(path, os.path.join(folder, "page"), include, library)
+    program, writer = (clink.built(put(path, code), os.path.join(folder, name), include, library) for code, name in ((source, "page"), (writes, "writes")))
+    sent = subprocess.run(writer, capture_output=True).stdout
+    held("what the second program of docs/LIBRARY.md writes, heard by the first", ran(program, sent), (0, heard))
+    held("that is one frame", sent, frame(bytes.fromhex(push_rules.events(CAPACITY, sent, 2)[0][8:])))
     meter = open("captures/two-byte-length.bin", "rb").read()
     held("the program of docs/LIBRARY.md", ran(program, meter), (0, wanted))
     for what, data in (("the capture", meter), ("values", frame(values())), ("the recording", recording()), ("a cut frame", meter[:99]), ("nothing", b"")):
@@ -669,7 +723,7 @@ def main(folder):
     failing(folder)
     own_compiler(folder, *page_is(folder, installed(folder), exports))
     end_at_faults()
-    print(f"library: {found} constants, {len(exports)} prototypes and {fields} fields of an event as the definitions have them; an archive of {size:,} bytes with these functions alone; {facts.split(' ')[0]} facts of the calls; {asked:,} random commands; two examples, an installed folder and the page's program")
+    print(f"library: {found} constants, {len(exports)} prototypes and {fields} fields of an event as the definitions have them; an archive of {size:,} bytes with these functions alone; {facts.split(' ')[0]} facts of the calls; {asked:,} random commands; two examples, an installed folder and the page's programs")
 
 
 folder = os.path.realpath(tempfile.mkdtemp())

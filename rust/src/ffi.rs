@@ -15,6 +15,8 @@ pub type Encoder = [u64; 4];
 pub type Reader = [u64; 3];
 /// `sgh_event`: its kind, and the words of that kind's struct.
 pub type Event = [u64; EVENT_WORDS];
+/// `sgh_writer`: place, state, left, crc. Zeros are a new one.
+pub type Writer = [u64; 4];
 
 // The header's numbers, by its names without SGH_: of answers,
 pub const GOOD: u32 = 0;
@@ -24,6 +26,10 @@ pub const DECODER_OUT_OF_MEMORY: u32 = 3;
 pub const DISCARDED_BYTES: u32 = 6;
 pub const INVALID_ESC: u32 = 7;
 pub const INVALID_MESSAGE: u32 = 8;
+pub const BAD_STATE: u32 = 4;
+pub const BAD_SPAN: u32 = 16;
+pub const WRONG_NUMBER: u32 = 17;
+pub const OUTPUT_TOO_SHORT: u32 = 18;
 // of refusals in an event,
 pub const INPUT_TOO_LONG: u64 = 9;
 pub const UNEXPECTED_EOF: u64 = 10;
@@ -44,7 +50,9 @@ pub const REFUSED: u64 = 4;
 pub const REFUSED_ALONE: u64 = 5;
 pub const OPEN_RESPONSE: u64 = 1;
 pub const CLOSE_RESPONSE: u64 = 2;
+pub const GET_LIST_RESPONSE: u64 = 3;
 pub const VALUE_BOOL: u64 = 1;
+pub const VALUE_BYTES: u64 = 2;
 pub const VALUE_SIGNED: u64 = 3;
 pub const VALUE_UNSIGNED: u64 = 4;
 pub const VALUE_TIME: u64 = 5;
@@ -57,7 +65,7 @@ pub const VALUES: usize = 4;
 pub const EVENT_WORDS: usize = 24;
 
 mod c {
-    use super::{Encoder, Event, Reader, State, Values};
+    use super::{Encoder, Event, Reader, State, Values, Writer};
 
     extern "C" {
         pub fn sgh_decoder_new(d: *mut State, capacity: usize, way: u8) -> u32;
@@ -79,6 +87,14 @@ mod c {
         pub fn sgh_encoder_next(e: *mut Encoder, payload: *const u8, payload_len: usize, byte: *mut u8) -> u32;
         pub fn sgh_crc(bytes: *const u8, len: usize) -> u16;
         pub fn sgh_next_event(input: *const u8, len: usize, reader: *mut Reader, event: *mut Event) -> u32;
+        pub fn sgh_write_event(
+            out: *mut u8,
+            out_len: usize,
+            strings: *const u8,
+            strings_len: usize,
+            event: *const Event,
+            writer: *mut Writer,
+        ) -> u32;
     }
 }
 
@@ -148,4 +164,10 @@ pub fn crc(bytes: &[u8]) -> u16 {
 pub fn next_event(input: &[u8], reader: &mut Reader, event: &mut Event) -> u32 {
     // SAFETY: two `&mut`, of as many numbers as `sgh_reader` and `sgh_event` have, which overlap neither with each other nor with `input`, which is good for its length.
     unsafe { c::sgh_next_event(input.as_ptr(), input.len(), reader, event) }
+}
+
+#[inline]
+pub fn write_event(out: &mut [u8], strings: &[u8], event: &Event, writer: &mut Writer) -> u32 {
+    // SAFETY: two `&mut`, which overlap neither with each other nor with `strings` and `event`, which are only read; both slices are good for their length, and writer and event have as many numbers as `sgh_writer` and `sgh_event`.
+    unsafe { c::sgh_write_event(out.as_mut_ptr(), out.len(), strings.as_ptr(), strings.len(), event, writer) }
 }

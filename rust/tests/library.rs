@@ -8,6 +8,7 @@ use sartrogheo::parser::streaming::{
 use sartrogheo::parser::{ParseErrorKind, TlfParseError};
 use sartrogheo::transport::{decode_streaming, encode_into, encode_streaming, DecodeErr, Decoder, EncodeErr, Encoder};
 use sartrogheo::util::{ArrayBuf, Buffer, OutOfMemory};
+use sartrogheo::writer::{WriteErr, Writer};
 use sartrogheo::{crc, LIMIT};
 
 const FRAME: [u8; 20] = [0x1b, 0x1b, 0x1b, 0x1b, 1, 1, 1, 1, 0x12, 0x34, 0x56, 0x78, 0x1b, 0x1b, 0x1b, 0x1b, 0x1a, 0, 0xb8, 0x7b];
@@ -125,6 +126,7 @@ fn decoders_and_readers_can_be_sent_and_shared() {
     both::<Decoder<Small>>();
     both::<Encoder<&[u8]>>();
     both::<Parser>();
+    both::<Writer>();
     both::<UntilRefused>();
 }
 
@@ -472,4 +474,109 @@ fn a_vec_is_a_buffer_of_the_limit() {
     assert_eq!(frame(LIMIT + 1), Err(OutOfMemory));
     assert_eq!(encode::<Vec<u8>>(std::iter::repeat(0u8)), Err(OutOfMemory));
     assert_eq!(encode::<Small>(std::iter::repeat(0u8)), Err(OutOfMemory));
+}
+
+/// Every kind of event, each field there and absent, strings and their absence, the ends of numbers.
+fn of_every_kind(s: &[u8]) -> Vec<ParseEvent<'_>> {
+    let start =
+        |message_body| ParseEvent::MessageStart(MessageStart { transaction_id: &s[..4], group_no: 255, abort_on_error: 7, message_body });
+    let entry = |value, full: bool| {
+        ParseEvent::ListEntry(ListEntry {
+            obj_name: &s[4..10],
+            status: full.then_some(Status::Status32(70_000)),
+            val_time: full.then_some(Time::SecIndex(u32::MAX)),
+            unit: full.then_some(255),
+            scaler: full.then_some(-128),
+            value,
+            value_signature: full.then_some(&s[9..9]),
+        })
+    };
+    let values = [
+        Value::Bool(true),
+        Value::Bool(false),
+        Value::Bytes(&s[1..10]),
+        Value::Bytes(&[]),
+        Value::I8(-128),
+        Value::I16(-129),
+        Value::I32(i32::MIN),
+        Value::I64(i64::MIN),
+        Value::U8(255),
+        Value::U16(256),
+        Value::U32(u32::MAX),
+        Value::U64(u64::MAX),
+        Value::List(ListType::Time(Time::SecIndex(9))),
+    ];
+    let open = |full: bool| {
+        start(MessageBody::OpenResponse(OpenResponse {
+            codepage: full.then_some(&s[2..2]),
+            client_id: full.then_some(&s[..1]),
+            req_file_id: &s[1..3],
+            server_id: &s[3..9],
+            ref_time: full.then_some(Time::SecIndex(0)),
+            sml_version: full.then_some(1),
+        }))
+    };
+    let list = GetListResponseStart {
+        client_id: None,
+        server_id: &[],
+        list_name: Some(&s[5..6]),
+        act_sensor_time: Some(Time::SecIndex(65_536)),
+        num_vals: 2 * values.len() as u32,
+    };
+    let mut all = vec![open(true), open(false), start(MessageBody::GetListResponse(list))];
+    all.extend([true, false].into_iter().flat_map(|full| values.clone().map(|value| entry(value, full))));
+    all.push(ParseEvent::GetListResponseEnd(GetListResponseEnd { list_signature: Some(&s[..10]), act_gateway_time: None }));
+    all.push(start(MessageBody::CloseResponse(CloseResponse { global_signature: None })));
+    all
+}
+
+#[test]
+fn what_is_written_is_read_back_and_written_again() {
+    let strings = [0xdd, 0x43, 0x44, 0, 1, 0, 1, 8, 0, 0xff];
+    let (mut out, mut again) = ([0xa5; 2048], [0; 2048]);
+    let all = of_every_kind(&strings);
+    let mut writer = Writer::new(&mut out, &strings);
+    for event in &all {
+        assert_eq!(writer.write(event), Ok(()), "{event:?}");
+    }
+    let read: Vec<_> = Parser::new(writer.written()).collect::<Result<_, _>>().unwrap();
+    assert_eq!(read, all);
+    let mut second = Writer::at(&mut again, 5, writer.written());
+    read.iter().for_each(|event| assert_eq!(second.write(event), Ok(())));
+    assert_eq!((&second.written()[5..], second.place(), second.left()), (writer.written(), writer.place() + 5, 0));
+    let len = writer.place();
+    assert!(out[len..].iter().all(|b| *b == 0xa5));
+}
+
+#[test]
+fn a_close_is_written_as_it_came() {
+    let (mut out, mut nothing) = ([0; 20], []);
+    let close = Parser::new(&CLOSE).next().unwrap().unwrap();
+    let mut writer = Writer::new(&mut out, &CLOSE);
+    assert_eq!((writer.write(&close), writer.written()), (Ok(()), &CLOSE[..]));
+    assert_eq!(Writer::new(&mut nothing, &CLOSE).write(&close), Err(WriteErr::OutputTooShort));
+}
+
+#[test]
+fn refusals_of_a_writer_come_in_order_and_change_nothing() {
+    let strings = [0xdd, 0x43, 0x44, 0, 1, 0, 1, 8, 0, 0xff];
+    let (other, mut out) = (strings, [7; 200]);
+    let (all, foreign) = (of_every_kind(&strings), of_every_kind(&other));
+    let (list, entry, end) = (&all[2], &all[3], &all[all.len() - 2]);
+    let mut writer = Writer::new(&mut out, &strings);
+    assert_eq!((writer.write(&foreign[3]), writer.write(end)), (Err(WriteErr::WrongNumber), Err(WriteErr::WrongNumber)));
+    assert_eq!((writer.write(&foreign[0]), writer.place()), (Err(WriteErr::BadSpan), 0));
+    assert_eq!((writer.write(list), writer.left()), (Ok(()), 26));
+    let place = writer.place();
+    assert_eq!((writer.write(&foreign[3]), writer.write(end)), (Err(WriteErr::BadSpan), Err(WriteErr::WrongNumber)));
+    assert_eq!((writer.place(), writer.left()), (place, 26));
+    while writer.write(entry).is_ok() {}
+    assert_eq!(writer.write(entry), Err(WriteErr::OutputTooShort));
+    let place = writer.place();
+    assert!(place <= 200 && out[place..].iter().all(|b| *b == 7));
+    let mut beyond = Writer::at(&mut out, 201, &strings);
+    assert_eq!((beyond.write(&foreign[3]), beyond.written()), (Err(WriteErr::BadState), &[][..]));
+    let numbers = [WriteErr::BadState, WriteErr::WrongNumber, WriteErr::BadSpan, WriteErr::OutputTooShort].map(|e| e.number());
+    assert_eq!(numbers, [4, 17, 16, 18]);
+    assert_eq!(WriteErr::BadSpan.to_string(), "BadSpan");
 }

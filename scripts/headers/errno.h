@@ -2,3 +2,4 @@
 int *__errno_location(void);
 #define errno (*__errno_location())
 #define EINTR 4
+#define EPIPE 32

@@ -4,6 +4,7 @@ typedef struct file FILE;
 extern FILE *stdin, *stdout, *stderr;
 FILE *fopen(const char *, const char *);
 size_t fread(void *, size_t, size_t, FILE *);
+size_t fwrite(const void *, size_t, size_t, FILE *);
 char *fgets(char *, int, FILE *);
 int ferror(FILE *);
 int fflush(FILE *);

@@ -16,18 +16,18 @@ use Rattle.decoder.specs.declared.Asked.{Asked}
 use Rattle.decoder.specs.declared.Asked.the-variants.{Good, BadSpan}
 
 -- the event that an answer came from
-eventOf : DecoderAnswer → Event
-eventOf nothing = Nothing
-eventOf (payload bytes) = Payload
-eventOf (count n) = Nothing
-eventOf (refusal n v) =
+eventFrom : DecoderAnswer → Event
+eventFrom nothing = Nothing
+eventFrom (payload bytes) = Payload
+eventFrom (count n) = Nothing
+eventFrom (refusal n v) =
     cond (eqb n 3) OutOfMemory (cond (eqb n 4) BadState (cond (eqb n 5) WrongBuffer
     (cond (eqb n 6) (DiscardedBytes (getD v 0 0))
     (cond (eqb n 7) (InvalidEsc (getD v 0 0) (getD v 1 0) (getD v 2 0) (getD v 3 0))
     (InvalidMessage (getD v 0 0) (getD v 1 0) (eqb (getD v 2 0) 1) (getD v 3 0))))))
 
-event-back : (e : Event) (bytes : List ℕ) → eventOf (answerOf e bytes) ≡ e
-unfolding eventOf
+event-back : (e : Event) (bytes : List ℕ) → eventFrom (answerOf e bytes) ≡ e
+unfolding eventFrom
 event-back Nothing bytes = refl
 event-back Payload bytes = refl
 event-back (DiscardedBytes n) bytes = refl
@@ -39,7 +39,7 @@ event-back BadState bytes = refl
 event-back WrongBuffer bytes = refl
 
 one-event : (e f : Event) (bytes more : List ℕ) → answerOf e bytes ≡ answerOf f more → e ≡ f
-one-event e f bytes more h = sym (event-back e bytes) ∙ ap eventOf h ∙ event-back f more
+one-event e f bytes more h = sym (event-back e bytes) ∙ ap eventFrom h ∙ event-back f more
 
 -- push: answer, record and memory
 pub one-push : (r s : Pushed) (m n : List ℕ) → afterPush r m ≡ afterPush s n → (r ≡ s) × (m ≡ n)

@@ -42,6 +42,7 @@ views =
       streaming = Streaming.views;
       parser = Parser.views;
       writer = Writer.views;
+      words = Words.views;
     }
 
 pub decided : Decided

@@ -1,5 +1,5 @@
 -- Each fake of a library falls: one small call, computed, is not what the claim says.
-use mathlib.Core.Path.{_≡_, refl, ap}
+use mathlib.Core.Path.{_≡_, refl, ap, _∙_}
 use mathlib.Core.List.{List, [], _∷_}
 use mathlib.Core.Option.{Option, some, none}
 use Prim.Native.Nat.{ℕ}
@@ -7,6 +7,7 @@ use native.Mathlib.Omega.{arith}
 use lib.IntN.{ℤ, pos, negsuc}
 use lib.ListN.{length, getD, replicate}
 use Rattle.crc_x25.specs.Crc.{reflect, polynomial, bitStep, bitSteps, byteStep, register}
+use Rattle.refusals.specs.declared.Span.{Span}
 use Rattle.refusals.specs.Read.{then, guard, need, byteAt, spanAt}
 use Rattle.frame.specs.Frame.{same, escaped, closed, frameOf}
 use Rattle.encoder.specs.Encode.{EncodeAnswer, length-is, noFrame, AfterEncode, encodeTo}
@@ -19,20 +20,30 @@ use Rattle.packed.specs.Layout.{lowFirst, numberAt, stateIn, packedBytes, packe
 use Rattle.packed.specs.Packed.{packInto, unpackOf, pushPacked, slicePacked, finalizePacked}
 use Rattle.tlf.specs.Lengths.{tlfAt, lengthFrom, lessOwn, listOfAt}
 use Rattle.numbers.specs.Numbers.{number, bytesAt, rawFrom, rawAt, unsignedAt, signedOf, signedAt, boolFrom, boolAt}
-use Rattle.octet_string.specs.Strings.{octetsAt}
+use Rattle.octet_string.specs.Strings.{octetsAt, isWithin, partOf}
 use Rattle.octet_string.specs.Optional.{absentAt, optional}
 use Rattle.value.specs.Values.{timeAt, statusOf, statusAt, signedValue, unsignedValue, listTypeAt, valueOf, valueAt}
 use Rattle.common.specs.Fields.{entryAt}
-use Rattle.message.specs.Messages.{startAt}
-use Rattle.streaming.specs.Next.{startEvent, entryEvent, endEvent, Said, event, noEvent, failed, alone, onward, beginAt, entryNext, stepAt, nextAt}
+use Rattle.message.specs.Messages.{listBody, startAt}
+use Rattle.streaming.specs.Next.{MessageEvent, startEvent, entryEvent, endEvent, Said, event, noEvent, failed, alone, onward, beginAt, entryNext, stepAt, nextAt}
+use Rattle.byte_count.specs.Count.{firstThat, unsignedCount}
+use Rattle.tlf.specs.Written.{lengthBytes, typed}
+use Rattle.writer.specs.Fields.{lengthCount, writeTlf, inBytes, writeUnsigned, writeOctets, writeOptional}
+use Rattle.writer.specs.Messages.{listStartBytes, writeBody, writeStart}
+use Rattle.writer.specs.Calls.{writeRefusal, WriteOutcome, to, notWritten, AfterWrite, putOr, allWithin, startTo}
+use Rattle.writer.specs.declared.ListState.the-variants.{Ended}
+use Rattle.writer.specs.declared.ListWriter.{ListWriter}
 use Rattle.words.specs.Words.{withZeros}
-use Rattle.sartrogheo.specs.Calls.{sghDecoderNew, sghPushByte, sghPushSlice, sghFinalize}
+use Rattle.words.specs.Back.{eventBack, eventOf}
+use Rattle.words.proofs.Laws.{event-words-length}
+use Rattle.sartrogheo.specs.Calls.{Reply, sghDecoderNew, sghPushByte, sghPushSlice, sghFinalize}
 use Rattle.sartrogheo.specs.Streams.{encoderIn, sghEncoderNew, sghEncoderNext, sghNextEvent}
+use Rattle.sartrogheo.specs.Writes.{writerIn, sghWriteEvent}
 use Rattle.marks.specs.Encoders.{callsOf}
 use Rattle.marks.specs.Events.{Numbers, saysAt}
 use Rattle.marks.specs.Chunks.{oneOp, slice, HeardUse, heardUse, usesSay, usesLeave}
-use Rattle.marks.specs.Library.{HearsNew, LentByCaller, CallerBegins, HearsDecoder, HearsEncode, HearsEncoder, HearsReader}
-use Rattle.marks.specs.FakeLibraries.{deniesNew, keepsValues, handsBuffer, paysAlways, leavesLast, forgetsSlice, encodesNothing, forgetsCount, losesPlace, losesSign, losesKind, FallLibraries}
+use Rattle.marks.specs.Library.{HearsNew, LentByCaller, CallerBegins, HearsDecoder, HearsEncode, HearsEncoder, HearsReader, HearsWriter}
+use Rattle.marks.specs.FakeLibraries.{deniesNew, keepsValues, handsBuffer, paysAlways, leavesLast, forgetsSlice, encodesNothing, forgetsCount, losesPlace, losesSign, losesKind, forgetsPlace, mistakesWords, FallLibraries}
 use Rattle.marks.proofs.Narrow.{zeros-bytes}
 
 abbrev blank : LentByCaller
@@ -141,6 +152,30 @@ loses-kind : HearsReader losesKind → ⊥
 unfolding entryCount saysAt sghNextEvent withZeros same then guard need byteAt spanAt tlfAt lengthFrom lessOwn listOfAt number bytesAt rawFrom rawAt unsignedAt signedOf signedAt boolFrom boolAt octetsAt absentAt optional timeAt statusOf statusAt signedValue unsignedValue listTypeAt valueOf valueAt entryAt onward entryNext stepAt nextAt
 loses-kind h = let n : _≡_ {A = ℕ} 0 1 = ap entryCount (h entryBytes atEntry 0) in omega (arith, n)
 
+-- the list's start of no strings, at a new writer
+abbrev bareStart : MessageEvent Span
+bareStart =
+    startEvent (record { «transaction_id» = record { start = 0; len = 0 }; «group_no» = 0; «abort_on_error» = 0; «message_body» = listBody (record { «client_id» = none; «server_id» = record { start = 0; len = 0 }; «list_name» = none; «act_sensor_time» = none; «num_vals» = 0 }) })
+
+placeHeard : AfterWrite ListWriter → ℕ
+placeHeard a = go (a .answer)
+  where
+    go : WriteOutcome ListWriter → ℕ
+    go (to w) = w .place
+    go (notWritten n) = 0
+
+forgets-place : HearsWriter forgetsPlace → ⊥
+unfolding placeHeard sghWriteEvent eventOf eventBack withZeros same writerIn startTo writeRefusal putOr writeStart writeBody listStartBytes writeTlf writeUnsigned writeOctets writeOptional lengthCount inBytes allWithin isWithin partOf firstThat unsignedCount lengthBytes typed
+forgets-place h =
+    let n : _≡_ {A = ℕ} 0 16 = ap placeHeard (h .writes (replicate 32 0) [] (record { place = 0; state = Ended }) bareStart tt (record { «group_no» = omega arith; «abort_on_error» = omega arith; «message_body» = record { «act_sensor_time» = tt; «num_vals» = omega arith } })) in
+    omega (arith, n)
+
+-- no words at all
+mistakes-words : HearsWriter mistakesWords → ⊥
+mistakes-words h =
+    let n : _≡_ {A = ℕ} 17 4 = ap (λ (r : Reply). r .number) (h .no-event [] [] [] [] (λ e t q. (let z : _≡_ {A = ℕ} 0 24 = ap length q ∙ event-words-length (event e) in omega (arith, z)))) in
+    omega (arith, n)
+
 pub fall-libraries : FallLibraries
 fall-libraries =
     record {
@@ -155,4 +190,6 @@ fall-libraries =
       loses-place = loses-place;
       loses-sign = loses-sign;
       loses-kind = loses-kind;
+      forgets-place = forgets-place;
+      mistakes-words = mistakes-words;
     }

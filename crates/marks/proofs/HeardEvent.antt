@@ -1,7 +1,7 @@
 -- What an event's numbers say is the event: every field is read back.
 use mathlib.Core.Path.{_≡_, refl, ap}
 use mathlib.Core.Bool.{true, false, cond}
-use mathlib.Core.List.{List, [], _∷_}
+use mathlib.Core.List.{List}
 use mathlib.Core.Option.{Option, some, none}
 use Prim.Native.Nat.{ℕ, zero, suc, _+_, _*_, _-_, _^_, _≤_, _<_}
 use native.Mathlib.Omega.{arith}
@@ -31,9 +31,10 @@ use Rattle.streaming.specs.Next.{startEvent, entryEvent, endEvent, Said, event,
 use Rattle.places.specs.Stands.{Stands, over, badLength, unwanted, messageTag, timeTag, otherCrc, otherEnd}
 use Rattle.places.specs.Calls.{CallBroke, inStart, inTrailer, inNextStart, inListEnd, inEntry}
 use Rattle.places.proofs.Calls.{call-broke}
-use Rattle.words.specs.Words.{twosComplement, signedWord, spanWords, statusWords, numberWord, fieldWords, valueWords, startWords, endWords, entryWords, withZeros, eventWords}
+use Rattle.words.specs.Words.{twosComplement, startWords, endWords, entryWords, withZeros, eventWords}
+use Rattle.words.proofs.Parts.{presentWord, partIn, span-words, span-back, number-words, status-words, scaler-words, wordOf, value-words}
 use Rattle.sartrogheo.specs.Streams.{readerNo}
-use Rattle.marks.specs.Library.{wordAt, eventIn, saidBy, heardEvent}
+use Rattle.marks.specs.Library.{eventIn, saidBy, heardEvent}
 
 -- ---- numbers below 0
 
@@ -52,42 +53,13 @@ signed-back (negsuc n) h = rw (le-ltb (2 ^ 64 - suc n) (2 ^ 63) (omega arith)) (
 
 -- ---- fields
 
--- whether a field is there, and a part of it, 0 where it is not
-here : {A : Type 0} → Option A → ℕ
-here (some x) = 1
-here none = 0
-
-partOf′ : {A : Type 0} → (A → ℕ) → Option A → ℕ
-partOf′ f (some x) = f x
-partOf′ f none = 0
-
-span-words : (o : Option Span) → fieldWords 2 spanWords o ≡ here o ∷ partOf′ (λ p. p .start) o ∷ partOf′ (λ p. p .len) o ∷ []
-unfolding here partOf′
-span-words (some x) = refl
-span-words none = refl
-
-span-back : (o : Option Span) → cond (eqb (here o) 1) (some (record { start = partOf′ (λ p. p .start) o; len = partOf′ (λ p. p .len) o })) none ≡ o
-unfolding here partOf′
-span-back (some x) = refl
-span-back none = refl
-
-number-words : (o : Option ℕ) → fieldWords 1 numberWord o ≡ here o ∷ partOf′ (λ n. n) o ∷ []
-unfolding here partOf′
-number-words (some x) = refl
-number-words none = refl
-
-number-back : (o : Option ℕ) → cond (eqb (here o) 1) (some (partOf′ (λ n. n) o)) none ≡ o
-unfolding here partOf′
+number-back : (o : Option ℕ) → cond (eqb (presentWord o) 1) (some (partIn (λ n. n) o)) none ≡ o
+unfolding presentWord partIn
 number-back (some x) = refl
 number-back none = refl
 
-status-field : (o : Option Status) → fieldWords 2 statusWords o ≡ here o ∷ partOf′ (λ s. s .width) o ∷ partOf′ (λ s. s .number) o ∷ []
-unfolding here partOf′
-status-field (some x) = refl
-status-field none = refl
-
-status-back : (o : Option Status) → cond (eqb (here o) 1) (some (record { width = partOf′ (λ s. s .width) o; number = partOf′ (λ s. s .number) o })) none ≡ o
-unfolding here partOf′
+status-back : (o : Option Status) → cond (eqb (presentWord o) 1) (some (record { width = partIn (λ s. s .width) o; number = partIn (λ s. s .number) o })) none ≡ o
+unfolding presentWord partIn
 status-back (some x) = refl
 status-back none = refl
 
@@ -96,13 +68,8 @@ abbrev FieldInRange : Option ℤ → Type 0
 FieldInRange (some z) = InRange z
 FieldInRange none = Unit {0}
 
-scaler-words : (o : Option ℤ) → fieldWords 1 signedWord o ≡ here o ∷ partOf′ twosComplement o ∷ []
-unfolding here partOf′
-scaler-words (some z) = refl
-scaler-words none = refl
-
-scaler-back : (o : Option ℤ) → FieldInRange o → cond (eqb (here o) 1) (some (signedBy (partOf′ twosComplement o))) none ≡ o
-unfolding here partOf′
+scaler-back : (o : Option ℤ) → FieldInRange o → cond (eqb (presentWord o) 1) (some (signedBy (partIn twosComplement o))) none ≡ o
+unfolding presentWord partIn
 scaler-back (some z) h = ap some (signed-back z h)
 scaler-back none h = refl
 
@@ -149,18 +116,6 @@ record EntryInRange (e : ListEntry Span) : Type 0 where
   scaler′ : FieldInRange (e .scaler)
   value′ : ValueInRange (e .value)
 
--- its words, one by one
-wordOf : Value Span → ℕ → ℕ
-wordOf v k = wordAt (valueWords v) k
-
-value-words : (v : Value Span) → valueWords v ≡ wordOf v 0 ∷ wordOf v 1 ∷ wordOf v 2 ∷ wordOf v 3 ∷ wordOf v 4 ∷ []
-unfolding wordOf
-value-words (truth b) = refl
-value-words (bytes p) = refl
-value-words (signed width z) = refl
-value-words (unsigned width n) = refl
-value-words (listTime n) = refl
-
 value-words-back : (v : Value Span) → ValueInRange v → valueBy (wordOf v 0) (wordOf v 1) (wordOf v 2) (wordOf v 3) (wordOf v 4) ≡ v
 unfolding wordOf valueBy
 value-words-back (truth true) h = refl
@@ -174,7 +129,7 @@ entry-words-back : (e : ListEntry Span) → EntryInRange e → eventIn (withZero
 unfolding withZeros signedBy valueBy
 entry-words-back e h =
     rw (
-      status-field (e .status),
+      status-words (e .status),
       number-words (e .«val_time»),
       number-words (e .unit),
       scaler-words (e .scaler),

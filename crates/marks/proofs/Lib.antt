@@ -19,6 +19,7 @@ pub mod Encoders
 pub mod Events
 pub mod HeardAnswer
 pub mod HeardEvent
+pub mod HeardWriter
 pub mod Library
 pub mod LibraryMarks
 pub mod Decided

@@ -1,4 +1,4 @@
--- A caller of the library hears what is said of a decoder, an encode, an Encoder and a reader by value.
+-- A caller of the library hears what is said of a decoder, an encode, an Encoder, a reader and a writer by value.
 use mathlib.Core.Path.{_≡_, refl, ap, sym, _∙_}
 use mathlib.Core.Bool.{false, cond}
 use mathlib.Core.List.{List, [], _∷_, _++_}
@@ -40,6 +40,7 @@ use Rattle.marks.specs.Chunks.{Use, oneOp, slice, HeardUse, heardUse, us
 use Rattle.marks.specs.Library.{ourLibrary, HearsNew, LentByCaller, KeptByCaller, keptByCaller, actBy, sliceBy, slicerBy, HearsPayload, HearsDecoder, HearsEncode, KeptEncoder, encoderBy, HearsEncoder, readerBy, threeOf, HearsReader, HearsOurs}
 use Rattle.marks.proofs.Events.{reader-gives}
 use Rattle.marks.proofs.HeardEvent.{call-back}
+use Rattle.marks.proofs.HeardWriter.{hears-writer}
 use Rattle.marks.proofs.HeardAnswer.{answer-heard, push-bytes-hearable, slice-bytes-hearable, finalize-bytes-hearable, reset-heard}
 use Rattle.marks.proofs.Packed.{hostSlicer, StaysKept, kept-payload, new-alike}
 use Rattle.marks.proofs.Ways.{unknown-bad}
@@ -237,7 +238,7 @@ hears-decoder C c m us g p =
     (uses-as c (g .values′) us j m ∙ a .says, x .memory″ ∙ a .stays .memories, payload-as _ _ _ x (a .stays))
 
 pub hears-ours : HearsOurs ourLibrary
-hears-ours = record { new = hears-new; decoder = hears-decoder; encode = hears-encode; encoder = hears-encoder; crc = λ l. refl; reader = hears-reader }
+hears-ours = record { new = hears-new; decoder = hears-decoder; encode = hears-encode; encoder = hears-encoder; crc = λ l. refl; reader = hears-reader; writer = hears-writer }
 
 pub library-gives : ReaderGives (readerBy ourLibrary)
 library-gives s k = hears-reader s (record { place = 0; start = 0; pending = 0 }) k ∙ reader-gives s k

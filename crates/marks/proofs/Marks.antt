@@ -2,6 +2,8 @@
 use Rattle.tlf.proofs.Overflow.{overflows}
 use Rattle.written.proofs.Claims.{written-claims}
 use Rattle.written.proofs.Fakes.{fall-writers}
+use Rattle.words.proofs.Back.{back-claims}
+use Rattle.words.proofs.Fakes.{back-fakes}
 use Rattle.places.proofs.Readers.{readers}
 use Rattle.places.proofs.Fakes.{fall-readers}
 use Rattle.marks.specs.Marks.{Marks}
@@ -73,8 +75,11 @@ marks =
       library-encoder = hears-ours .encoder;
       library-crc = hears-ours .crc;
       library-reader = hears-ours .reader;
+      library-writer = hears-ours .writer;
       library-gives = library-gives;
       library-marks = marks-by;
+      words-back = back-claims;
+      fall-words = back-fakes;
       writer = written-claims;
       fall-writers = fall-writers;
       overflows = overflows;

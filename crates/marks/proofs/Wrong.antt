@@ -15,8 +15,8 @@ use Rattle.marks.specs.Events.{ReaderGives, GoesOn, readerWith, ListsEnt
 use Rattle.marks.specs.Fakes.{refusesAll, constant, idle, invents, once, stale, hasty, forgiving, firstOnly, countsEight, deaf, forgetsWay, servesAnyWay, swallows, takesNone, withholds, shrugs, forgetful, blamesTheMessage, saysItAgain, writesNothing, finishedAtOnce, withoutEvents, noEntries}
 use Rattle.marks.specs.FakeHosts.{unpacksNothing, packsConstants, packsAny, unpacksAny, onlyAnswers, saysNothingEver, handsNothing, clearsRefused, growsOutput, clearsRest}
 use Rattle.marks.proofs.Fakes.{not-ours, fall}
-use Rattle.marks.specs.Library.{HearsNew, HearsDecoder, HearsEncode, HearsEncoder, HearsReader}
-use Rattle.marks.specs.FakeLibraries.{deniesNew, keepsValues, handsBuffer, paysAlways, leavesLast, forgetsSlice, encodesNothing, forgetsCount, losesPlace, losesSign, losesKind}
+use Rattle.marks.specs.Library.{HearsNew, HearsDecoder, HearsEncode, HearsEncoder, HearsReader, HearsWriter}
+use Rattle.marks.specs.FakeLibraries.{deniesNew, keepsValues, handsBuffer, paysAlways, leavesLast, forgetsSlice, encodesNothing, forgetsCount, losesPlace, losesSign, losesKind, forgetsPlace, mistakesWords}
 use Rattle.marks.specs.FakeLarger.{storesLess, secondStoresLess, largerHandsNothing, handsTheBuffer, resetCountsRoom, finalizeCountsRoom, hesitates, looksAhead, deniesLarger, ForAnyTwo, AcrossWays, FullAnswerToo, HearsAsMany}
 use Rattle.marks.proofs.FakeHosts.{fall-hosts}
 use Rattle.marks.proofs.FakeLarger.{fall-larger}
@@ -165,6 +165,12 @@ fake-scaler-without-its-sign = fall-libraries .loses-sign
 
 fake-entry-without-its-kind : HearsReader losesKind → ⊥
 fake-entry-without-its-kind = fall-libraries .loses-kind
+
+fake-writer-stays-where-it-was : HearsWriter forgetsPlace → ⊥
+fake-writer-stays-where-it-was = fall-libraries .forgets-place
+
+fake-no-event-is-a-wrong-number : HearsWriter mistakesWords → ⊥
+fake-no-event-is-a-wrong-number = fall-libraries .mistakes-words
 
 fake-larger-buffer-stores-less : Larger (storesLess .machine) → ⊥
 fake-larger-buffer-stores-less = fall-larger .stores-less

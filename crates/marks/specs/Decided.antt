@@ -40,6 +40,7 @@ pub record Views : Type 0 where
   pub streaming : Streaming.Views
   pub parser : Parser.Views
   pub writer : Writer.Views
+  pub words : Words.Views
 
 -- one outcome for each input: answer, record and the content of lent memory. No public function has a `requires`
 pub record Decided : Type 0 where

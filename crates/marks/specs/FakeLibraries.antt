@@ -5,7 +5,9 @@ use lib.ListN.{length, set}
 use Rattle.crc_x25.specs.Crc.{crcOf}
 use Rattle.sartrogheo.specs.Calls.{Reply, reply, sghDecoderNew, sghPushByte, sghPushSlice, sghPayload, sghFinalize, sghReset, sghEncode}
 use Rattle.sartrogheo.specs.Streams.{sghEncoderNew, sghEncoderNext, sghNextEvent}
-use Rattle.marks.specs.Library.{Library, lentAt, firstAt, wordAt, HearsNew, HearsDecoder, HearsEncode, HearsEncoder, HearsReader}
+use Rattle.sartrogheo.specs.Writes.{sghWriteEvent}
+use Rattle.words.specs.Back.{wordAt}
+use Rattle.marks.specs.Library.{Library, lentAt, firstAt, HearsNew, HearsDecoder, HearsEncode, HearsEncoder, HearsReader, HearsWriter}
 
 -- ours, but for the calls that make a decoder, push a slice, ask for the payload and finalize; or for those over frames and messages
 abbrev pub withDecoder : (List ℕ → ℕ → ℕ → Reply) → (List ℕ → List ℕ → List ℕ → List ℕ → Reply) → (List ℕ → List ℕ → Reply) → (List ℕ → List ℕ → Reply) → Library
@@ -22,10 +24,11 @@ withDecoder new slice payload finalize =
       encoderNext = sghEncoderNext;
       crc = crcOf;
       nextEvent = sghNextEvent;
+      writeEvent = sghWriteEvent;
     }
 
-abbrev pub withFrames : (List ℕ → List ℕ → Reply) → (List ℕ → List ℕ → ℕ → Reply) → (List ℕ → List ℕ → Reply) → Library
-withFrames encode next event =
+abbrev pub withMessages : (List ℕ → List ℕ → Reply) → (List ℕ → List ℕ → ℕ → Reply) → (List ℕ → List ℕ → Reply) → (List ℕ → List ℕ → List ℕ → List ℕ → Reply) → Library
+withMessages encode next event write =
     record {
       decoderNew = sghDecoderNew;
       pushByte = sghPushByte;
@@ -38,7 +41,11 @@ withFrames encode next event =
       encoderNext = next;
       crc = crcOf;
       nextEvent = event;
+      writeEvent = write;
     }
+
+abbrev pub withFrames : (List ℕ → List ℕ → Reply) → (List ℕ → List ℕ → ℕ → Reply) → (List ℕ → List ℕ → Reply) → Library
+withFrames encode next event = withMessages encode next event sghWriteEvent
 
 -- makes a decoder, and says that it didn't
 abbrev pub deniesNew : Library
@@ -86,6 +93,14 @@ losesSign = withFrames sghEncode sghEncoderNext (λ s r. reply (sghNextEvent s r
 abbrev pub losesKind : Library
 losesKind = withFrames sghEncode sghEncoderNext (λ s r. reply (sghNextEvent s r .number) (lentAt (sghNextEvent s r) 0 ∷ set (lentAt (sghNextEvent s r) 1) 0 0 ∷ []))
 
+-- what is written stands there, and the writer stays where it was
+abbrev pub forgetsPlace : Library
+forgetsPlace = withMessages sghEncode sghEncoderNext sghNextEvent (λ out strings e w. reply (sghWriteEvent out strings e w .number) (lentAt (sghWriteEvent out strings e w) 0 ∷ w ∷ []))
+
+-- an event that is none is taken for one that is not due
+abbrev pub mistakesWords : Library
+mistakesWords = withMessages sghEncode sghEncoderNext sghNextEvent (λ out strings e w. reply 17 (out ∷ w ∷ []))
+
 pub record FallLibraries : Type 0 where
   pub denies-new : HearsNew deniesNew → ⊥
   pub keeps-values : HearsDecoder keepsValues → ⊥
@@ -98,3 +113,5 @@ pub record FallLibraries : Type 0 where
   pub loses-place : HearsReader losesPlace → ⊥
   pub loses-sign : HearsReader losesSign → ⊥
   pub loses-kind : HearsReader losesKind → ⊥
+  pub forgets-place : HearsWriter forgetsPlace → ⊥
+  pub mistakes-words : HearsWriter mistakesWords → ⊥

@@ -1,8 +1,7 @@
--- claim: the library, as a caller in C hears it. What is read out of the numbers that its calls give and leave is what is said of a decoder, an encode, an Encoder and a reader by value, call by call. So what is claimed of new decoders in use stands for what a collector links.
+-- claim: the library, as a caller in C hears it. What is read out of the numbers that its calls give and leave is what is said of a decoder, an encode, an Encoder, a reader and a writer by value, call by call. So what is claimed of new decoders in use stands for what a collector links.
 use mathlib.Core.Path.{_≡_}
 use mathlib.Core.Bool.{cond}
 use mathlib.Core.List.{List, [], _∷_, _++_}
-use mathlib.Core.Option.{Option, some, none}
 use Prim.Native.Nat.{ℕ, suc, _+_, _-_, _^_, _≤_, _<_}
 use lib.IntN.{ℤ, pos, negsuc}
 use lib.ListN.{length, take, getD}
@@ -19,10 +18,20 @@ use Rattle.decoder.specs.declared.Decoder.{Decoder}
 use Rattle.decoder.specs.declared.Setup.{Setup}
 use Rattle.value.specs.Values.{Status, Value, truth, bytes, signed, unsigned, listTime}
 use Rattle.message.specs.Messages.{Body, openBody, closeBody, listBody}
+use Rattle.writer.specs.Calls.{to, notWritten, AfterWrite}
+use Rattle.writer.specs.Answers.{afterWrite}
+use Rattle.writer.specs.declared.Head.{Head}
+use Rattle.writer.specs.declared.ListState.{ListState}
+use Rattle.writer.specs.declared.ListState.the-variants.{Entries, Ended}
+use Rattle.writer.specs.declared.ListWriter.{ListWriter}
+use Rattle.written.specs.Calls.{Writer, ourWriter}
 use Rattle.streaming.specs.Next.{MessageEvent, startEvent, entryEvent, endEvent, Said, event, noEvent, failed, alone}
 use Rattle.words.specs.Words.{eventWords}
+use Rattle.words.specs.Back.{wordAt, spanIn, fieldIn}
+use Rattle.words.specs.Claims.{EventInTypes}
 use Rattle.sartrogheo.specs.Calls.{goodNo, payloadNo, finishedNo, Reply, reply, answerNo, encodeLen, sghDecoderNew, sghPushByte, sghPushSlice, sghPayload, sghFinalize, sghReset, sghEncode}
 use Rattle.sartrogheo.specs.Streams.{readerNo, sghEncoderNew, sghEncoderNext, sghNextEvent}
+use Rattle.sartrogheo.specs.Writes.{writerWords, endedAfter, headFields, sghWriteEvent}
 use Rattle.marks.specs.Decoders.{Gave, Machine, ours, LeftBehind}
 use Rattle.marks.specs.Mark2.{PushesBytes, SoundBehind}
 use Rattle.marks.specs.Mark3.{Encode, ourEncode, Job, AllSuit, HeardBehindZeros}
@@ -45,6 +54,7 @@ pub record Library : Type 0 where
   pub encoderNext : List ℕ → List ℕ → ℕ → Reply  -- the Encoder's numbers, the payload, what the byte was
   pub crc : List ℕ → ℕ
   pub nextEvent : List ℕ → List ℕ → Reply  -- the input, the reader's numbers
+  pub writeEvent : List ℕ → List ℕ → List ℕ → List ℕ → Reply  -- the output, the strings, the event's words, the writer's numbers
 
 -- ours, by the definitions that the contracts of the exports cite
 abbrev pub ourLibrary : Library
@@ -61,14 +71,12 @@ ourLibrary =
       encoderNext = sghEncoderNext;
       crc = crcOf;
       nextEvent = sghNextEvent;
+      writeEvent = sghWriteEvent;
     }
 
--- what the k-th thing that may be written holds behind a call, counted from 0; a number in it; the first one
+-- what the k-th thing that may be written holds behind a call, counted from 0; the first number in it
 abbrev pub lentAt : Reply → ℕ → List ℕ
 lentAt r k = getD (r .lent) k []
-
-abbrev pub wordAt : List ℕ → ℕ → ℕ
-wordAt w k = getD w k 0
 
 abbrev pub firstAt : Reply → ℕ → ℕ
 firstAt r k = wordAt (lentAt r k) 0
@@ -204,12 +212,9 @@ HearsCrc L = (l : List ℕ) → L .crc l ≡ crcOf l
 
 -- ---- messages
 
--- what stands in an event's words from a place on: a number in two's complement, a span, a status, a value
+-- what stands in an event's words from a place on: a number in two's complement, a status, a value
 abbrev pub signedIn : List ℕ → ℕ → ℤ
 signedIn w k = cond (ltb (wordAt w k) (2 ^ 63)) (pos (wordAt w k)) (negsuc (2 ^ 64 - 1 - wordAt w k))
-
-abbrev pub spanIn : List ℕ → ℕ → Span
-spanIn w k = record { start = wordAt w k; len = wordAt w (k + 1) }
 
 abbrev pub statusIn : List ℕ → ℕ → Status
 statusIn w k = record { width = wordAt w k; number = wordAt w (k + 1) }
@@ -220,10 +225,6 @@ valueIn w k =
     (cond (eqb (wordAt w k) 2) (bytes (spanIn w (k + 3)))
     (cond (eqb (wordAt w k) 3) (signed (wordAt w (k + 1)) (signedIn w (k + 2)))
     (cond (eqb (wordAt w k) 4) (unsigned (wordAt w (k + 1)) (wordAt w (k + 2))) (listTime (wordAt w (k + 2))))))
-
--- an optional field: whether it is there, and behind that the field
-abbrev pub fieldIn : {A : Type 0} → (List ℕ → ℕ → A) → List ℕ → ℕ → Option A
-fieldIn read w k = cond (eqb (wordAt w k) 1) (some (read w (k + 1))) none
 
 abbrev pub bodyIn : List ℕ → Body Span
 bodyIn w =
@@ -278,6 +279,40 @@ threeOf n = n .place ∷ n .start ∷ n .pending ∷ []
 abbrev pub HearsReader : Library → Type 0
 HearsReader L = (s : List ℕ) (n : Numbers) (k : ℕ) → saysAt (readerBy L) s (threeOf n) k ≡ saysAt ourReader s n k
 
+-- ---- messages that are written
+
+-- what a writer's four numbers have room for
+abbrev pub InFourNumbers : ListState → Type 0
+InFourNumbers (Entries left crc) = (left < 2 ^ 32) × (crc < 2 ^ 16)
+InFourNumbers Ended = Unit {0}
+
+-- an event by a writer's five calls; behind a whole message it is ended
+abbrev pub messageBy : Writer → List ℕ → ℕ → List ℕ → Head → Body Span → AfterWrite ListWriter
+messageBy W out at strings head (openBody b) = endedAfter (W .opens out at strings head b)
+messageBy W out at strings head (closeBody b) = endedAfter (W .closes out at strings head b)
+messageBy W out at strings head (listBody b) = W .starts out at strings head b
+
+abbrev pub eventBy : Writer → List ℕ → ListWriter → List ℕ → MessageEvent Span → AfterWrite ListWriter
+eventBy W out w strings (startEvent m) = messageBy W out (w .place) strings (headFields m) (m .«message_body»)
+eventBy W out w strings (entryEvent e) = W .adds out w strings e
+eventBy W out w strings (endEvent e) = W .ends out w strings e
+
+-- the writer that its numbers say
+abbrev pub writerHeard : List ℕ → ListWriter
+writerHeard w = record { place = wordAt w 0; state = cond (eqb (wordAt w 1) 1) (Entries (wordAt w 2) (wordAt w 3)) Ended }
+
+-- the output, and the writer behind what is written or the number of a refusal
+abbrev pub heardWrite : Reply → AfterWrite ListWriter
+heardWrite r = afterWrite (cond (eqb (r .number) goodNo) (to (writerHeard (lentAt r 1))) (notWritten (r .number))) (lentAt r 0)
+
+-- of any output and strings: any event within its types, from any writer on, is written as ours does; words that are none's, and numbers that are no writer's, are 4; and what is refused leaves output and writer
+pub record HearsWriter (L : Library) : Type 0 where
+  pub writes : (out strings : List ℕ) (w : ListWriter) (e : MessageEvent Span) → InFourNumbers (w .state) → EventInTypes e → heardWrite (L .writeEvent out strings (eventWords (event e)) (writerWords w)) ≡ eventBy ourWriter out w strings e
+  pub no-event : (out strings words w : List ℕ) → ((e : MessageEvent Span) → EventInTypes e → words ≡ eventWords (event e) → ⊥) → L .writeEvent out strings words w ≡ reply badStateNo (out ∷ w ∷ [])
+  pub no-writer : (out strings words : List ℕ) (place state left crc : ℕ) → let w : List ℕ = place ∷ state ∷ left ∷ crc ∷ [] in
+      ((v : ListWriter) → InFourNumbers (v .state) → w ≡ writerWords v → ⊥) → L .writeEvent out strings words w ≡ reply badStateNo (out ∷ w ∷ [])
+  pub leaves : (out strings words w : List ℕ) → let r : Reply = L .writeEvent out strings words w in (r .number ≡ goodNo → ⊥) → r ≡ reply (r .number) (out ∷ w ∷ [])
+
 pub record HearsOurs (L : Library) : Type 0 where
   pub new : HearsNew L
   pub decoder : HearsDecoder L
@@ -285,6 +320,7 @@ pub record HearsOurs (L : Library) : Type 0 where
   pub encoder : HearsEncoder L
   pub crc : HearsCrc L
   pub reader : HearsReader L
+  pub writer : HearsWriter L
 
 -- ---- the marks, of what is linked
 

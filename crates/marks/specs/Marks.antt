@@ -13,6 +13,8 @@ use Rattle.search.specs.Found.{NoneWhole}
 use Rattle.since.specs.Bytes.{sinceFrom, Counted}
 use Rattle.tlf.specs.Lengths.{tlfAt}
 use Rattle.tlf.specs.Overflow.{Overflows}
+use Rattle.words.specs.Claims.{BackClaims}
+use Rattle.words.specs.Fakes.{BackFakes}
 use Rattle.written.specs.Claims.{WrittenClaims}
 use Rattle.written.specs.Fakes.{FallWriters}
 use Rattle.places.specs.Readers.{Readers}
@@ -29,7 +31,7 @@ use Rattle.marks.specs.Ways.{ourWay, KeepsWay, RefusesUnknown}
 use Rattle.marks.specs.Packed.{ourHost, RoundTrip, Exactly, PacksWhatPushes, PacksInOrder, ActsAlike, SlicesAlike, HandsAlike, Serves, LeavesRefused, LeavesTidy, AnswersAlike}
 use Rattle.marks.specs.Encoders.{ourEncoder, SameBytes}
 use Rattle.marks.specs.Events.{ourReader, ourParser, ReaderGives, GoesOn, readerWith, parserWith, ListsEntries, SaysWhere, CallSaysWhere, TenAgain}
-use Rattle.marks.specs.Library.{Library, ourLibrary, HearsNew, HearsDecoder, HearsEncode, HearsEncoder, HearsCrc, readerBy, HearsReader, HearsOurs, MarksBy}
+use Rattle.marks.specs.Library.{Library, ourLibrary, HearsNew, HearsDecoder, HearsEncode, HearsEncoder, HearsCrc, readerBy, HearsReader, HearsWriter, HearsOurs, MarksBy}
 use Rattle.marks.specs.Bench.{b5Second, Holds, Bench}
 use Rattle.marks.specs.Fakes.{NotOurs, Fall}
 use Rattle.marks.specs.FakeHosts.{FallHosts}
@@ -101,8 +103,12 @@ pub record Marks : Type 0 where
   pub library-encoder : HearsEncoder ourLibrary
   pub library-crc : HearsCrc ourLibrary
   pub library-reader : HearsReader ourLibrary
+  pub library-writer : HearsWriter ourLibrary
   pub library-gives : ReaderGives (readerBy ourLibrary)
   pub library-marks : (L : Library) → HearsOurs L → MarksBy L
+  -- events in words: each is read back, and no other words are taken; and what that is false of
+  pub words-back : BackClaims
+  pub fall-words : BackFakes
   -- the writer of messages: what it writes is read back, in the fewest bytes; it takes what fits, counts entries, and refuses in order. And what that is false of
   pub writer : WrittenClaims
   pub fall-writers : FallWriters

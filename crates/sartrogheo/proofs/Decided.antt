@@ -71,4 +71,5 @@ decided =
       sgh-encoder-next = λ encoder payload byte. list-number _;
       sgh-crc = λ bytes. equal _;
       sgh-next-event = λ input reader event. two-lists _;
+      sgh-write-event = λ out strings event writer. two-lists _;
     }

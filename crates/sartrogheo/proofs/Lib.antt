@@ -1,4 +1,5 @@
 pub mod Told
 pub mod Streams
+pub mod Writes
 pub mod Decided
 pub mod Wrong

@@ -1,9 +1,11 @@
 -- What the contracts rule out: each wrong reading of docs/WRONG-READINGS.md that is told here is an outcome that the definition does not allow, at a small input.
-use mathlib.Core.Path.{_≡_, ap, sym, _∙_}
+use mathlib.Core.Path.{_≡_, refl, ap, sym, _∙_}
 use mathlib.Core.List.{List, [], _∷_, _++_}
+use mathlib.Core.Option.{Option, some, none}
 use Prim.Native.Nat.{ℕ}
 use native.Mathlib.Omega.{arith}
 use lib.ListN.{replicate, getD}
+use Rattle.refusals.specs.Numbers.{badStateNo}
 use Rattle.refusals.specs.Read.{Read, got, refused}
 use Rattle.refusals.specs.declared.Span.{Span}
 use Rattle.crc_x25.specs.Crc.{start, reflect, polynomial, bitStep, bitSteps, byteStep, register, finalXor, crcOf}
@@ -17,10 +19,15 @@ use Rattle.decoder_slice.specs.Slice.{pushesFrom, sliceRecord}
 use Rattle.packed.specs.Layout.{lowFirst, numberAt, stateIn, packedBytes, packedIn, recordIn}
 use Rattle.packed.specs.Packed.{packInto, unpackOf, pushPacked, slicePacked, finalizePacked, resetPacked, payloadPacked, askPacked}
 use Rattle.message.specs.Messages.{MessageStart, startAt}
-use Rattle.streaming.specs.Next.{startEvent, event, ReaderAfter, onward, pendingOf, beginAt, stepAt, nextAt}
+use Rattle.streaming.specs.Next.{MessageEvent, startEvent, event, ReaderAfter, onward, pendingOf, beginAt, stepAt, nextAt}
 use Rattle.words.specs.Words.{withZeros}
+use Rattle.words.specs.Back.{eventOf}
+use Rattle.words.proofs.Wrong.{never-zeros}
+use Rattle.writer.specs.Calls.{AfterWrite}
+use Rattle.writer.specs.declared.ListWriter.{ListWriter}
 use Rattle.sartrogheo.specs.Calls.{Reply, reply, sghDecoderNew, sghPushByte, sghPushSlice, sghPayload, sghFinalize, sghReset, sghEncode}
 use Rattle.sartrogheo.specs.Streams.{encoderIn, sghEncoderNew, sghEncoderNext, readerNo, sghNextEvent}
+use Rattle.sartrogheo.specs.Writes.{writerIn, eventOr, writeNo, writerBehind, sghWriteEvent}
 
 -- 28 zeros, eight of them, and four values that are left from a call before
 abbrev blankBytes : List ℕ
@@ -189,3 +196,23 @@ reader-goes-on-behind-a-refusal r e wrong h = read (startAt (0x00 ∷ 0x00 ∷ [
     read : (x : Read (MessageStart Span)) → 11 ≡ readerNo (onward 2 0 0 x begins .answer) → 1 ≡ onward 2 0 0 x begins .place → ⊥
     read (got m n) a b = omega (arith, a)
     read (refused f) a b = omega (arith, b)
+
+-- ---- messages that are written
+
+-- zeros are the words of no event: 4, and all is left
+no-event-is-four : (out strings w : List ℕ) → sghWriteEvent out strings (withZeros 24 (0 ∷ [])) w ≡ reply badStateNo (out ∷ w ∷ [])
+unfolding sghWriteEvent
+no-event-is-four out strings w = by (eventOf (withZeros 24 (0 ∷ []))) refl
+  where
+    by : (e : Option (MessageEvent Span)) → e ≡ eventOf (withZeros 24 (0 ∷ []))
+        → (let a : AfterWrite ListWriter = eventOr out strings e (writerIn w) in reply (writeNo (a .answer)) (a .output ∷ writerBehind (a .answer) w ∷ [])) ≡ reply badStateNo (out ∷ w ∷ [])
+    by (some e) h = absurd (never-zeros e h)
+    by none h = refl
+
+zeroed-event-is-written : (o w : List ℕ) → reply 0 (o ∷ w ∷ []) ≡ sghWriteEvent [] [] (withZeros 24 (0 ∷ [])) (0 ∷ 0 ∷ 0 ∷ 0 ∷ []) → ⊥
+zeroed-event-is-written o w h = let n : _≡_ {A = ℕ} 0 4 = ap (λ (a : Reply). a .number) (h ∙ no-event-is-four [] [] (0 ∷ 0 ∷ 0 ∷ 0 ∷ [])) in omega (arith, n)
+
+refused-event-ends-the-list : (o w : List ℕ) → getD w 1 0 ≡ 0 → reply 4 (o ∷ w ∷ []) ≡ sghWriteEvent [] [] (withZeros 24 (0 ∷ [])) (5 ∷ 1 ∷ 2 ∷ 3 ∷ []) → ⊥
+refused-event-ends-the-list o w wrong h =
+    let n : _≡_ {A = ℕ} 0 1 = sym wrong ∙ ap (λ (a : Reply). getD (getD (a .lent) 1 []) 1 0) (h ∙ no-event-is-four [] [] (5 ∷ 1 ∷ 2 ∷ 3 ∷ [])) in
+    omega (arith, n)

@@ -1,13 +1,17 @@
--- cut: an event's number and values, where a payload's length is known.
+-- cut: an event's number and values, where a payload's length is known; a writer or none.
 use mathlib.Core.Bool.{cond}
 use mathlib.Core.List.{List, [], _∷_}
+use mathlib.Core.Option.{Option, some, none}
 use Prim.Native.Nat.{ℕ}
 use lib.Dec.{ltb}
 use Rattle.decoder.specs.Record.{answerOf}
 use Rattle.decoder.specs.declared.Event.{Event}
 use Rattle.decoder.specs.declared.Event.the-variants.{Nothing, Payload, DiscardedBytes, InvalidEsc, OutOfMemory, InvalidMessage, BadState, WrongBuffer}
 use Rattle.packed.specs.Layout.{numberAt}
+use Rattle.writer.specs.declared.ListWriter.{ListWriter}
 use Rattle.sartrogheo.specs.Calls.{answerNo, answerValues}
+use Rattle.sartrogheo.specs.declared.OptWriter.{OptWriter}
+use Rattle.sartrogheo.specs.declared.OptWriter.the-variants.{Present, Absent}
 
 -- the number doesn't depend on a payload's bytes, and the values only on how many there are
 abbrev pub eventNo : Event → ℕ
@@ -26,3 +30,7 @@ eventValues (InvalidMessage read computed misaligned p) len = answerValues (answ
 -- the bytes' fill, or the whole room if it is less
 unfoldable pub fillIn : List ℕ → ℕ → ℕ
 fillIn l room = cond (ltb (numberAt l 8 4) room) (numberAt l 8 4) room
+
+abbrev pub optWriter : OptWriter → Option ListWriter
+optWriter (Present w) = some w
+optWriter Absent = none

@@ -1,4 +1,5 @@
 pub mod Calls
 pub mod Streams
+pub mod Writes
 pub mod Cut
 pub mod Decided

@@ -1,5 +1,5 @@
 // The static library: what a collector in C or Rust calls (include/sartrogheo.h). Pointers and numbers come in, and a number goes out; what else a call has to say goes into what it is lent.
-// Each call is thin: the decoder's 28 bytes, an Encoder's four numbers or a reader's three are taken as they come, the function that is there does the work, and its answer is put into numbers.
+// Each call is thin: the decoder's 28 bytes, an Encoder's or a writer's four numbers or a reader's three are taken as they come, the function that is there does the work, and its answer is put into numbers.
 ghost use mathlib.Core.Path.{_≡_};
 ghost use mathlib.Core.List.{[], _∷_};
 ghost use Prim.Native.Nat.{_+_, _*_, _≤_};
@@ -9,10 +9,13 @@ ghost use Rattle.refusals.specs.Answers.{faultOf};
 ghost use Rattle.encoder.specs.Encode.{encodeAnswer};
 ghost use Rattle.decoder.specs.Record.{flag, answerAsked};
 ghost use Rattle.packed.specs.Packed.{filled};
-ghost use Rattle.streaming.specs.Answers.{said};
+ghost use Rattle.message.specs.Answers.{messageBody, messageStart};
+ghost use Rattle.streaming.specs.Answers.{said, parseEvent};
+ghost use Rattle.writer.specs.Answers.{errorNumber, placeWritten, listWritten, afterWrite};
 ghost use Rattle.sartrogheo.specs.Calls.{reply, answerNo, sghDecoderNew, sghPushByte, sghPushSlice, sghPayload, sghFinalize, sghReset, encodeNo, encodeLen, sghEncode};
 ghost use Rattle.sartrogheo.specs.Streams.{encoderKind, endCount, encoderCount, encoderWords, stateOfKind, encoderOf, sghEncoderNew, sghEncoderNext, readerNo, sghNextEvent};
-ghost use Rattle.sartrogheo.specs.Cut.{eventNo, eventValues, fillIn};
+ghost use Rattle.sartrogheo.specs.Writes.{writerWords, writerOf, endedBehind, headFields, messageTo, eventTo, sghWriteEvent};
+ghost use Rattle.sartrogheo.specs.Cut.{eventNo, eventValues, fillIn, optWriter};
 use decoder::Asked;
 use decoder::Decoder;
 use decoder::Event;
@@ -20,11 +23,21 @@ use encoder::Encoded;
 use encoder::Encoder;
 use encoder::EncoderState;
 use encoder::Item;
+use message::MessageBody;
+use message::MessageStart;
 use packed::Packing;
 use packed::WasReset;
 use refusals::Fault;
 use refusals::ParseError;
 use streaming::Answer;
+use streaming::ParseEvent;
+use words::OptEvent;
+use writer::Head;
+use writer::ListState;
+use writer::ListWriter;
+use writer::ListWritten;
+use writer::WriteError;
+use writer::Written;
 
 // What is no refusal.
 pub const GOOD: u32 = 0;
@@ -440,4 +453,138 @@ pub extern "C" fn sgh_next_event(input: &[u8], reader: &mut [u64; 3], event: &mu
     *reader = [n.place as u64, n.start as u64, n.pending];
     *event = words::event_words(answer);
     said_no(answer)
+}
+
+// ---- messages that are written
+
+// The writer of four numbers, or none.
+enum OptWriter {
+    Present(ListWriter),
+    Absent,
+}
+
+// Numbers that no writer has are none.
+fn writer_of(place: usize, state: u64, left: u64, crc: u64) -> OptWriter
+    ensures { λ r. ⌜ optWriter r ≡ writerOf place state left crc ⌝ }
+{
+    if state == 1 {
+        if left < 0x1_0000_0000 {
+            if crc < 0x1_0000 {
+                return OptWriter::Present(ListWriter {
+                    place,
+                    state: ListState::Entries {
+                        left: left as u32,
+                        crc: crc as u16,
+                    },
+                });
+            }
+        }
+        return OptWriter::Absent;
+    }
+    if state == 0 {
+        if left == 0 {
+            if crc == 0 {
+                return OptWriter::Present(ListWriter {
+                    place,
+                    state: ListState::Ended,
+                });
+            }
+        }
+    }
+    OptWriter::Absent
+}
+
+// A writer in four numbers, as a host keeps it.
+fn writer_words(w: ListWriter) -> [u64; 4]
+    ensures { λ r. ⌜ r ≡ writerWords w ⌝ }
+{
+    let state = w.state;
+    match state {
+        ListState::Entries { left, crc } => [w.place as u64, 1, left as u64, crc as u64],
+        ListState::Ended => [w.place as u64, 0, 0, 0],
+    }
+}
+
+// The number of a refusal.
+fn error_number(e: WriteError) -> u32
+    ensures { λ r. ⌜ r ≡ errorNumber e ⌝ }
+{
+    match e {
+        WriteError::BadState => 4,
+        WriteError::WrongNumber => 17,
+        WriteError::BadSpan => 16,
+        WriteError::OutputTooShort => 18,
+    }
+}
+
+// Behind a whole message the writer is ended.
+fn ended_behind(r: Written) -> ListWritten
+    ensures { λ k. ⌜ listWritten k ≡ endedBehind (placeWritten r) ⌝ }
+{
+    match r {
+        Written::To(place) => ListWritten::To(ListWriter {
+            place,
+            state: ListState::Ended,
+        }),
+        Written::Refused(e) => ListWritten::Refused(e),
+    }
+}
+
+// A message's start, which of an open and a close is all of it.
+fn message_to(out: &mut [u8], at: usize, strings: &[u8], m: MessageStart) -> ListWritten
+    ensures { λ r. ⌜ afterWrite (listWritten r) (now (out .exit)) ≡ messageTo (now (out .entry)) at (now (strings .entry)) (headFields (messageStart m)) (messageBody (m .«message_body»)) ⌝ }
+{
+    let id = m.transaction_id;
+    let head = Head {
+        transaction_id: id,
+        group_no: m.group_no,
+        abort_on_error: m.abort_on_error,
+    };
+    let body = m.message_body;
+    match body {
+        MessageBody::OpenResponse(b) => {
+            ended_behind(writer::write_open(out, at, strings, head, b))
+        }
+        MessageBody::CloseResponse(b) => {
+            ended_behind(writer::write_close(out, at, strings, head, b))
+        }
+        MessageBody::GetListResponse(b) => writer::write_list_start(out, at, strings, head, b),
+    }
+}
+
+// An event by the writer's call for it.
+fn event_to(out: &mut [u8], w: ListWriter, strings: &[u8], e: ParseEvent) -> ListWritten
+    ensures { λ r. ⌜ afterWrite (listWritten r) (now (out .exit)) ≡ eventTo (now (out .entry)) w (now (strings .entry)) (parseEvent e) ⌝ }
+{
+    match e {
+        ParseEvent::MessageStart(m) => message_to(out, w.place, strings, m),
+        ParseEvent::GetListResponseEnd(x) => writer::write_list_end(out, w, strings, x),
+        ParseEvent::ListEntry(x) => writer::write_list_entry(out, w, strings, x),
+    }
+}
+
+// Writes an event, whose strings are parts of `strings`, where the writer is.
+#[no_mangle]
+pub extern "C" fn sgh_write_event(
+    out: &mut [u8],
+    strings: &[u8],
+    event: &[u64; 24],
+    writer: &mut [u64; 4],
+) -> u32
+    ensures { λ r. ⌜ reply r (now (out .exit) ∷ now (writer .exit) ∷ []) ≡ sghWriteEvent (now (out .entry)) (now (strings .entry)) (now (event .entry)) (now (writer .entry)) ⌝ }
+{
+    let OptEvent::Present(e) = words::event_of(event) else {
+        return 4;
+    };
+    let place = writer[0] as usize;
+    let OptWriter::Present(w) = writer_of(place, writer[1], writer[2], writer[3]) else {
+        return 4;
+    };
+    match event_to(out, w, strings, e) {
+        ListWritten::To(v) => {
+            *writer = writer_words(v);
+            GOOD
+        }
+        ListWritten::Refused(refusal) => error_number(refusal),
+    }
 }

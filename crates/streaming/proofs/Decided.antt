@@ -19,27 +19,27 @@ use Rattle.common.proofs.Decided.{entryFrom, entry-back}
 use Rattle.message.proofs.Decided.{listEndFrom, list-end-back, startFrom, start-back}
 use Rattle.streaming.specs.Decided.{Views, Decided}
 
-eventFrom : N.MessageEvent Span → ParseEvent
-eventFrom (startEvent m) = EventC.MessageStart (startFrom m)
-eventFrom (entryEvent e) = EventC.ListEntry (entryFrom e)
-eventFrom (endEvent e) = EventC.GetListResponseEnd (listEndFrom e)
+pub parseEventFrom : N.MessageEvent Span → ParseEvent
+parseEventFrom (startEvent m) = EventC.MessageStart (startFrom m)
+parseEventFrom (entryEvent e) = EventC.ListEntry (entryFrom e)
+parseEventFrom (endEvent e) = EventC.GetListResponseEnd (listEndFrom e)
 
-event-back : (x : ParseEvent) → eventFrom (parseEvent x) ≡ x
-unfolding eventFrom
-event-back (EventC.MessageStart x) = ap EventC.MessageStart (start-back x)
-event-back (EventC.GetListResponseEnd x) = ap EventC.GetListResponseEnd (list-end-back x)
-event-back (EventC.ListEntry x) = ap EventC.ListEntry (entry-back x)
+pub parse-event-back : (x : ParseEvent) → parseEventFrom (parseEvent x) ≡ x
+unfolding parseEventFrom
+parse-event-back (EventC.MessageStart x) = ap EventC.MessageStart (start-back x)
+parse-event-back (EventC.GetListResponseEnd x) = ap EventC.GetListResponseEnd (list-end-back x)
+parse-event-back (EventC.ListEntry x) = ap EventC.ListEntry (entry-back x)
 
 -- 9 and 4 stand at no place, every other refusal is a reading's
 pub answerFrom : Said → Answer
-answerFrom (event e) = AnswerC.Event (eventFrom e)
+answerFrom (event e) = AnswerC.Event (parseEventFrom e)
 answerFrom noEvent = AnswerC.NoEvent
 answerFrom (failed f) = AnswerC.Refused (faultFrom f)
 answerFrom (alone n) = cond (eqb n inputTooLongNo) AnswerC.InputTooLong AnswerC.BadState
 
 pub said-back : (r : Answer) → answerFrom (said r) ≡ r
 unfolding answerFrom
-said-back (AnswerC.Event e) = ap AnswerC.Event (event-back e)
+said-back (AnswerC.Event e) = ap AnswerC.Event (parse-event-back e)
 said-back AnswerC.NoEvent = refl
 said-back (AnswerC.Refused f) = ap AnswerC.Refused (fault-back f)
 said-back AnswerC.InputTooLong = refl

@@ -1,5 +1,9 @@
 pub mod Widen
+pub mod Same
 pub mod Laws
+pub mod Parts
+pub mod Back
 pub mod Examples
 pub mod Decided
+pub mod Fakes
 pub mod Wrong

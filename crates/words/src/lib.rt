@@ -1,16 +1,21 @@
-// An event of the message reader in 24 plain numbers, for a host that takes no enum: word 0 is its kind, and its fields stand behind it in their order.
+// An event of the message reader in 24 plain numbers and back, for a host that takes no enum: word 0 is its kind, and its fields stand behind it in their order.
 ghost use mathlib.Core.Path.{_≡_};
 ghost use mathlib.Core.Bool.{cond};
+ghost use Prim.Native.Nat.{_^_, _≤_, _<_};
+ghost use lib.Signed.{mag};
+ghost use Rattle.frame.specs.Frame.{same};
 ghost use mathlib.Core.List.{[], _∷_, _++_};
 ghost use Rattle.refusals.specs.Answers.{kindOf, faultOf};
 ghost use Rattle.octet_string.specs.Answers.{optSpan};
-ghost use Rattle.value.specs.Answers.{value, optU8, optI8, optTime, optStatus};
+ghost use Rattle.value.specs.Answers.{status, value, optU8, optI8, optTime, optStatus};
 ghost use Rattle.common.specs.Answers.{openResponse, closeResponse, listEntry};
-ghost use Rattle.message.specs.Answers.{listStart, listEnd, messageStart};
+ghost use Rattle.message.specs.Answers.{listStart, listEnd, messageBody, messageStart};
 ghost use Rattle.message.specs.Messages.{openBody, closeBody, listBody};
 ghost use Rattle.streaming.specs.Answers.{said, parseEvent};
 ghost use Rattle.streaming.specs.Next.{event, failed};
 ghost use Rattle.words.specs.Words.{numberWord, twosComplement, signedWord, spanWords, statusWords, fieldWords, valueWords, startWords, endWords, entryWords, withZeros, eventWords};
+ghost use Rattle.words.specs.Back.{bounded, signedBounded, numberBack, signedBack, spanIn, statusBack, fieldIn, signedValueBack, unsignedValueBack, valueBack, openBack, closeBack, listBack, bodyBack, startBack, endBack, entryBack, eventBack, eventOf};
+ghost use Rattle.words.specs.Answers.{optEvent};
 ghost use Rattle.words.specs.Cut.{numberField, pairField, valueField, startOf};
 use common::CloseResponse;
 use common::ListEntry;
@@ -26,11 +31,13 @@ use refusals::Span;
 use refusals::TlfParseError;
 use streaming::Answer;
 use streaming::ParseEvent;
+use value::ListType;
 use value::OptI8;
 use value::OptStatus;
 use value::OptTime;
 use value::OptU8;
 use value::Status;
+use value::Time;
 use value::Value;
 
 // ---- fields
@@ -551,4 +558,311 @@ pub fn event_words(answer: Answer) -> [u64; 24]
         Answer::InputTooLong => four_words(5, 9, 0, 0),
         Answer::BadState => four_words(5, 4, 0, 0),
     }
+}
+
+// ---- the way back: fields
+
+// A number that its type has no room for is read as 0, whose words are other ones.
+fn low_u8(n: u64) -> u8
+    ensures { λ r. ⌜ r ≡ bounded (256 ^ 1) n ⌝ }
+{
+    if n < 256 { n as u8 } else { 0 }
+}
+
+// The same of 16 bits.
+fn low_u16(n: u64) -> u16
+    ensures { λ r. ⌜ r ≡ bounded (256 ^ 2) n ⌝ }
+{
+    if n < 65536 { n as u16 } else { 0 }
+}
+
+// The same of 32 bits.
+fn low_u32(n: u64) -> u32
+    ensures { λ r. ⌜ r ≡ bounded (256 ^ 4) n ⌝ }
+{
+    if n < 0x1_0000_0000 { n as u32 } else { 0 }
+}
+
+// The same of a signed number, whose magnitude is under the bound.
+fn low_signed(bound: u64, n: u64) -> i64
+    requires { ⌜ (1 ≤ bound) × (bound ≤ 2 ^ 63) ⌝ }
+    ensures { λ r. ⌜ (r ≡ signedBounded bound n) × (mag r < bound) ⌝ }
+{
+    if n < bound {
+        return n as i64;
+    }
+    let below = u64::MAX - n;
+    if below < bound {
+        return -1 - below as i64;
+    }
+    0
+}
+
+// An optional u8.
+fn u8_back(present: u64, n: u64) -> OptU8
+    ensures { λ r. ⌜ optU8 r ≡ fieldIn (numberBack 1) (present ∷ n ∷ []) 0 ⌝ }
+{
+    if present == 1 {
+        return OptU8::Present(low_u8(n));
+    }
+    OptU8::Absent
+}
+
+// An optional i8.
+fn i8_back(present: u64, n: u64) -> OptI8
+    ensures { λ r. ⌜ optI8 r ≡ fieldIn (signedBack 1) (present ∷ n ∷ []) 0 ⌝ }
+{
+    if present == 1 {
+        return OptI8::Present(low_signed(128, n) as i8);
+    }
+    OptI8::Absent
+}
+
+// An optional time.
+fn time_back(present: u64, n: u64) -> OptTime
+    ensures { λ r. ⌜ optTime r ≡ fieldIn (numberBack 4) (present ∷ n ∷ []) 0 ⌝ }
+{
+    if present == 1 {
+        return OptTime::Present(Time {
+            sec_index: low_u32(n),
+        });
+    }
+    OptTime::Absent
+}
+
+// A string.
+fn span_in(start: u64, len: u64) -> Span
+    ensures { λ r. ⌜ r ≡ spanIn (start ∷ len ∷ []) 0 ⌝ }
+{
+    Span {
+        start: start as usize,
+        len: len as usize,
+    }
+}
+
+// An optional string.
+fn opt_span_in(present: u64, start: u64, len: u64) -> OptSpan
+    ensures { λ r. ⌜ optSpan r ≡ fieldIn spanIn (present ∷ start ∷ len ∷ []) 0 ⌝ }
+{
+    if present == 1 {
+        return OptSpan::Present(span_in(start, len));
+    }
+    OptSpan::Absent
+}
+
+// A status; a width that is none is read as the next one, or as eight bytes.
+fn status_back(width: u64, n: u64) -> Status
+    ensures { λ r. ⌜ status r ≡ statusBack (width ∷ n ∷ []) 0 ⌝ }
+{
+    if width <= 1 {
+        return Status::Status8(low_u8(n));
+    }
+    if width <= 2 {
+        return Status::Status16(low_u16(n));
+    }
+    if width <= 4 {
+        return Status::Status32(low_u32(n));
+    }
+    Status::Status64(n)
+}
+
+// An optional status.
+fn opt_status_back(present: u64, width: u64, n: u64) -> OptStatus
+    ensures { λ r. ⌜ optStatus r ≡ fieldIn statusBack (present ∷ width ∷ n ∷ []) 0 ⌝ }
+{
+    if present == 1 {
+        return OptStatus::Present(status_back(width, n));
+    }
+    OptStatus::Absent
+}
+
+// A signed number at its width.
+fn signed_value_back(width: u64, n: u64) -> Value
+    ensures { λ r. ⌜ value r ≡ signedValueBack width n ⌝ }
+{
+    if width <= 1 {
+        return Value::I8(low_signed(0x80, n) as i8);
+    }
+    if width <= 2 {
+        return Value::I16(low_signed(0x8000, n) as i16);
+    }
+    if width <= 4 {
+        return Value::I32(low_signed(0x8000_0000, n) as i32);
+    }
+    Value::I64(low_signed(0x8000_0000_0000_0000, n))
+}
+
+// An unsigned number at its width.
+fn unsigned_value_back(width: u64, n: u64) -> Value
+    ensures { λ r. ⌜ value r ≡ unsignedValueBack width n ⌝ }
+{
+    if width <= 1 {
+        return Value::U8(low_u8(n));
+    }
+    if width <= 2 {
+        return Value::U16(low_u16(n));
+    }
+    if width <= 4 {
+        return Value::U32(low_u32(n));
+    }
+    Value::U64(n)
+}
+
+// A value.
+fn value_back(kind: u64, width: u64, n: u64, start: u64, len: u64) -> Value
+    ensures { λ r. ⌜ value r ≡ valueBack (kind ∷ width ∷ n ∷ start ∷ len ∷ []) 0 ⌝ }
+{
+    if kind == 1 {
+        return Value::Bool(n == 1);
+    }
+    if kind == 2 {
+        return Value::Bytes(span_in(start, len));
+    }
+    if kind == 3 {
+        return signed_value_back(width, n);
+    }
+    if kind == 4 {
+        return unsigned_value_back(width, n);
+    }
+    Value::List(ListType {
+        time: Time {
+            sec_index: low_u32(n),
+        },
+    })
+}
+
+// ---- the way back: events
+
+// An open body.
+fn open_back(words: &[u64; 24]) -> OpenResponse
+    ensures { λ r. ⌜ openResponse r ≡ openBack (now (words .entry)) ⌝ }
+{
+    OpenResponse {
+        codepage: opt_span_in(words[6], words[7], words[8]),
+        client_id: opt_span_in(words[9], words[10], words[11]),
+        req_file_id: span_in(words[12], words[13]),
+        server_id: span_in(words[14], words[15]),
+        ref_time: time_back(words[16], words[17]),
+        sml_version: u8_back(words[18], words[19]),
+    }
+}
+
+// A close body.
+fn close_back(words: &[u64; 24]) -> CloseResponse
+    ensures { λ r. ⌜ closeResponse r ≡ closeBack (now (words .entry)) ⌝ }
+{
+    CloseResponse {
+        global_signature: opt_span_in(words[6], words[7], words[8]),
+    }
+}
+
+// A list's head.
+fn list_back(words: &[u64; 24]) -> GetListResponseStart
+    ensures { λ r. ⌜ listStart r ≡ listBack (now (words .entry)) ⌝ }
+{
+    GetListResponseStart {
+        client_id: opt_span_in(words[6], words[7], words[8]),
+        server_id: span_in(words[9], words[10]),
+        list_name: opt_span_in(words[11], words[12], words[13]),
+        act_sensor_time: time_back(words[14], words[15]),
+        num_vals: low_u32(words[16]),
+    }
+}
+
+// A message's body.
+fn body_back(words: &[u64; 24]) -> MessageBody
+    ensures { λ r. ⌜ messageBody r ≡ bodyBack (now (words .entry)) ⌝ }
+{
+    if words[5] == 1 {
+        return MessageBody::OpenResponse(open_back(words));
+    }
+    if words[5] == 2 {
+        return MessageBody::CloseResponse(close_back(words));
+    }
+    MessageBody::GetListResponse(list_back(words))
+}
+
+// A message's start.
+fn start_back(words: &[u64; 24]) -> MessageStart
+    ensures { λ r. ⌜ messageStart r ≡ startBack (now (words .entry)) ⌝ }
+{
+    MessageStart {
+        transaction_id: span_in(words[1], words[2]),
+        group_no: low_u8(words[3]),
+        abort_on_error: low_u8(words[4]),
+        message_body: body_back(words),
+    }
+}
+
+// A list's end.
+fn end_back(words: &[u64; 24]) -> GetListResponseEnd
+    ensures { λ r. ⌜ listEnd r ≡ endBack (now (words .entry)) ⌝ }
+{
+    GetListResponseEnd {
+        list_signature: opt_span_in(words[1], words[2], words[3]),
+        act_gateway_time: time_back(words[4], words[5]),
+    }
+}
+
+// A list entry.
+fn entry_back(words: &[u64; 24]) -> ListEntry
+    ensures { λ r. ⌜ listEntry r ≡ entryBack (now (words .entry)) ⌝ }
+{
+    ListEntry {
+        obj_name: span_in(words[1], words[2]),
+        status: opt_status_back(words[3], words[4], words[5]),
+        val_time: time_back(words[6], words[7]),
+        unit: u8_back(words[8], words[9]),
+        scaler: i8_back(words[10], words[11]),
+        value: value_back(words[12], words[13], words[14], words[15], words[16]),
+        value_signature: opt_span_in(words[17], words[18], words[19]),
+    }
+}
+
+// Some event, whatever the words are.
+fn event_back(words: &[u64; 24]) -> ParseEvent
+    ensures { λ r. ⌜ parseEvent r ≡ eventBack (now (words .entry)) ⌝ }
+{
+    if words[0] == 1 {
+        return ParseEvent::MessageStart(start_back(words));
+    }
+    if words[0] == 2 {
+        return ParseEvent::GetListResponseEnd(end_back(words));
+    }
+    ParseEvent::ListEntry(entry_back(words))
+}
+
+// Whether two slices hold the same words.
+fn same_words(a: &[u64], b: &[u64]) -> bool
+    ensures { λ r. ⌜ r ≡ same (now (a .entry)) (now (b .entry)) ⌝ }
+{
+    if a.len() != b.len() {
+        return false;
+    }
+    let mut i = 0;
+    while i < a.len() {
+        if a[i] != b[i] {
+            return false;
+        }
+        i += 1;
+    }
+    true
+}
+
+// The event of 24 words, or none.
+pub enum OptEvent {
+    Present(ParseEvent),
+    Absent,
+}
+
+// The event whose words these are: one is read from any words, and kept only if its own are the same.
+pub fn event_of(words: &[u64; 24]) -> OptEvent
+    ensures { λ r. ⌜ optEvent r ≡ eventOf (now (words .entry)) ⌝ }
+{
+    let e = event_back(words);
+    let again = event_words(Answer::Event(e));
+    if same_words(&again[..], &words[..]) {
+        return OptEvent::Present(e);
+    }
+    OptEvent::Absent
 }

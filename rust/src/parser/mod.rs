@@ -7,7 +7,7 @@ use crate::ffi;
 
 pub mod common;
 pub mod streaming;
-mod words;
+pub(crate) mod words;
 
 /// A part of the input.
 pub type OctetStr<'i> = &'i [u8];
