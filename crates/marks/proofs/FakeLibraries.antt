@@ -6,7 +6,7 @@ use Prim.Native.Nat.{ℕ}
 use native.Mathlib.Omega.{arith}
 use lib.IntN.{ℤ, pos, negsuc}
 use lib.ListN.{length, getD, replicate}
-use Rattle.crc_x25.specs.Crc.{reflect, polynomial, bitStep, bitSteps, byteStep, register}
+use Rattle.crc_x25.specs.Crc.{reflect, polynomial, bitStep, bitSteps, byteStep, register, finalXor}
 use Rattle.refusals.specs.declared.Span.{Span}
 use Rattle.refusals.specs.Read.{then, guard, need, byteAt, spanAt}
 use Rattle.frame.specs.Frame.{same, escaped, closed, frameOf}
@@ -29,12 +29,12 @@ use Rattle.streaming.specs.Next.{MessageEvent, startEvent, entryEvent, endEvent
 use Rattle.byte_count.specs.Count.{firstThat, unsignedCount}
 use Rattle.tlf.specs.Written.{lengthBytes, typed}
 use Rattle.writer.specs.Fields.{lengthCount, writeTlf, inBytes, writeUnsigned, writeOctets, writeOptional}
-use Rattle.writer.specs.Messages.{listStartBytes, writeBody, writeStart}
-use Rattle.writer.specs.Calls.{writeRefusal, WriteOutcome, to, notWritten, AfterWrite, putOr, allWithin, startTo}
+use Rattle.writer.specs.Messages.{listStartBytes, listEndBytes, writeBody, writeStart, writeTrailer}
+use Rattle.writer.specs.Calls.{writeRefusal, WriteOutcome, to, notWritten, AfterWrite, putOr, allWithin, startTo, endTo}
 use Rattle.writer.specs.declared.ListState.the-variants.{Ended}
 use Rattle.writer.specs.declared.ListWriter.{ListWriter}
-use Rattle.words.specs.Words.{withZeros}
-use Rattle.words.specs.Back.{eventBack, eventOf}
+use Rattle.words.specs.Words.{withZeros, eventWords}
+use Rattle.words.specs.Back.{wordAt, eventBack, eventOf}
 use Rattle.words.proofs.Laws.{event-words-length}
 use Rattle.sartrogheo.specs.Calls.{Reply, sghDecoderNew, sghPushByte, sghPushSlice, sghFinalize}
 use Rattle.sartrogheo.specs.Streams.{encoderIn, sghEncoderNew, sghEncoderNext, sghNextEvent}
@@ -43,7 +43,7 @@ use Rattle.marks.specs.Encoders.{callsOf}
 use Rattle.marks.specs.Events.{Numbers, saysAt}
 use Rattle.marks.specs.Chunks.{oneOp, slice, HeardUse, heardUse, usesSay, usesLeave}
 use Rattle.marks.specs.Library.{HearsNew, LentByCaller, CallerBegins, HearsDecoder, HearsEncode, HearsEncoder, HearsReader, HearsWriter}
-use Rattle.marks.specs.FakeLibraries.{deniesNew, keepsValues, handsBuffer, paysAlways, leavesLast, forgetsSlice, encodesNothing, forgetsCount, losesPlace, losesSign, losesKind, forgetsPlace, mistakesWords, FallLibraries}
+use Rattle.marks.specs.FakeLibraries.{leavesNumbers, deniesNew, keepsValues, handsBuffer, paysAlways, leavesLast, forgetsSlice, encodesNothing, forgetsCount, losesPlace, losesSign, losesKind, forgetsPlace, mistakesWords, FallLibraries}
 use Rattle.marks.proofs.Narrow.{zeros-bytes}
 
 abbrev blank : LentByCaller
@@ -170,6 +170,13 @@ forgets-place h =
     let n : _≡_ {A = ℕ} 0 16 = ap placeHeard (h .writes (replicate 32 0) [] (record { place = 0; state = Ended }) bareStart tt (record { «group_no» = omega arith; «abort_on_error» = omega arith; «message_body» = record { «act_sensor_time» = tt; «num_vals» = omega arith } })) in
     omega (arith, n)
 
+-- a list's end, behind which the register is still there
+leaves-numbers : HearsWriter leavesNumbers → ⊥
+unfolding sghWriteEvent eventOf eventBack withZeros same writerIn endTo writeRefusal putOr listEndBytes writeOptional writeTrailer writeTlf writeUnsigned lengthCount inBytes allWithin firstThat unsignedCount lengthBytes typed register byteStep bitSteps bitStep reflect polynomial finalXor
+leaves-numbers h =
+    let n : _≡_ {A = ℕ} 5 0 = ap (λ (l : List ℕ). wordAt l 3) (h .numbers (replicate 32 0) [] (eventWords (event (endEvent (record { «list_signature» = none; «act_gateway_time» = none })))) (0 ∷ 1 ∷ 0 ∷ 5 ∷ []) refl) in
+    omega (arith, n)
+
 -- no words at all
 mistakes-words : HearsWriter mistakesWords → ⊥
 mistakes-words h =
@@ -191,5 +198,6 @@ fall-libraries =
       loses-sign = loses-sign;
       loses-kind = loses-kind;
       forgets-place = forgets-place;
+      leaves-numbers = leaves-numbers;
       mistakes-words = mistakes-words;
     }

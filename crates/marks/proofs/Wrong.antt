@@ -16,7 +16,7 @@ use Rattle.marks.specs.Fakes.{refusesAll, constant, idle, invents, once,
 use Rattle.marks.specs.FakeHosts.{unpacksNothing, packsConstants, packsAny, unpacksAny, onlyAnswers, saysNothingEver, handsNothing, clearsRefused, growsOutput, clearsRest}
 use Rattle.marks.proofs.Fakes.{not-ours, fall}
 use Rattle.marks.specs.Library.{HearsNew, HearsDecoder, HearsEncode, HearsEncoder, HearsReader, HearsWriter}
-use Rattle.marks.specs.FakeLibraries.{deniesNew, keepsValues, handsBuffer, paysAlways, leavesLast, forgetsSlice, encodesNothing, forgetsCount, losesPlace, losesSign, losesKind, forgetsPlace, mistakesWords}
+use Rattle.marks.specs.FakeLibraries.{deniesNew, keepsValues, handsBuffer, paysAlways, leavesLast, forgetsSlice, encodesNothing, forgetsCount, losesPlace, losesSign, losesKind, forgetsPlace, leavesNumbers, mistakesWords}
 use Rattle.marks.specs.FakeLarger.{storesLess, secondStoresLess, largerHandsNothing, handsTheBuffer, resetCountsRoom, finalizeCountsRoom, hesitates, looksAhead, deniesLarger, ForAnyTwo, AcrossWays, FullAnswerToo, HearsAsMany}
 use Rattle.marks.proofs.FakeHosts.{fall-hosts}
 use Rattle.marks.proofs.FakeLarger.{fall-larger}
@@ -168,6 +168,9 @@ fake-entry-without-its-kind = fall-libraries .loses-kind
 
 fake-writer-stays-where-it-was : HearsWriter forgetsPlace → ⊥
 fake-writer-stays-where-it-was = fall-libraries .forgets-place
+
+fake-ended-writer-keeps-its-register : HearsWriter leavesNumbers → ⊥
+fake-ended-writer-keeps-its-register = fall-libraries .leaves-numbers
 
 fake-no-event-is-a-wrong-number : HearsWriter mistakesWords → ⊥
 fake-no-event-is-a-wrong-number = fall-libraries .mistakes-words

@@ -97,6 +97,12 @@ losesKind = withFrames sghEncode sghEncoderNext (λ s r. reply (sghNextEvent s r
 abbrev pub forgetsPlace : Library
 forgetsPlace = withMessages sghEncode sghEncoderNext sghNextEvent (λ out strings e w. reply (sghWriteEvent out strings e w .number) (lentAt (sghWriteEvent out strings e w) 0 ∷ w ∷ []))
 
+-- an ended writer whose other numbers are left as they were
+abbrev pub leavesNumbers : Library
+leavesNumbers = withMessages sghEncode sghEncoderNext sghNextEvent (λ out strings e w.
+    let r : Reply = sghWriteEvent out strings e w in
+    reply (r .number) (lentAt r 0 ∷ (wordAt (lentAt r 1) 0 ∷ wordAt (lentAt r 1) 1 ∷ wordAt w 2 ∷ wordAt w 3 ∷ []) ∷ []))
+
 -- an event that is none is taken for one that is not due
 abbrev pub mistakesWords : Library
 mistakesWords = withMessages sghEncode sghEncoderNext sghNextEvent (λ out strings e w. reply 17 (out ∷ w ∷ []))
@@ -114,4 +120,5 @@ pub record FallLibraries : Type 0 where
   pub loses-sign : HearsReader losesSign → ⊥
   pub loses-kind : HearsReader losesKind → ⊥
   pub forgets-place : HearsWriter forgetsPlace → ⊥
+  pub leaves-numbers : HearsWriter leavesNumbers → ⊥
   pub mistakes-words : HearsWriter mistakesWords → ⊥

@@ -305,9 +305,10 @@ writerHeard w = record { place = wordAt w 0; state = cond (eqb (wordAt w 1) 1) (
 abbrev pub heardWrite : Reply → AfterWrite ListWriter
 heardWrite r = afterWrite (cond (eqb (r .number) goodNo) (to (writerHeard (lentAt r 1))) (notWritten (r .number))) (lentAt r 0)
 
--- of any output and strings: any event within its types, from any writer on, is written as ours does; words that are none's, and numbers that are no writer's, are 4; and what is refused leaves output and writer
+-- of any output and strings: any event within its types, from any writer on, is written as ours does, and the numbers behind it are exactly a writer's; words that are none's, and numbers that are no writer's, are 4; and what is refused leaves output and writer
 pub record HearsWriter (L : Library) : Type 0 where
   pub writes : (out strings : List ℕ) (w : ListWriter) (e : MessageEvent Span) → InFourNumbers (w .state) → EventInTypes e → heardWrite (L .writeEvent out strings (eventWords (event e)) (writerWords w)) ≡ eventBy ourWriter out w strings e
+  pub numbers : (out strings words w : List ℕ) → let r : Reply = L .writeEvent out strings words w in r .number ≡ goodNo → lentAt r 1 ≡ writerWords (writerHeard (lentAt r 1))
   pub no-event : (out strings words w : List ℕ) → ((e : MessageEvent Span) → EventInTypes e → words ≡ eventWords (event e) → ⊥) → L .writeEvent out strings words w ≡ reply badStateNo (out ∷ w ∷ [])
   pub no-writer : (out strings words : List ℕ) (place state left crc : ℕ) → let w : List ℕ = place ∷ state ∷ left ∷ crc ∷ [] in
       ((v : ListWriter) → InFourNumbers (v .state) → w ≡ writerWords v → ⊥) → L .writeEvent out strings words w ≡ reply badStateNo (out ∷ w ∷ [])
