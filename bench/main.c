@@ -25,8 +25,9 @@ extern u64 bench_crc(const u8 *, size_t);
 extern u64 bench_crc_byte(const u8 *, size_t);
 
 static u8 in[1 << 20], out[1 << 22];
+static uint32_t rows[1 << 18];
 
-static const char *names[] = {"bench_push", "bench_push_slice", "bench_push_slice_second", "bench_encode", "bench_stream", "bench_events", "bench_crc", "bench_crc_byte", "bench_packed", "sgh_push_byte", "sgh_push_slice", "bench_write"};
+static const char *names[] = {"bench_push", "bench_push_slice", "bench_push_slice_second", "bench_encode", "bench_stream", "bench_events", "bench_crc", "bench_crc_byte", "bench_packed", "sgh_push_byte", "sgh_push_slice", "bench_write", "sgh_next_event", "sgh_read_message"};
 
 /* pushes of slices over the 28 bytes of a decoder, a call for each event */
 static u64 packed(size_t n, size_t cap) {
@@ -59,6 +60,27 @@ static u64 library_slices(size_t n, size_t cap, size_t step) {
     return payloads;
 }
 
+/* the events, by the library's calls */
+static u64 library_events(size_t n) {
+    sgh_reader reader = {0};
+    sgh_event event;
+    u64 events = 0;
+    uint32_t answer;
+    while ((answer = sgh_next_event(in, n, &reader, &event)) == SGH_GOOD) events++;
+    return answer == SGH_FINISHED ? events : ~0ul;
+}
+
+/* the entries, message by message */
+static u64 library_messages(size_t n) {
+    sgh_message message;
+    u64 entries = 0;
+    for (size_t at = 0; at < n; at = message.next) {
+        if (sgh_read_message(in, n, at, rows, sizeof rows / sizeof *rows, &message)) return ~0ul;
+        entries += message.rows;
+    }
+    return entries;
+}
+
 static u64 call(size_t which, size_t n, size_t cap, size_t step) {
     switch (which) {
     case 0: return bench_push(in, n, out, cap);
@@ -73,6 +95,8 @@ static u64 call(size_t which, size_t n, size_t cap, size_t step) {
     case 9: return library_bytes(n, cap);
     case 10: return library_slices(n, cap, step);
     case 11: return bench_write(in, n, out, cap, step) == step ? step : ~0ul;
+    case 12: return library_events(n);
+    case 13: return library_messages(n);
     }
     return ~0ul;
 }

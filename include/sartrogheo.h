@@ -22,7 +22,7 @@ extern "C" {
 #define SGH_PAYLOAD_TOO_LONG 1u      /* a payload of more than SGH_LIMIT bytes */
 #define SGH_ENCODE_OUT_OF_MEMORY 2u  /* the whole frame doesn't fit in the output */
 #define SGH_DECODER_OUT_OF_MEMORY 3u /* a byte to store doesn't fit in the decoder's buffer */
-#define SGH_BAD_STATE 4u             /* a decoder, Encoder, reader, writer or event that can't be (zeros are no decoder, no Encoder and no event), or an unknown way */
+#define SGH_BAD_STATE 4u             /* a decoder, Encoder, reader, writer or event that can't be (zeros are no decoder, no Encoder and no event), a place beyond the input, or an unknown way */
 #define SGH_WRONG_BUFFER 5u          /* the lent buffer isn't as long as the capacity, or a capacity over SGH_LIMIT */
 #define SGH_DISCARDED_BYTES 6u       /* bytes before a start, or before finalize, belong to no frame */
 #define SGH_INVALID_ESC 7u           /* an escape with four bytes that mean nothing */
@@ -42,6 +42,7 @@ extern "C" {
 #define SGH_BAD_SPAN 16u           /* no payload stands in the buffer; an event's string is no part of what is lent for it */
 #define SGH_WRONG_NUMBER 17u       /* an entry or a list's end is to be written where none is due */
 #define SGH_OUTPUT_TOO_SHORT 18u   /* what is to be written doesn't fit in the output */
+#define SGH_TOO_MANY_ENTRIES 20u   /* a message has more entries than the table has rows */
 
 #define SGH_LIMIT 1048576u /* the longest payload to encode, the longest buffer and message input; a decoder hands out SGH_LIMIT - 4 bytes at most */
 
@@ -109,7 +110,7 @@ typedef struct {
     uint64_t place, start, pending;
 } sgh_reader;
 
-/* A part of the input. */
+/* A part of the input, or, of an event that is written, of its strings. */
 typedef struct {
     uint64_t start, len;
 } sgh_span;
@@ -201,7 +202,7 @@ typedef struct {
 #define SGH_GET_LIST_RESPONSE_END 2u
 #define SGH_LIST_ENTRY 3u
 #define SGH_REFUSED 4u       /* at a place of the input */
-#define SGH_REFUSED_ALONE 5u /* at none: 4 and 9 */
+#define SGH_REFUSED_ALONE 5u /* at none: 4, 9 and 20 */
 
 #define SGH_EVENT_WORDS 24u
 
@@ -221,6 +222,30 @@ typedef struct {
    10 to 15, which drop the rest of the input. `event` is written whole each time. Lend the same input at every call, and stop at the first refusal: SGH_FINISHED
    need not follow one (behind one of 10 to 15, once the message's start was given, every later call gives 10). A message's CRC is judged behind its last event. */
 uint32_t sgh_next_event(const uint8_t *input, size_t len, sgh_reader *reader, sgh_event *event);
+
+/* ---- whole messages, for who wants no events */
+
+/* Where an entry stands in the input, from its first length byte on, and its name. A table is such rows, one behind the other. */
+typedef struct {
+    uint32_t name_start, name_len, entry_start, entry_len;
+} sgh_row;
+
+#define SGH_ROW_NUMBERS 4u
+
+/* A message: its start, or why there is none; of a list its end, else SGH_NO_EVENT; how many rows its entries have taken, and the place behind its end byte. */
+typedef struct {
+    sgh_event start, end;
+    uint64_t rows, next;
+} sgh_message;
+
+#define SGH_MESSAGE_WORDS 50u
+
+/* Reads the message at `at`, whatever follows it, and puts a row for each entry into the table, from its first number on; `table_len` counts numbers, SGH_ROW_NUMBERS
+   a row, and what stands behind the rows stays. Gives 0; 9, else 4 for a place beyond the input; 10 to 15, as sgh_next_event would give first, but 10 where the input
+   ends at `at`, an empty one too; 20 for a message that would else be read. A refusal stands in `message->start.refused`, with its kind and its place if it has one,
+   `end`, `rows` and `next` are 0 then, and the table is as it was. `message` is written whole each time. The fields of an entry: sgh_next_event with the reader
+   {row.entry_start, row.entry_start, 3}, which says that an entry comes next, gives it over the same input. */
+uint32_t sgh_read_message(const uint8_t *input, size_t len, size_t at, uint32_t *table, size_t table_len, sgh_message *message);
 
 /* ---- messages that are written, so that a bench can pose as a meter */
 

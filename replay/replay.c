@@ -10,7 +10,7 @@
 
 #define LONGEST 70000u        /* the characters of a line */
 #define BYTES (LONGEST / 2u)  /* more than a line holds in hex */
-#define ROOM (SGH_LIMIT + 1u) /* the largest output, and one more than a decoder takes */
+#define ROOM (SGH_LIMIT + 1u) /* the largest output or table, and one more than a decoder takes */
 #define TIMES 1048576u        /* how often zN:HH pushes its byte at the most */
 #define SLICE 4096u           /* and how many of them make a slice */
 #define NONE UINT64_MAX       /* a number that is none */
@@ -146,11 +146,11 @@ static bool is_hex(struct text s)
 static uint8_t bytes[BYTES]; /* those of its hex, or of the operation that is run */
 
 struct asked {
-    uint64_t way, room; /* of a decoder; `room` of an output too */
+    uint64_t way, room; /* of a decoder; `room` of an output or a table too */
     struct text ops;
     size_t len;     /* how many bytes its hex has */
     size_t strings; /* how many of them are lent as strings */
-    uint64_t at;    /* a place in the output, or beyond it */
+    uint64_t at;    /* a place in the output, or of `message` in the input, or beyond it */
 };
 
 /* The bytes of a hex word, which is as long as two of them each; gives how many, and none for `-`. */
@@ -272,6 +272,18 @@ static bool takes_rewrite(struct asked *a, struct text rest)
     a->ops = first(stepped, ' ');
     a->strings = most < a->len ? most : a->len;
     return are_steps(a->ops);
+}
+
+/* N AT HEX. */
+static bool takes_message(struct asked *a, struct text rest)
+{
+    struct text placed = behind(rest, ' ');
+    uint64_t room = number(first(rest, ' '));
+
+    if (room > ROOM || !takes_place(a, first(placed, ' ')) || !takes_bytes(a, behind(placed, ' ')))
+        return false;
+    a->room = room;
+    return true;
 }
 
 /* ---- frames */
@@ -682,10 +694,11 @@ static void put_entry(const sgh_list_entry *e)
     put_opt_span(" sig=", e->value_signature);
 }
 
+static const char *const kinds[] = {"", " TlfLengthOverflow", " TlfReserved", " TlfLengthUnderflow", " TlfNextByteTypeMismatch", " TlfInvalidTy"};
+
 static void put_refusal(const sgh_refusal *r, bool places)
 {
     static const char *const names[] = {"UnexpectedEOF", "InvalidTlf", "TlfMismatch", "UnexpectedVariant", "CrcMismatch", "MsgEndMismatch"};
-    static const char *const kinds[] = {"", " TlfLengthOverflow", " TlfReserved", " TlfLengthUnderflow", " TlfNextByteTypeMismatch", " TlfInvalidTy"};
 
     put("err ");
     put(names[r->number - SGH_UNEXPECTED_EOF]);
@@ -781,6 +794,137 @@ static bool says_places(const struct asked *a)
     return read_all(a->len, true);
 }
 
+/* ---- a whole message, and its table */
+
+#define UNTOUCHED 0x77777777u /* what each number of a table is before; a place is less */
+
+static uint32_t table[ROOM];
+static uint32_t longer[BYTES]; /* has a row for each entry that a line holds: an entry has eight bytes at least, and a row four numbers */
+
+static uint32_t read_whole(const struct asked *a, uint32_t *t, size_t room, sgh_message *m)
+{
+    for (size_t i = 0; i < room; i++)
+        t[i] = UNTOUCHED;
+    return sgh_read_message(bytes, a->len, a->at, t, room, m);
+}
+
+/* Whether a table is as it was, from a number on. */
+static bool untouched(const uint32_t *t, size_t from, size_t room)
+{
+    while (from < room && t[from] == UNTOUCHED)
+        from++;
+    return from >= room;
+}
+
+static bool same_event(const sgh_event *x, const sgh_event *y)
+{
+    return memcmp(x, y, sizeof *x) == 0;
+}
+
+/* Whether the reader's next event is the entry of this row; read at the row, in all of the input, it must be the same. */
+static bool is_row(const struct asked *a, size_t next, sgh_reader *r, const uint32_t *numbers)
+{
+    sgh_row row;
+    sgh_event e, own;
+
+    memcpy(&row, numbers, sizeof row);
+    sgh_reader there = {row.entry_start, row.entry_start, 3};
+    if (r->place != row.entry_start || sgh_next_event(bytes, next, r, &e) != SGH_GOOD || sgh_next_event(bytes, a->len, &there, &own) != SGH_GOOD)
+        return false;
+    return e.kind == SGH_LIST_ENTRY && same_event(&e, &own) && r->place == there.place && r->place == (uint64_t)row.entry_start + row.entry_len &&
+           e.entry.obj_name.start == row.name_start && e.entry.obj_name.len == row.name_len;
+}
+
+/* Whether the event reader, lent no byte behind the message, gives its start, an entry for each row and its end, and then no event: that one's words are also those of an end that isn't there. */
+static bool is_by_events(const struct asked *a, const uint32_t *t, size_t room, const sgh_message *m)
+{
+    sgh_reader r = {a->at, a->at, 0};
+    sgh_event e;
+
+    if (m->next > a->len || m->rows > room / SGH_ROW_NUMBERS || sgh_next_event(bytes, m->next, &r, &e) != SGH_GOOD || !same_event(&e, &m->start))
+        return false;
+    for (uint64_t i = 0; i < m->rows; i++)
+        if (!is_row(a, m->next, &r, t + SGH_ROW_NUMBERS * i))
+            return false;
+    if (m->start.message.body == SGH_GET_LIST_RESPONSE)
+        return sgh_next_event(bytes, m->next, &r, &e) == SGH_GOOD && same_event(&e, &m->end) && sgh_next_event(bytes, m->next, &r, &e) == SGH_FINISHED;
+    return sgh_next_event(bytes, m->next, &r, &e) == SGH_FINISHED && same_event(&e, &m->end);
+}
+
+/* Whether the event reader's first refusal is this one. It refuses nothing where the input ends, which is 10 here. */
+static bool is_refused_by_events(const struct asked *a, const sgh_message *m)
+{
+    sgh_reader r = {a->at, a->at, 0};
+    sgh_event e;
+    uint32_t answer;
+
+    do
+        answer = sgh_next_event(bytes, a->len, &r, &e);
+    while (answer == SGH_GOOD);
+    if (a->at == a->len)
+        return answer == SGH_FINISHED && m->start.refused.number == SGH_UNEXPECTED_EOF && m->start.refused.place == a->len;
+    return same_event(&e, &m->start);
+}
+
+/* 20 alone is no event's: a table with room for all must take the message then. */
+static bool is_refused(const struct asked *a, uint32_t answer, const sgh_message *m)
+{
+    static const sgh_event none;
+    sgh_message taken;
+
+    if (!untouched(table, 0, a->room) || !same_event(&m->end, &none) || m->rows != 0 || m->next != 0 || answer != m->start.refused.number)
+        return false;
+    if (answer != SGH_TOO_MANY_ENTRIES)
+        return is_answer(answer, &m->start) && is_refused_by_events(a, m);
+    return m->start.kind == SGH_REFUSED_ALONE && read_whole(a, longer, BYTES, &taken) == SGH_GOOD && taken.rows > a->room / SGH_ROW_NUMBERS && is_by_events(a, longer, BYTES, &taken);
+}
+
+static void put_read(const sgh_message *m)
+{
+    put_event(&m->start, false);
+    if (m->end.kind != SGH_NO_EVENT) {
+        put(" | ");
+        put_event(&m->end, false);
+    }
+    put_counted(" | rows ", m->rows);
+    put_counted(" next ", m->next);
+}
+
+static void put_not_read(const sgh_event *e)
+{
+    put_counted("refused ", e->refused.number);
+    put(kinds[e->refused.kind]);
+    if (e->kind == SGH_REFUSED)
+        put_counted(" @", e->refused.place);
+}
+
+static void put_table(size_t room)
+{
+    put(room > 0 ? " | " : " | -");
+    for (size_t i = 0; i < room && !silent; i++) {
+        put(i > 0 ? "," : "");
+        if (table[i] == UNTOUCHED)
+            put("_");
+        else
+            put_number(table[i]);
+    }
+}
+
+static bool says_message(const struct asked *a)
+{
+    sgh_message m;
+    uint32_t answer = read_whole(a, table, a->room, &m);
+
+    if (answer == SGH_GOOD ? !is_by_events(a, table, a->room, &m) || !untouched(table, SGH_ROW_NUMBERS * m.rows, a->room) : !is_refused(a, answer, &m))
+        return false;
+    if (answer == SGH_GOOD)
+        put_read(&m);
+    else
+        put_not_read(&m.start);
+    put_table(a->room);
+    return true;
+}
+
 /* ---- the events of a message, written again; their strings are parts of `bytes`, and the output is `frame` */
 
 struct rewriting {
@@ -868,6 +1012,7 @@ static const struct command {
     {"events", takes_bytes, says_events},
     {"places", takes_bytes, says_places},
     {"rewrite", takes_rewrite, says_rewrite},
+    {"message", takes_message, says_message},
 };
 
 /* Without a word first, since it is known at the end alone whether all agree. */

@@ -399,6 +399,87 @@ static void readers(void)
     HELD(sgh_next_event(bytes, SGH_LIMIT, &r, &e) == SGH_INVALID_TLF && refused(&e, SGH_REFUSED, SGH_INVALID_TLF, SGH_TLF_LENGTH_UNDERFLOW, 0) && is_reader(&r, SGH_LIMIT, 0, 0));
 }
 
+/* ---- whole messages */
+
+/* A list of two entries, whose rows these are; behind its end byte stands what begins no message. */
+static const uint8_t TWO[] = {0x76, 3,    0xdd, 0x43, 0x62, 0,    0x62, 0,    0x72, 0x63, 7,    1,    0x77, 1,    2,    0x73, 1,    1,    0x72, 0x77, 2,    0x62, 1, 1,
+                              1,    1,    0x62, 7,    1,    0x77, 2,    0x61, 1,    1,    1,    1,    0x62, 8,    1,    1,    1,    0x63, 1,    0x93, 0,    0xff};
+#define TWO_LEN (sizeof TWO - 1)
+static const sgh_row ROWS_OF_TWO[] = {{21, 1, 19, 10}, {31, 1, 29, 10}};
+#define NUMBERS 11u /* of a table: two rows, and what is none */
+#define MARK 0x77777777u
+
+struct whole {
+    uint32_t table[NUMBERS];
+    sgh_message message;
+};
+
+static struct whole unread(void)
+{
+    struct whole w;
+
+    for (unsigned i = 0; i < NUMBERS; i++)
+        w.table[i] = MARK;
+    memset(&w.message, 0xa5, sizeof w.message);
+    return w;
+}
+
+/* Whether the table is as it was from a number on. */
+static bool marked(const struct whole *w, unsigned from)
+{
+    while (from < NUMBERS && w->table[from] == MARK)
+        from++;
+    return from == NUMBERS;
+}
+
+/* Whether a call refuses with this, says nothing else and leaves the table. */
+static bool refuses(const uint8_t *input, size_t len, size_t at, size_t room, uint32_t number, uint64_t kind, uint64_t place)
+{
+    struct whole w = unread();
+    bool alone = number == SGH_INPUT_TOO_LONG || number == SGH_BAD_STATE || number == SGH_TOO_MANY_ENTRIES;
+
+    return sgh_read_message(input, len, at, w.table, room, &w.message) == number && refused(&w.message.start, alone ? SGH_REFUSED_ALONE : SGH_REFUSED, number, kind, place) &&
+           ends_at(&w.message.end, SGH_NO_EVENT, 1) && w.message.rows == 0 && w.message.next == 0 && marked(&w, 0);
+}
+
+static void wholes(void)
+{
+    for (size_t room = 8; room <= NUMBERS; room++) {
+        struct whole w = unread();
+        HELD(sgh_read_message(TWO, sizeof TWO, 0, w.table, room, &w.message) == SGH_GOOD && w.message.rows == 2 && w.message.next == TWO_LEN);
+        HELD(memcmp(w.table, ROWS_OF_TWO, sizeof ROWS_OF_TWO) == 0 && marked(&w, 8));
+        HELD(ends_at(&w.message.start, SGH_MESSAGE_START, 17) && w.message.start.message.list.num_vals == 2 && ends_at(&w.message.end, SGH_GET_LIST_RESPONSE_END, 1));
+    }
+    /* the entries at their rows, in all of the input */
+    for (unsigned k = 0; k < 2; k++) {
+        sgh_reader r = {ROWS_OF_TWO[k].entry_start, ROWS_OF_TWO[k].entry_start, 3};
+        sgh_event e = used();
+        HELD(sgh_next_event(TWO, sizeof TWO, &r, &e) == SGH_GOOD && e.kind == SGH_LIST_ENTRY && e.entry.value.number == 7 + k && r.place == r.start + ROWS_OF_TWO[k].entry_len);
+        HELD(e.entry.obj_name.start == ROWS_OF_TWO[k].name_start && e.entry.obj_name.len == ROWS_OF_TWO[k].name_len);
+    }
+    /* an open or a close needs no table, and is read at any place */
+    struct whole w = unread();
+    memcpy(bytes, TWO, TWO_LEN);
+    memcpy(bytes + TWO_LEN, CLOSE, sizeof CLOSE);
+    HELD(sgh_read_message(bytes, TWO_LEN + sizeof CLOSE, TWO_LEN, NULL, 0, &w.message) == SGH_GOOD && w.message.rows == 0 && w.message.next == TWO_LEN + sizeof CLOSE);
+    HELD(ends_at(&w.message.start, SGH_MESSAGE_START, 9) && w.message.start.message.transaction_id.start == TWO_LEN + 2 && ends_at(&w.message.end, SGH_NO_EVENT, 1));
+    memset(bytes, 0, TWO_LEN + sizeof CLOSE);
+}
+
+/* 9, then 4, then what the reader of events refuses, then 20. */
+static void unread_messages(void)
+{
+    for (size_t room = 0; room < 8; room++)
+        HELD(refuses(TWO, sizeof TWO, 0, room, SGH_TOO_MANY_ENTRIES, 0, 0));
+    for (size_t len = 0; len < TWO_LEN; len++)
+        HELD(refuses(TWO, len, 0, 8, SGH_UNEXPECTED_EOF, 0, len) && refuses(TWO, len, 0, 0, SGH_UNEXPECTED_EOF, 0, len));
+    HELD(refuses(CLOSE, sizeof CLOSE, sizeof CLOSE, NUMBERS, SGH_UNEXPECTED_EOF, 0, sizeof CLOSE));
+    HELD(refuses(CLOSE, sizeof CLOSE, sizeof CLOSE + 1, NUMBERS, SGH_BAD_STATE, 0, 0) && refuses(CLOSE, sizeof CLOSE, SIZE_MAX, 0, SGH_BAD_STATE, 0, 0));
+    HELD(refuses(bytes, SGH_LIMIT + 1, 0, NUMBERS, SGH_INPUT_TOO_LONG, 0, 0) && refuses(bytes, SGH_LIMIT + 1, SIZE_MAX, NUMBERS, SGH_INPUT_TOO_LONG, 0, 0));
+    HELD(refuses(bytes, SGH_LIMIT, 0, NUMBERS, SGH_INVALID_TLF, SGH_TLF_LENGTH_UNDERFLOW, 0) && refuses(bytes, SGH_LIMIT, SGH_LIMIT, NUMBERS, SGH_UNEXPECTED_EOF, 0, SGH_LIMIT));
+    HELD(refuses(TWO, sizeof TWO, TWO_LEN, NUMBERS, SGH_UNEXPECTED_EOF, 0, sizeof TWO));
+}
+
 /* ---- messages that are written */
 
 /* The strings of the events below: a transaction, a name. */
@@ -538,6 +619,7 @@ static void nulls(void)
     HELD(sgh_encoder_next(&encoder, NULL, 0, &byte) == SGH_BAD_STATE);
     HELD(sgh_crc(NULL, 0) == 0);
     HELD(sgh_next_event(NULL, 0, &r, &e) == SGH_FINISHED && ends_at(&e, SGH_NO_EVENT, 1) && is_reader(&r, 0, 0, 0));
+    HELD(refuses(NULL, 0, 0, 0, SGH_UNEXPECTED_EOF, 0, 0) && refuses(NULL, 0, 1, NUMBERS, SGH_BAD_STATE, 0, 0));
     sgh_writer w = {0};
     HELD(sgh_write_event(NULL, 0, NULL, 0, &END, &w) == SGH_WRONG_NUMBER && sgh_write_event(NULL, 0, NULL, 0, &CLOSES, &w) == SGH_BAD_SPAN);
     e = CLOSES;
@@ -561,6 +643,8 @@ static int calls(void)
     encoder_words();
     reading();
     readers();
+    wholes();
+    unread_messages();
     writing();
     no_events();
     writers();
@@ -696,6 +780,32 @@ static void answer_events(const uint8_t *s, size_t len)
     }
 }
 
+/* Message by message, an entry at its row, up to the input's end or a refusal. */
+static void answer_messages(const uint8_t *s, size_t len)
+{
+    static sgh_row rows[SGH_LIMIT / 8];
+    sgh_message m;
+    uint32_t answer = SGH_GOOD;
+
+    for (size_t at = 0; at < len && answer == SGH_GOOD; at = m.next) {
+        answer = sgh_read_message(s, len, at, (uint32_t *)rows, SGH_ROW_NUMBERS * (sizeof rows / sizeof *rows), &m);
+        put_event(s, &m.start);
+        fputs(answer == SGH_GOOD ? " | " : "", stdout);
+        for (uint64_t i = 0; i < m.rows; i++) {
+            sgh_reader r = {rows[i].entry_start, rows[i].entry_start, 3};
+            sgh_event e;
+            sgh_next_event(s, len, &r, &e);
+            put_event(s, &e);
+            fputs(" | ", stdout);
+        }
+        if (m.end.kind != SGH_NO_EVENT) {
+            put_event(s, &m.end);
+            fputs(" | ", stdout);
+        }
+    }
+    fputs(answer == SGH_GOOD ? "none" : "", stdout);
+}
+
 static void put_answer(uint32_t answer, const uint8_t *buf, const uint64_t v[SGH_VALUES])
 {
     if (answer == SGH_PAYLOAD) {
@@ -794,6 +904,8 @@ static int answers(void)
             answer_push((uint8_t)n[0], n[1], n[2], bytes, len);
         else if (line[0] == 'e')
             answer_events(bytes, len);
+        else if (line[0] == 'm')
+            answer_messages(bytes, len);
         else if (line[0] == 'f')
             answer_encode(bytes, len);
         else if (line[0] == 'w')

@@ -7,7 +7,7 @@ os.chdir(os.path.join(os.path.dirname(os.path.abspath(__file__)), ".."))
 
 def plain(text):
     """An equation with lent things at the call by their names, at the return as MEMORY and LENT; without module names."""
-    for old, new in [(r"now \((?:buf|out) \.exit\)", "MEMORY"), (r"now \((?:d|e|self|bytes) \.exit\)", "LENT"), (r"(?:now|handed) \((\w+) \.entry\)", r"\1"), (r"\b(\w+) \.(?:entry|bytes)", r"\1"), (r"\b(?:now|handed) r\b", "r"), (r"\br \.memory", "MEMORY"),
+    for old, new in [(r"now \((?:buf|out|table) \.exit\)", "MEMORY"), (r"now \((?:d|e|self|bytes) \.exit\)", "LENT"), (r"(?:now|handed) \((\w+) \.entry\)", r"\1"), (r"\b(\w+) \.(?:entry|bytes)", r"\1"), (r"\b(?:now|handed) r\b", "r"), (r"\br \.memory", "MEMORY"),
                      (r"\br(?: \.answer)? \.lent", "LENT"), (r"\br \.answer(?: \.answer)?", "r"), (r"\b[A-Z]\w*\.(?=\w)", ""), (r"\((\w+)\)", r"\1"), (r"\((\w+)\)", r"\1")]:
         text = re.sub(old, new, text)
     return " ".join(text.split())
@@ -67,7 +67,7 @@ def held(crate, paths):
                     bad.append(f"{crate}: {key} says `{answer}`: `{raw[key]}`, and the contract `{wanted[0]}`: `{wanted[1]}`")
                 yield name
                 continue
-            memory, kept = "&mut [u8]" in takes.replace("bytes: &mut [u8]", ""), re.search(r"&mut (?:Decoder|Encoder|self)|bytes: &mut", takes)
+            memory, kept = re.search(r"&mut \[u(?:8|32)\]", takes.replace("bytes: &mut [u8]", "")) is not None, re.search(r"&mut (?:Decoder|Encoder|self)|bytes: &mut", takes)
             if memory != ("With" in answer) or bool(kept) != ("Beside" in answer):
                 bad.append(f"{crate}: what {name} changes is not beside its answer")
             if re.search(r"fn %s\b[^{]*? -> &" % name, text) and not (ensures.startswith("handed r ≡ partAt (handed (") and answer == "LentPart"):

@@ -1,5 +1,5 @@
 """The forms that the library has no call for, by the program of tests/forms, which runs without proof (`rt try`: compiled at -O0, at -O3 and with the compiler's assumptions checked): a decoder by value, in place, by slices and by slices in place, an Encoder by value and in place,
-the reader of messages by value and through Parser. Each answers a part of the library's stored vectors as stored, and `limits` every refusal with the record that it leaves. With --all every stored vector, in batches.
+the reader of messages by value and through Parser; and a whole message by value. Each answers a part of the library's stored vectors as stored, and `limits` every refusal with the record that it leaves. With --all every stored vector, in batches.
 """
 import os, re, subprocess, sys, tempfile, time
 
@@ -8,6 +8,7 @@ os.chdir(os.path.join(os.path.dirname(os.path.abspath(__file__)), ".."))
 sys.path.append("scripts")
 import wrong_answers
 from programs import LIBRARY, VECTORS
+from whole_reading import MORE, VECTORS as WHOLE
 
 # Of the commands that say the same kinds of things so many short ones are asked in the gate. A run has ten seconds and may write a megabyte, so that a batch has few lines and little to write.
 SHORT, EACH, LINES, ROOM, LONGEST = 500, 3, 2000, 1 << 18, 70000
@@ -67,6 +68,9 @@ pairs = list(zip(given, stored))
 if sys.argv[1:] not in ([], ["--all"]):
     sys.exit("test_forms [--all]")
 chosen = asked(pairs if sys.argv[1:] else sample(pairs))
+# a whole message by value, in a table of at most 64 numbers
+whole = [(f"message {room} {at} {data.hex() or '-'}", answer) for room, at, data, answer in WHOLE + MORE if room <= 64 and at < 1 << 20 and len(data) < LONGEST // 2 - 20]
+chosen += whole
 with tempfile.TemporaryDirectory() as tmp:
     wrong_answers.copied(tmp)
     layout = subprocess.run(["rt", "fmt", "--check"], cwd=tmp, capture_output=True, text=True)
@@ -78,6 +82,8 @@ if interpreted < 50:
 answers = {form + word: [a for c, a in chosen if c.startswith(form + word + " ")] for word in FORMS for form in FORMS[word]}
 bad += [f"{words}: no answer has {what}" for words, some in answers.items() for what in MUST[words.split(" ")[-1]] if not any(what in a for a in some)]
 counts = {word: sum(len(answers[form + word]) for form in FORMS[word]) for word in FORMS}
+if not all(any(what in a for _, a in whole) for what in ("| rows 2 next", "refused 4 ", "refused 10 @", "refused 14 @", "refused 20 ")):
+    bad.append("message: an answer of a kind that was to be there is missing")
 print("\n".join(bad))
 print(f"{len(chosen)} answers in {time.time() - began:.0f} s ({', '.join(f'{n} {word}' for word, n in counts.items())}), and those of limits; the first {interpreted} on the interpreter too; {len(bad)} faults")
 sys.exit(1 if bad else 0)

@@ -69,7 +69,7 @@ TAGS = {("startWords", "m"): "MESSAGE_START", ("endWords", "e"): "GET_LIST_RESPO
 PLACED = {("startWords", "m"): "message.", ("bodyWords", "openBody b"): "message.open.", ("bodyWords", "closeBody b"): "message.close.", ("bodyWords", "listBody b"): "message.list.", ("endWords", "e"): "end.", ("entryWords", "e"): "entry.", ("saidWords", "failed f"): "refused."}
 # the type of a parameter, and of an answer
 TYPES = {"&mut [u8; 28]": "sgh_decoder *", "&[u8; 28]": "const sgh_decoder *", "&mut [u64; 3]": "sgh_reader *", "&mut [u64; 24]": "sgh_event *", "&[u64; 24]": "const sgh_event *", "&[u8]": "const uint8_t *, size_t", "&mut [u8]": "uint8_t *, size_t",
-         "&mut usize": "size_t *", "&mut u8": "uint8_t *", "u8": "uint8_t", "usize": "size_t", "u16": "uint16_t", "u32": "uint32_t", "": "void"}
+         "&mut [u64; 50]": "sgh_message *", "&mut [u32]": "uint32_t *, size_t", "&mut usize": "size_t *", "&mut u8": "uint8_t *", "u8": "uint8_t", "usize": "size_t", "u16": "uint16_t", "u32": "uint32_t", "": "void"}
 
 
 def upper(name):
@@ -81,8 +81,9 @@ def numbers_of(path, pattern):
     return {name: int(n) for name, n in re.findall(pattern, text(path), re.M)}
 
 
-# document 01's and the writer's two, by number; the kinds of 11, by name
-REFUSALS = {n: upper(name) for name, n in numbers_of("crates/refusals/specs/Numbers.antt", r"^(\w+)No = (\d+)$").items() if n <= 18}
+# document 01's, the writer's two and the table's, by number; the kinds of 11, by name
+NUMBERED = [*range(1, 19), 20]
+REFUSALS = {n: upper(name) for name, n in numbers_of("crates/refusals/specs/Numbers.antt", r"^(\w+)No = (\d+)$").items() if n in NUMBERED}
 KINDS = numbers_of("crates/refusals/specs/Answers.antt", r"^kindOf (\w+) = (\d)$")
 
 
@@ -94,9 +95,14 @@ def terms(name, case):
     return [t for t in map(str.strip, re.split(r"∷|\+\+", body.group(1))) if t not in ("", "[]")]
 
 
+def row():
+    """The fields of a row in C, by what `flat` puts down for one."""
+    return [f"{part}_{field}" for part, field in re.findall(r"r \.(\w+) \.(\w+) ∷", re.search(r"^flat \(r ∷ rs\) = (.*)", text("crates/whole/specs/Whole.antt"), re.M).group(1))]
+
+
 def constants():
     """The header's constants by the definitions and the code that the proofs are about."""
-    held("the numbers of refusals", sorted(REFUSALS), list(range(1, 19)))
+    held("the numbers of refusals", sorted(REFUSALS), NUMBERED)
     wanted = {name: n for n, name in REFUSALS.items()} | {upper(name): n for name, n in KINDS.items()}
     wanted |= {upper(name): n for name, n in numbers_of("crates/sartrogheo/specs/Calls.antt", r"^(good|payload|finished)No = (\d+)$").items()}
     wanted |= numbers_of("crates/decoder/src/lib.rt", r"const (\w+_WAY): u8 = (\d);")
@@ -104,6 +110,8 @@ def constants():
     wanted["LIMIT"] = numbers_of("crates/refusals/specs/Numbers.antt", r"^(limit) = (\d+)$")["limit"]
     wanted["DECODER_LEN"] = numbers_of("crates/packed/src/lib.rt", r"^pub const (LEN): usize = (\d+);")["LEN"]
     wanted["VALUES"] = int(re.search(r"values: &mut \[u64; (\d+)\]", EXPORTS).group(1))
+    wanted["MESSAGE_WORDS"] = int(re.search(r"message: &mut \[u64; (\d+)\]", EXPORTS).group(1))
+    wanted["ROW_NUMBERS"] = len(row())
     wanted["EVENT_WORDS"] = int(re.search(r"^eventWords s = withZeros (\d+)", WORDS, re.M).group(1))
     found = {name: int(n) for name, n in re.findall(r"^#define SGH_(\w+) (\d+)u *$", HEADER, re.M)}
     held("constants: names", sorted(found), sorted(wanted))
@@ -146,10 +154,15 @@ def structs_are(folder):
     """The header's structs have exactly the fields of the words, where C puts them; the plain arrays of the exports are as long."""
     flat = re.sub(r"^    \};\n", "", re.sub(r"^    union \{\n", "", HEADER, flags=re.M), flags=re.M)
     structs = {name: [" ".join(f.split()) for f in body.split(";") if f.strip() and "[" not in f] for body, name in re.findall(r"typedef struct \{(.*?)\} (\w+);", flat, re.S)}
-    words = layout()
+    words, words_of_event = layout(), int(re.search(r"^eventWords s = withZeros (\d+)", WORDS, re.M).group(1))
     held("layout: fields of sgh_event", sorted(leaves("sgh_event", structs)), sorted(words))
     asked = [f"_Static_assert(offsetof(sgh_event, {path}) == {8 * at} && sizeof(((sgh_event *)0)->{path}) == 8, \"{path}\");" for path, at in words.items()]
-    sizes = {"sgh_decoder": "SGH_DECODER_LEN", "sgh_event": "8 * SGH_EVENT_WORDS", "sgh_encoder": "8 * 4", "sgh_reader": "8 * 3", "sgh_writer": "8 * 4"}
+    # the parts of `messageWords`: two events, and two numbers
+    parts = {"start": 0, "end": words_of_event, "rows": 2 * words_of_event, "next": 2 * words_of_event + 1}
+    asked += [f"_Static_assert(offsetof(sgh_message, {name}) == {8 * at}, \"{name} of a message\");" for name, at in parts.items()]
+    asked += [f"_Static_assert(offsetof(sgh_row, {name}) == {4 * k} && sizeof(((sgh_row *)0)->{name}) == 4, \"{name}\");" for k, name in enumerate(row())]
+    held("layout: fields of sgh_row and sgh_message", (list(leaves("sgh_row", structs)), structs["sgh_message"]), (row(), ["sgh_event start, end", "uint64_t rows, next"]))
+    sizes = {"sgh_row": "4 * SGH_ROW_NUMBERS", "sgh_message": "8 * SGH_MESSAGE_WORDS", "sgh_decoder": "SGH_DECODER_LEN", "sgh_event": "8 * SGH_EVENT_WORDS", "sgh_encoder": "8 * 4", "sgh_reader": "8 * 3", "sgh_writer": "8 * 4"}
     asked += [f"_Static_assert(sizeof({name}) == {size}, \"{name}\");" for name, size in sizes.items()]
     held("layout: Encoder, reader and writer", [list(leaves(name, structs)) for name in ("sgh_encoder", "sgh_reader", "sgh_writer")], [["kind", "count", "place", "crc"], ["place", "start", "pending"], ["place", "state", "left", "crc"]])
     compiles(folder, "layout: as the compiler has it", "\n".join(["#include <stddef.h>", "#include <sartrogheo.h>", *asked, ""]), ["-std=c11"])
@@ -295,6 +308,13 @@ def written(events):
     return f"{out.hex()} 0 {left}"
 
 
+def by_message(found):
+    """The events of a reading, message by message: one that is refused has none."""
+    starts = [k for k, event in enumerate(found.events) if event.split(" ")[0] in TAGGED]
+    events = found.events[: starts[-1]] if found.inside and found.refusal else found.events
+    return numbered(" | ".join([*events, "none" if found.refusal is None else str(found.refusal)]))
+
+
 def commands(n):
     """Commands, and what the readings answer."""
     r = random.Random(SEED)
@@ -306,6 +326,7 @@ def commands(n):
         yield f"c 0 0 0 {data.hex()}", "%04x" % crc(data)
         data = file(r)
         yield f"e 0 0 0 {data.hex()}", numbered(Reading(data).line())
+        yield f"m 0 0 0 {data.hex()}", by_message(Reading(data))
         yield f"w 0 0 0 {data.hex()}", written(Reading(data).events)
 
 
@@ -635,8 +656,8 @@ def failing(folder):
     held("scripts/install, no rt, an archive: which", contents(to)["lib/libsartrogheo.a"], b"an archive")
 
 
-def paged(data):
-    """What the program of docs/LIBRARY.md prints, by the readings."""
+def paged(data, whole=False):
+    """What the program of docs/LIBRARY.md prints, by the readings: of every event, or of every message that is right."""
     lines = []
     for event in push_rules.events(CAPACITY, data, 2):
         word, _, rest = event.partition(" ")
@@ -644,7 +665,8 @@ def paged(data):
         if not found:
             lines.append(f"lost {rest} bytes" if word == "discarded" else "refused " + REFUSED[word].split(" ")[0])
             continue
-        for one in found.events:
+        starts = [k for k, one in enumerate(found.events) if one.split(" ")[0] in TAGGED]
+        for one in found.events[: starts[-1]] if whole and found.inside and found.refusal else found.events:
             field = dict(w.split("=", 1) for w in one.split(" ")[1:])
             kind, _, value = field.get("value", "").partition(":")
             if one.startswith("entry"):
@@ -660,15 +682,17 @@ def put(path, source):
 
 
 def page_is(folder, moved, exports):
-    """docs/LIBRARY.md: each call, each number, and its two programs, built with what is installed alone."""
+    """docs/LIBRARY.md: each call, each number, and its programs, built with what is installed alone."""
     page, path = text("docs/LIBRARY.md"), os.path.join(folder, "page.c")
     held("docs/LIBRARY.md: calls", sorted(re.findall(r"^\| `(sgh_\w+)` \|", page, re.M)), sorted(exports))
-    held("docs/LIBRARY.md: numbers", re.findall(r"^\| (\d+)(?: to \d+)? \| `SGH_(\w+)`", page, re.M), [(str(k), REFUSALS[k]) for k in (*range(1, 11), 16, 17, 18)])
-    (source, writes), (wanted, heard) = (re.findall(rf"^```{kind}\n(.*?)^```", page, re.M | re.S) for kind in ("c", "text"))
+    held("docs/LIBRARY.md: numbers", re.findall(r"^\| (\d+)(?: to \d+)? \| `SGH_(\w+)`", page, re.M), [(str(k), REFUSALS[k]) for k in (*range(1, 11), 16, 17, 18, 20)])
+    (source, messages, writes), (wanted, heard) = (re.findall(rf"^```{kind}\n(.*?)^```", page, re.M | re.S) for kind in ("c", "text"))
     include, library = flags_of(moved)
-    program, writer = (clink.built(put(path, code), os.path.join(folder, name), include, library) for code, name in ((source, "page"), (writes, "writes")))
+    # the second block takes the place of a function of the first
+    own = re.search(r"^static void print_payload\(.*?^\}\n", source, re.M | re.S).group(0)
+    program, reader, writer = (clink.built(put(path, code), os.path.join(folder, name), include, library) for code, name in ((source, "page"), (source.replace(own, messages), "messages"), (writes, "writes")))
     sent = subprocess.run(writer, capture_output=True).stdout
-    held("what the second program of docs/LIBRARY.md writes, heard by the first", ran(program, sent), (0, heard))
+    held("what the program of docs/LIBRARY.md that writes has written, heard by the first", ran(program, sent), (0, heard))
     held("that is one frame", sent, frame(bytes.fromhex(push_rules.events(CAPACITY, sent, 2)[0][8:])))
     meter = open("captures/two-byte-length.bin", "rb").read()
     held("the program of docs/LIBRARY.md", ran(program, meter), (0, wanted))
@@ -676,6 +700,8 @@ def page_is(folder, moved, exports):
         status, output = ran(program, data)
         held(f"the program of docs/LIBRARY.md, {what}: status", status, 0)
         held_lines(f"the program of docs/LIBRARY.md, {what}", output, paged(data))
+        held_lines(f"the program of docs/LIBRARY.md by messages, {what}", ran(reader, data)[1], paged(data, True))
+    held("a list that is refused in its second entry", paged(recording(), True).count("\n") + 1, paged(recording()).count("\n"))
     held("the largest number and the lost bytes", [line in paged(recording() + meter[:99]).split("\n") for line in ("0100010800ff 18446744073709551615 e0", "0100010800ff -1 e0", "lost 99 bytes")], [True] * 3)
     return include, library
 

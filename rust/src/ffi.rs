@@ -5,6 +5,8 @@
 //! null and is good for 0 bytes. No call keeps a pointer, unwinds or touches anything that it isn't lent.
 #![allow(unsafe_code)]
 
+use core::mem::size_of;
+
 /// A decoder's 28 bytes.
 pub type State = [u8; DECODER_LEN];
 /// What an answer says.
@@ -18,6 +20,29 @@ pub type Event = [u64; EVENT_WORDS];
 /// `sgh_writer`: place, state, left, crc. Zeros are a new one.
 pub type Writer = [u64; 4];
 
+/// `sgh_message`.
+#[repr(C)]
+pub struct Message {
+    pub start: Event,
+    pub end: Event,
+    pub rows: u64,
+    pub next: u64,
+}
+
+/// `sgh_row`: where an entry of a list stands in the input, from its first length byte on, and where its name does.
+#[repr(C)]
+#[derive(Debug, Clone, Copy, Default, PartialEq, Eq, Hash)]
+pub struct Row {
+    /// The name's first byte.
+    pub name_start: u32,
+    /// How many bytes the name has.
+    pub name_len: u32,
+    /// The entry's first byte.
+    pub entry_start: u32,
+    /// How many bytes the entry has.
+    pub entry_len: u32,
+}
+
 // The header's numbers, by its names without SGH_: of answers,
 pub const GOOD: u32 = 0;
 pub const PAYLOAD: u32 = 100;
@@ -30,6 +55,7 @@ pub const BAD_STATE: u32 = 4;
 pub const BAD_SPAN: u32 = 16;
 pub const WRONG_NUMBER: u32 = 17;
 pub const OUTPUT_TOO_SHORT: u32 = 18;
+pub const TOO_MANY_ENTRIES: u32 = 20;
 // of refusals in an event,
 pub const INPUT_TOO_LONG: u64 = 9;
 pub const UNEXPECTED_EOF: u64 = 10;
@@ -63,9 +89,14 @@ pub const LIMIT: usize = 1_048_576;
 pub const DECODER_LEN: usize = 28;
 pub const VALUES: usize = 4;
 pub const EVENT_WORDS: usize = 24;
+pub const ROW_NUMBERS: usize = 4;
+pub const MESSAGE_WORDS: usize = 50;
+
+// a struct of another size would be no row, or no message
+const _: () = assert!(size_of::<Row>() == 4 * ROW_NUMBERS && size_of::<Message>() == 8 * MESSAGE_WORDS);
 
 mod c {
-    use super::{Encoder, Event, Reader, State, Values, Writer};
+    use super::{Encoder, Event, Message, Reader, State, Values, Writer};
 
     extern "C" {
         pub fn sgh_decoder_new(d: *mut State, capacity: usize, way: u8) -> u32;
@@ -87,6 +118,7 @@ mod c {
         pub fn sgh_encoder_next(e: *mut Encoder, payload: *const u8, payload_len: usize, byte: *mut u8) -> u32;
         pub fn sgh_crc(bytes: *const u8, len: usize) -> u16;
         pub fn sgh_next_event(input: *const u8, len: usize, reader: *mut Reader, event: *mut Event) -> u32;
+        pub fn sgh_read_message(input: *const u8, len: usize, at: usize, table: *mut u32, table_len: usize, message: *mut Message) -> u32;
         pub fn sgh_write_event(
             out: *mut u8,
             out_len: usize,
@@ -164,6 +196,12 @@ pub fn crc(bytes: &[u8]) -> u16 {
 pub fn next_event(input: &[u8], reader: &mut Reader, event: &mut Event) -> u32 {
     // SAFETY: two `&mut`, of as many numbers as `sgh_reader` and `sgh_event` have, which overlap neither with each other nor with `input`, which is good for its length.
     unsafe { c::sgh_next_event(input.as_ptr(), input.len(), reader, event) }
+}
+
+#[inline]
+pub fn read_message(input: &[u8], at: usize, table: &mut [Row], message: &mut Message) -> u32 {
+    // SAFETY: two `&mut`, which overlap neither with each other nor with `input`, which is good for its length; `repr(C)` makes a row four numbers, one behind the other, and `Message` the struct of the header.
+    unsafe { c::sgh_read_message(input.as_ptr(), input.len(), at, table.as_mut_ptr().cast(), ROW_NUMBERS * table.len(), message) }
 }
 
 #[inline]

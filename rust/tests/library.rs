@@ -5,6 +5,7 @@ use sartrogheo::parser::common::{CloseResponse, ListEntry, ListType, OpenRespons
 use sartrogheo::parser::streaming::{
     GetListResponseEnd, GetListResponseStart, MessageBody, MessageStart, ParseEvent, Parser, UntilRefused,
 };
+use sartrogheo::parser::whole::{read_message, ReadErr, Row, Whole};
 use sartrogheo::parser::{ParseErrorKind, TlfParseError};
 use sartrogheo::transport::{decode_streaming, encode_into, encode_streaming, DecodeErr, Decoder, EncodeErr, Encoder};
 use sartrogheo::util::{ArrayBuf, Buffer, OutOfMemory};
@@ -128,6 +129,7 @@ fn decoders_and_readers_can_be_sent_and_shared() {
     both::<Parser>();
     both::<Writer>();
     both::<UntilRefused>();
+    both::<Whole>();
 }
 
 #[test]
@@ -579,4 +581,83 @@ fn refusals_of_a_writer_come_in_order_and_change_nothing() {
     let numbers = [WriteErr::BadState, WriteErr::WrongNumber, WriteErr::BadSpan, WriteErr::OutputTooShort].map(|e| e.number());
     assert_eq!(numbers, [4, 17, 16, 18]);
     assert_eq!(WriteErr::BadSpan.to_string(), "BadSpan");
+}
+
+/// The events of messages that are read one by one, each entry at its row.
+fn events_by_message(bytes: &[u8], table: &mut [Row]) -> Result<Vec<String>, ReadErr> {
+    let (mut at, mut all) = (0, Vec::new());
+    while at < bytes.len() {
+        let m = read_message(bytes, at, table)?;
+        all.push(format!("{:?}", ParseEvent::MessageStart(m.start)));
+        for row in m.rows {
+            let entry = row.entry(bytes).unwrap();
+            assert_eq!(row.name(bytes), Some(entry.obj_name));
+            all.push(format!("{:?}", ParseEvent::ListEntry(entry)));
+        }
+        all.extend(m.end.map(|end| format!("{:?}", ParseEvent::GetListResponseEnd(end))));
+        at = m.next;
+    }
+    Ok(all)
+}
+
+const MARK: Row = Row { name_start: 7, name_len: 7, entry_start: 7, entry_len: 7 };
+
+#[test]
+fn messages_in_one_call_have_the_fields_of_the_events() {
+    let strings = [0xdd, 0x43, 0x44, 0, 1, 0, 1, 8, 0, 0xff];
+    let mut out = [0; 2048];
+    let mut writer = Writer::new(&mut out, &strings);
+    of_every_kind(&strings).iter().for_each(|event| assert_eq!(writer.write(event), Ok(())));
+    let bytes = writer.written();
+    let wanted: Vec<_> = events(bytes).iter().map(|event| format!("{event:?}")).collect();
+    for room in [26, 27, 100] {
+        let mut table = vec![MARK; room];
+        assert_eq!(events_by_message(bytes, &mut table).as_ref(), Ok(&wanted));
+        assert!(table[26..].iter().all(|row| *row == MARK));
+        assert!(table[..26].windows(2).all(|two| two[0].entry_start + two[0].entry_len == two[1].entry_start));
+    }
+    let mut table = [MARK; 25];
+    assert_eq!((events_by_message(bytes, &mut table), table), (Err(ReadErr::TooManyEntries), [MARK; 25]));
+}
+
+/// The number and place of a refusal, which leaves the table.
+fn not_read(bytes: &[u8], at: usize) -> (u32, Option<usize>, String) {
+    let mut table = [MARK; 2];
+    let e = read_message(bytes, at, &mut table).unwrap_err();
+    assert_eq!(table, [MARK; 2]);
+    (e.number(), e.place(), e.to_string())
+}
+
+#[test]
+fn a_message_in_one_call_is_refused_as_its_events_are() {
+    assert_eq!(not_read(&[], 0), (10, Some(0), "UnexpectedEOF at 0".into()));
+    assert_eq!(not_read(&CLOSE, 20), (10, Some(20), "UnexpectedEOF at 20".into()));
+    assert_eq!(not_read(&CLOSE, 21), (4, None, "BadState".into()));
+    assert_eq!(not_read(&CLOSE, usize::MAX), (4, None, "BadState".into()));
+    for (place, byte) in [(15, 0x10), (14, 0x72), (13, 2), (18, 0x57), (19, 1)] {
+        let (bytes, bent) = (with(place, byte), [&CLOSE[..], &with(place, byte)].concat());
+        let (number, at, said, _) = refused(&bytes);
+        assert_eq!(not_read(&bytes, 0), (number, at, said));
+        assert_eq!((not_read(&bent, 20).0, not_read(&bent, 20).1), (number, at.map(|at| at + 20)));
+        // what follows a message is not looked at
+        assert_eq!(read_message(&bent, 0, &mut []).map(|m| (m.rows.len(), m.next)), Ok((0, 20)));
+    }
+    let long = vec![0x77; LIMIT + 1];
+    assert_eq!(not_read(&long, 0), (9, None, "InputTooLong".into()));
+    assert_eq!(not_read(&long, LIMIT + 2), (9, None, "InputTooLong".into()));
+    assert_eq!(not_read(&long[1..], 0), (12, Some(0), "TlfMismatch at 0".into()));
+    // cut, with no room either, it is the cut that is told
+    assert_eq!(read_message(&LIST, 0, &mut []).map_err(|e| (e.number(), e.place())), Err((10, Some(47))));
+    assert_eq!(ReadErr::TooManyEntries.to_string(), "TooManyEntries");
+    assert_eq!((ReadErr::TooManyEntries.number(), ReadErr::TooManyEntries.place()), (20, None));
+}
+
+#[test]
+fn a_row_that_is_another_s_has_no_entry_or_name() {
+    let at = |start, len| Row { name_start: start, name_len: len, entry_start: start, entry_len: len };
+    assert_eq!((at(0, 4).entry(&CLOSE), at(0, 4).name(&CLOSE)), (None, Some(&CLOSE[..4])));
+    for row in [at(21, 0), at(20, 1), at(u32::MAX, u32::MAX), at(0, 21)] {
+        assert_eq!((row.entry(&CLOSE), row.name(&CLOSE)), (None, None));
+    }
+    assert_eq!(at(17, 1).entry(&LIST).unwrap().obj_name, &LIST[19..25]);
 }

@@ -11,16 +11,10 @@ use Rattle.refusals.specs.declared.Span.{Span}
 use Rattle.streaming.specs.Next.{Said, event, noEvent, failed, alone}
 use Rattle.events.specs.Message.{Message, messageAt}
 use Rattle.events.specs.Events.{Answers, nth, answer, messagesFrom}
-use Rattle.events.specs.Telling.{messageEvents, isRefused, firstRefusal, Tells}
+use Rattle.events.specs.Telling.{messageEvents, isRefused, firstRefusal, Tells, RefusesFirst}
 use Rattle.events.specs.Calls.{call}
 use Rattle.events.proofs.Calls.{SoundReader, messages-give}
 use Rattle.events.proofs.Whole.{message-tells}
-
--- call k is refused with f, and no call before it is refused
-pub record RefusesFirst (says : ℕ → Said) (f : Refusal) : Type 0 where
-  pub k : ℕ
-  pub refuses : says k ≡ failed f
-  pub before : (j : ℕ) → j < k → isRefused (says j) ≡ false
 
 one-more-said : (x : Said) (l : List Said) (later : Said) (f : Refusal) → isRefused x ≡ false → RefusesFirst (nth l later) f → RefusesFirst (nth (x ∷ l) later) f
 unfolding nth

@@ -1,5 +1,5 @@
 -- claim: how the answers of the calls tell what a whole message says.
-use Prim.Native.Nat.{ℕ}
+use Prim.Native.Nat.{ℕ, _<_}
 use mathlib.Core.Path.{_≡_}
 use mathlib.Core.Bool.{Bool, true, false}
 use mathlib.Core.List.{List, [], _∷_}
@@ -51,3 +51,9 @@ Telling events (refused f) a k = firstRefusal (a .first) ≡ some f
 
 pub record Tells {A : Type 0} (events : A → List (MessageEvent Span)) (r : Read A) (a : Answers) (k : ℕ → Answers) : Type 0 where
   pub tells : Telling events r a k
+
+-- of the answers `says`, counted from 0, that of call k is the refusal f, and none before it is a refusal
+pub record RefusesFirst (says : ℕ → Said) (f : Refusal) : Type 0 where
+  pub k : ℕ
+  pub refuses : says k ≡ failed f
+  pub before : (j : ℕ) → j < k → isRefused (says j) ≡ false

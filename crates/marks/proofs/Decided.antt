@@ -19,6 +19,7 @@ use Rattle.trailer.proofs.Decided as Trailer
 use Rattle.streaming.proofs.Decided as Streaming
 use Rattle.parser.proofs.Decided as Parser
 use Rattle.writer.proofs.Decided as Writer
+use Rattle.whole.proofs.Decided as Whole
 use Rattle.words.proofs.Decided as Words
 use Rattle.sartrogheo.proofs.Decided as Library
 use Rattle.marks.specs.Decided.{Views, Decided}
@@ -42,6 +43,7 @@ views =
       streaming = Streaming.views;
       parser = Parser.views;
       writer = Writer.views;
+      whole = Whole.views;
       words = Words.views;
     }
 
@@ -68,6 +70,7 @@ decided =
       streaming = Streaming.decided;
       parser = Parser.decided;
       writer = Writer.decided;
+      whole = Whole.decided;
       words = Words.decided;
       library = Library.decided;
     }

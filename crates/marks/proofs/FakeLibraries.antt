@@ -6,9 +6,9 @@ use Prim.Native.Nat.{ℕ}
 use native.Mathlib.Omega.{arith}
 use lib.IntN.{ℤ, pos, negsuc}
 use lib.ListN.{length, getD, replicate}
-use Rattle.crc_x25.specs.Crc.{reflect, polynomial, bitStep, bitSteps, byteStep, register, finalXor}
+use Rattle.crc_x25.specs.Crc.{reflect, polynomial, bitStep, bitSteps, byteStep, register, finalXor, crcOf}
 use Rattle.refusals.specs.declared.Span.{Span}
-use Rattle.refusals.specs.Read.{then, guard, need, byteAt, spanAt}
+use Rattle.refusals.specs.Read.{then, guard, need, many, byteAt, spanAt}
 use Rattle.frame.specs.Frame.{same, escaped, closed, frameOf}
 use Rattle.encoder.specs.Encode.{EncodeAnswer, length-is, noFrame, AfterEncode, encodeTo}
 use Rattle.encoder.specs.Encoder.{NextAnswer, byte, finished, noByte, freshEncoder, stepFrom, badEncoder, nextStep}
@@ -23,8 +23,11 @@ use Rattle.numbers.specs.Numbers.{number, bytesAt, rawFrom, rawAt, unsignedAt, 
 use Rattle.octet_string.specs.Strings.{octetsAt, isWithin, partOf}
 use Rattle.octet_string.specs.Optional.{absentAt, optional}
 use Rattle.value.specs.Values.{timeAt, statusOf, statusAt, signedValue, unsignedValue, listTypeAt, valueOf, valueAt}
-use Rattle.common.specs.Fields.{entryAt}
-use Rattle.message.specs.Messages.{listBody, startAt}
+use Rattle.common.specs.Fields.{closeAt, entryAt}
+use Rattle.message.specs.Messages.{listBody, contentAt, bodyAt, startAt}
+use Rattle.trailer.specs.Trailer.{messageEndAt, crcFrom, trailerAt}
+use Rattle.whole.specs.Whole.{insideAt, wholeAt, flat, WholeSaid, wholeIs, broken, refusedAlone, AfterWhole, fillTo, readTo}
+use Rattle.one_call.specs.Bench.{closeInput}
 use Rattle.streaming.specs.Next.{MessageEvent, startEvent, entryEvent, endEvent, Said, event, noEvent, failed, alone, onward, beginAt, entryNext, stepAt, nextAt}
 use Rattle.byte_count.specs.Count.{firstThat, unsignedCount}
 use Rattle.tlf.specs.Written.{lengthBytes, typed}
@@ -39,11 +42,12 @@ use Rattle.words.proofs.Laws.{event-words-length}
 use Rattle.sartrogheo.specs.Calls.{Reply, sghDecoderNew, sghPushByte, sghPushSlice, sghFinalize}
 use Rattle.sartrogheo.specs.Streams.{encoderIn, sghEncoderNew, sghEncoderNext, sghNextEvent}
 use Rattle.sartrogheo.specs.Writes.{writerIn, sghWriteEvent}
+use Rattle.sartrogheo.specs.Wholes.{messageWords, sghReadMessage}
 use Rattle.marks.specs.Encoders.{callsOf}
 use Rattle.marks.specs.Events.{Numbers, saysAt}
 use Rattle.marks.specs.Chunks.{oneOp, slice, HeardUse, heardUse, usesSay, usesLeave}
-use Rattle.marks.specs.Library.{HearsNew, LentByCaller, CallerBegins, HearsDecoder, HearsEncode, HearsEncoder, HearsReader, HearsWriter}
-use Rattle.marks.specs.FakeLibraries.{leavesNumbers, deniesNew, keepsValues, handsBuffer, paysAlways, leavesLast, forgetsSlice, encodesNothing, forgetsCount, losesPlace, losesSign, losesKind, forgetsPlace, mistakesWords, FallLibraries}
+use Rattle.marks.specs.Library.{HearsNew, LentByCaller, CallerBegins, HearsDecoder, HearsEncode, HearsEncoder, HearsReader, HearsWriter, HearsWhole}
+use Rattle.marks.specs.FakeLibraries.{leavesNumbers, deniesNew, keepsValues, handsBuffer, paysAlways, leavesLast, forgetsSlice, encodesNothing, forgetsCount, losesPlace, losesSign, losesKind, forgetsPlace, mistakesWords, placesAtZero, nextUntold, endLeft, FallLibraries}
 use Rattle.marks.proofs.Narrow.{zeros-bytes}
 
 abbrev blank : LentByCaller
@@ -183,6 +187,26 @@ mistakes-words h =
     let n : _≡_ {A = ℕ} 17 4 = ap (λ (r : Reply). r .number) (h .no-event [] [] [] [] (λ e t q. (let z : _≡_ {A = ℕ} 0 24 = ap length q ∙ event-words-length (event e) in omega (arith, z)))) in
     omega (arith, n)
 
+-- ---- whole messages
+
+placeHeardIn : WholeSaid → ℕ
+placeHeardIn (wholeIs start end rows next) = next
+placeHeardIn (broken f) = f .place
+placeHeardIn (refusedAlone n) = 0
+
+-- 11 at place 1: no type has these bits
+places-at-zero : HearsWhole placesAtZero → ⊥
+unfolding placeHeardIn then guard need byteAt tlfAt lengthFrom listOfAt startAt wholeAt fillTo readTo withZeros same messageWords sghReadMessage
+places-at-zero h = let n : _≡_ {A = ℕ} 0 1 = ap (λ (a : AfterWhole). placeHeardIn (a .answer)) (h .reads (0x10 ∷ 0x10 ∷ []) 1 []) in omega (arith, n)
+
+next-untold : HearsWhole nextUntold → ⊥
+unfolding placeHeardIn then guard need many byteAt spanAt tlfAt lengthFrom lessOwn listOfAt number bytesAt rawFrom rawAt unsignedAt octetsAt absentAt optional closeAt messageEndAt contentAt bodyAt startAt reflect polynomial bitStep bitSteps byteStep register finalXor crcOf crcFrom trailerAt insideAt wholeAt flat fillTo readTo withZeros same messageWords sghReadMessage
+next-untold h = let n : _≡_ {A = ℕ} 0 18 = ap (λ (a : AfterWhole). placeHeardIn (a .answer)) (h .reads closeInput 0 []) in omega (arith, n)
+
+end-left : HearsWhole endLeft → ⊥
+unfolding then guard need byteAt tlfAt lengthFrom listOfAt startAt wholeAt fillTo readTo withZeros same messageWords sghReadMessage
+end-left h = let n : _≡_ {A = ℕ} 1 0 = ap (λ (l : List ℕ). wordAt l 47) (h .words [] 0 []) in omega (arith, n)
+
 pub fall-libraries : FallLibraries
 fall-libraries =
     record {
@@ -200,4 +224,7 @@ fall-libraries =
       forgets-place = forgets-place;
       leaves-numbers = leaves-numbers;
       mistakes-words = mistakes-words;
+      places-at-zero = places-at-zero;
+      next-untold = next-untold;
+      end-left = end-left;
     }

@@ -39,7 +39,7 @@ use Rattle.marks.specs.Library.{eventIn, saidBy, heardEvent}
 -- ---- numbers below 0
 
 -- a number of 64 bits with its sign
-abbrev InRange : ℤ → Type 0
+abbrev pub InRange : ℤ → Type 0
 InRange z = mag z < 2 ^ 63
 
 -- what a word says in two's complement
@@ -64,7 +64,7 @@ status-back (some x) = refl
 status-back none = refl
 
 -- a scaler
-abbrev FieldInRange : Option ℤ → Type 0
+abbrev pub FieldInRange : Option ℤ → Type 0
 FieldInRange (some z) = InRange z
 FieldInRange none = Unit {0}
 
@@ -75,7 +75,7 @@ scaler-back none h = refl
 
 -- ---- events
 
-end-back : (e : ListEnd Span) → eventIn (withZeros 24 (endWords e)) ≡ endEvent e
+pub end-back : (e : ListEnd Span) → eventIn (withZeros 24 (endWords e)) ≡ endEvent e
 unfolding withZeros
 end-back e = rw (span-words (e .«list_signature»), number-words (e .«act_gateway_time»), span-back (e .«list_signature»), number-back (e .«act_gateway_time»))
 
@@ -105,16 +105,16 @@ valueBy kind width number start len =
     (cond (eqb kind 3) (signed width (signedBy number))
     (cond (eqb kind 4) (unsigned width number) (listTime number))))
 
-abbrev ValueInRange : Value Span → Type 0
+abbrev pub ValueInRange : Value Span → Type 0
 ValueInRange (truth b) = Unit {0}
 ValueInRange (bytes p) = Unit {0}
 ValueInRange (signed width z) = InRange z
 ValueInRange (unsigned width n) = Unit {0}
 ValueInRange (listTime n) = Unit {0}
 
-record EntryInRange (e : ListEntry Span) : Type 0 where
-  scaler′ : FieldInRange (e .scaler)
-  value′ : ValueInRange (e .value)
+pub record EntryInRange (e : ListEntry Span) : Type 0 where
+  pub scaler′ : FieldInRange (e .scaler)
+  pub value′ : ValueInRange (e .value)
 
 value-words-back : (v : Value Span) → ValueInRange v → valueBy (wordOf v 0) (wordOf v 1) (wordOf v 2) (wordOf v 3) (wordOf v 4) ≡ v
 unfolding wordOf valueBy
@@ -156,7 +156,7 @@ pub not-finished : (n : ℕ) → IsRefusal n → eqb n 101 ≡ false
 not-finished n h = ne-eqb n 101 (λ e. omega (arith, h, e))
 
 -- what can be told in numbers; of a refusal with a place that is known otherwise
-abbrev Tellable : Said → Type 0
+abbrev pub Tellable : Said → Type 0
 Tellable (event (startEvent m)) = Unit {0}
 Tellable (event (endEvent e)) = Unit {0}
 Tellable (event (entryEvent e)) = EntryInRange e
@@ -164,14 +164,14 @@ Tellable noEvent = Unit {0}
 Tellable (failed f) = Unit {0}
 Tellable (alone n) = IsRefusal n
 
-event-back : (x : Said) → Tellable x → ((f : Refusal) → x ≡ failed f → IsRefusal (f .number)) → saidBy (readerNo x) (eventWords x) ≡ x
+pub said-words-back : (x : Said) → Tellable x → ((f : Refusal) → x ≡ failed f → IsRefusal (f .number)) → saidBy (readerNo x) (eventWords x) ≡ x
 unfolding withZeros
-event-back (event (startEvent m)) h g = ap event (body-back m (m .«message_body») refl)
-event-back (event (endEvent e)) h g = ap event (end-back e)
-event-back (event (entryEvent e)) h g = ap event (entry-words-back e h)
-event-back noEvent h g = refl
-event-back (failed f) h g = rw (not-good (f .number) (g f refl), not-finished (f .number) (g f refl))
-event-back (alone n) h g = rw (not-good n h, not-finished n h)
+said-words-back (event (startEvent m)) h g = ap event (body-back m (m .«message_body») refl)
+said-words-back (event (endEvent e)) h g = ap event (end-back e)
+said-words-back (event (entryEvent e)) h g = ap event (entry-words-back e h)
+said-words-back noEvent h g = refl
+said-words-back (failed f) h g = rw (not-good (f .number) (g f refl), not-finished (f .number) (g f refl))
+said-words-back (alone n) h g = rw (not-good n h, not-finished n h)
 
 -- ---- what a reading finds is in range
 
@@ -254,7 +254,7 @@ next-tells s at start pending =
     (λ u. rw (t, u) (omega arith)))
 
 -- a refusal with a place is one of 10 to 15
-stands-refuses : {A : Type 0} {read : List ℕ → Read A} {s : List ℕ} {start : ℕ} (f : Refusal) (q : ℕ) → Stands read s start f q → IsRefusal (f .number)
+pub stands-refuses : {A : Type 0} {read : List ℕ → Read A} {s : List ℕ} {start : ℕ} (f : Refusal) (q : ℕ) → Stands read s start f q → IsRefusal (f .number)
 stands-refuses f q over = omega arith
 stands-refuses f q (badLength kind p q′ x i e) = omega arith
 stands-refuses f q (unwanted t p n x i e) = omega arith
@@ -271,9 +271,9 @@ call-refuses s at start pending f (inListEnd f′ b) = stands-refuses f _ (b .st
 call-refuses s at start pending f (inEntry f′ left b) = stands-refuses f _ (b .stands)
 
 -- number and words that are those of what they say are heard so
-heard-is : (number : ℕ) (w : List ℕ) (x : Said) → saidBy number w ≡ x → readerNo x ≡ number → eventWords x ≡ w → heardEvent number w ≡ x
+pub heard-is : (number : ℕ) (w : List ℕ) (x : Said) → saidBy number w ≡ x → readerNo x ≡ number → eventWords x ≡ w → heardEvent number w ≡ x
 heard-is number w x h a b = rw (h, a, b, eq-eqb number number refl, same-self w)
 
 -- so what a call's number and words say is what the call says
 pub call-back : (s : List ℕ) (at start pending : ℕ) → let x : Said = nextAt s at start pending .answer in heardEvent (readerNo x) (eventWords x) ≡ x
-call-back s at start pending = heard-is _ _ _ (event-back _ (next-tells s at start pending) (λ f e. call-refuses s at start pending f (call-broke s at start pending f e))) refl refl
+call-back s at start pending = heard-is _ _ _ (said-words-back _ (next-tells s at start pending) (λ f e. call-refuses s at start pending f (call-broke s at start pending f e))) refl refl

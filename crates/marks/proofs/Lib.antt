@@ -20,6 +20,7 @@ pub mod Events
 pub mod HeardAnswer
 pub mod HeardEvent
 pub mod HeardWriter
+pub mod HeardWhole
 pub mod Library
 pub mod LibraryMarks
 pub mod Decided

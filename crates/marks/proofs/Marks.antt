@@ -2,6 +2,10 @@
 use Rattle.tlf.proofs.Overflow.{overflows}
 use Rattle.written.proofs.Claims.{written-claims}
 use Rattle.written.proofs.Fakes.{fall-writers}
+use Rattle.one_call.proofs.Readers.{ours-good}
+use Rattle.one_call.proofs.Unique.{only-ours}
+use Rattle.one_call.proofs.Bench.{whole-bench}
+use Rattle.one_call.proofs.Fakes.{fall-whole-readers}
 use Rattle.words.proofs.Back.{back-claims}
 use Rattle.words.proofs.Fakes.{back-fakes}
 use Rattle.places.proofs.Readers.{readers}
@@ -76,12 +80,18 @@ marks =
       library-crc = hears-ours .crc;
       library-reader = hears-ours .reader;
       library-writer = hears-ours .writer;
+      library-whole = hears-ours .whole;
       library-gives = library-gives;
       library-marks = marks-by;
       words-back = back-claims;
       fall-words = back-fakes;
       writer = written-claims;
       fall-writers = fall-writers;
+      whole-reader = ours-good;
+      only-whole = only-ours;
+      only-whole = only-ours;
+      whole-bench = whole-bench;
+      fall-whole-readers = fall-whole-readers;
       overflows = overflows;
       readers = readers;
       reader-says-where = reader-says-where;

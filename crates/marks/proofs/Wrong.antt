@@ -15,8 +15,8 @@ use Rattle.marks.specs.Events.{ReaderGives, GoesOn, readerWith, ListsEnt
 use Rattle.marks.specs.Fakes.{refusesAll, constant, idle, invents, once, stale, hasty, forgiving, firstOnly, countsEight, deaf, forgetsWay, servesAnyWay, swallows, takesNone, withholds, shrugs, forgetful, blamesTheMessage, saysItAgain, writesNothing, finishedAtOnce, withoutEvents, noEntries}
 use Rattle.marks.specs.FakeHosts.{unpacksNothing, packsConstants, packsAny, unpacksAny, onlyAnswers, saysNothingEver, handsNothing, clearsRefused, growsOutput, clearsRest}
 use Rattle.marks.proofs.Fakes.{not-ours, fall}
-use Rattle.marks.specs.Library.{HearsNew, HearsDecoder, HearsEncode, HearsEncoder, HearsReader, HearsWriter}
-use Rattle.marks.specs.FakeLibraries.{deniesNew, keepsValues, handsBuffer, paysAlways, leavesLast, forgetsSlice, encodesNothing, forgetsCount, losesPlace, losesSign, losesKind, forgetsPlace, leavesNumbers, mistakesWords}
+use Rattle.marks.specs.Library.{HearsNew, HearsDecoder, HearsEncode, HearsEncoder, HearsReader, HearsWriter, HearsWhole}
+use Rattle.marks.specs.FakeLibraries.{deniesNew, keepsValues, handsBuffer, paysAlways, leavesLast, forgetsSlice, encodesNothing, forgetsCount, losesPlace, losesSign, losesKind, forgetsPlace, leavesNumbers, mistakesWords, placesAtZero, nextUntold, endLeft}
 use Rattle.marks.specs.FakeLarger.{storesLess, secondStoresLess, largerHandsNothing, handsTheBuffer, resetCountsRoom, finalizeCountsRoom, hesitates, looksAhead, deniesLarger, ForAnyTwo, AcrossWays, FullAnswerToo, HearsAsMany}
 use Rattle.marks.proofs.FakeHosts.{fall-hosts}
 use Rattle.marks.proofs.FakeLarger.{fall-larger}
@@ -174,6 +174,15 @@ fake-ended-writer-keeps-its-register = fall-libraries .leaves-numbers
 
 fake-no-event-is-a-wrong-number : HearsWriter mistakesWords → ⊥
 fake-no-event-is-a-wrong-number = fall-libraries .mistakes-words
+
+fake-message-refused-at-zero : HearsWhole placesAtZero → ⊥
+fake-message-refused-at-zero = fall-libraries .places-at-zero
+
+fake-next-place-not-told : HearsWhole nextUntold → ⊥
+fake-next-place-not-told = fall-libraries .next-untold
+
+fake-unused-words-left : HearsWhole endLeft → ⊥
+fake-unused-words-left = fall-libraries .end-left
 
 fake-larger-buffer-stores-less : Larger (storesLess .machine) → ⊥
 fake-larger-buffer-stores-less = fall-larger .stores-less

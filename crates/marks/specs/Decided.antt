@@ -19,6 +19,7 @@ use Rattle.trailer.specs.Decided as Trailer
 use Rattle.streaming.specs.Decided as Streaming
 use Rattle.parser.specs.Decided as Parser
 use Rattle.writer.specs.Decided as Writer
+use Rattle.whole.specs.Decided as Whole
 use Rattle.words.specs.Decided as Words
 use Rattle.sartrogheo.specs.Decided as Library
 
@@ -40,6 +41,7 @@ pub record Views : Type 0 where
   pub streaming : Streaming.Views
   pub parser : Parser.Views
   pub writer : Writer.Views
+  pub whole : Whole.Views
   pub words : Words.Views
 
 -- one outcome for each input: answer, record and the content of lent memory. No public function has a `requires`
@@ -64,5 +66,6 @@ pub record Decided : Type 0 where
   pub streaming : Streaming.Decided
   pub parser : Parser.Decided
   pub writer : Writer.Decided
+  pub whole : Whole.Decided
   pub words : Words.Decided
   pub library : Library.Decided

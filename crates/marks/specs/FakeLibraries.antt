@@ -6,8 +6,9 @@ use Rattle.crc_x25.specs.Crc.{crcOf}
 use Rattle.sartrogheo.specs.Calls.{Reply, reply, sghDecoderNew, sghPushByte, sghPushSlice, sghPayload, sghFinalize, sghReset, sghEncode}
 use Rattle.sartrogheo.specs.Streams.{sghEncoderNew, sghEncoderNext, sghNextEvent}
 use Rattle.sartrogheo.specs.Writes.{sghWriteEvent}
+use Rattle.sartrogheo.specs.Wholes.{sghReadMessage}
 use Rattle.words.specs.Back.{wordAt}
-use Rattle.marks.specs.Library.{Library, lentAt, firstAt, HearsNew, HearsDecoder, HearsEncode, HearsEncoder, HearsReader, HearsWriter}
+use Rattle.marks.specs.Library.{Library, lentAt, firstAt, HearsNew, HearsDecoder, HearsEncode, HearsEncoder, HearsReader, HearsWriter, HearsWhole}
 
 -- ours, but for the calls that make a decoder, push a slice, ask for the payload and finalize; or for those over frames and messages
 abbrev pub withDecoder : (List ℕ → ℕ → ℕ → Reply) → (List ℕ → List ℕ → List ℕ → List ℕ → Reply) → (List ℕ → List ℕ → Reply) → (List ℕ → List ℕ → Reply) → Library
@@ -25,6 +26,7 @@ withDecoder new slice payload finalize =
       crc = crcOf;
       nextEvent = sghNextEvent;
       writeEvent = sghWriteEvent;
+      readMessage = sghReadMessage;
     }
 
 abbrev pub withMessages : (List ℕ → List ℕ → Reply) → (List ℕ → List ℕ → ℕ → Reply) → (List ℕ → List ℕ → Reply) → (List ℕ → List ℕ → List ℕ → List ℕ → Reply) → Library
@@ -42,6 +44,7 @@ withMessages encode next event write =
       crc = crcOf;
       nextEvent = event;
       writeEvent = write;
+      readMessage = sghReadMessage;
     }
 
 abbrev pub withFrames : (List ℕ → List ℕ → Reply) → (List ℕ → List ℕ → ℕ → Reply) → (List ℕ → List ℕ → Reply) → Library
@@ -107,6 +110,41 @@ leavesNumbers = withMessages sghEncode sghEncoderNext sghNextEvent (λ out strin
 abbrev pub mistakesWords : Library
 mistakesWords = withMessages sghEncode sghEncoderNext sghNextEvent (λ out strings e w. reply 17 (out ∷ w ∷ []))
 
+-- ours, but for the call that reads a whole message
+abbrev pub withWhole : (List ℕ → ℕ → List ℕ → Reply) → Library
+withWhole read =
+    record {
+      decoderNew = sghDecoderNew;
+      pushByte = sghPushByte;
+      pushSlice = sghPushSlice;
+      payloadLen = sghPayload;
+      finalizes = sghFinalize;
+      resets = sghReset;
+      encodes = sghEncode;
+      encoderNew = sghEncoderNew;
+      encoderNext = sghEncoderNext;
+      crc = crcOf;
+      nextEvent = sghNextEvent;
+      writeEvent = sghWriteEvent;
+      readMessage = read;
+    }
+
+-- the table in its reply, and the words
+abbrev pub wordsBy : (List ℕ → List ℕ) → Reply → Reply
+wordsBy f r = reply (r .number) (lentAt r 0 ∷ f (lentAt r 1) ∷ [])
+
+-- a refusal's place is 0
+abbrev pub placesAtZero : Library
+placesAtZero = withWhole (λ s at t. wordsBy (λ w. set w 3 0) (sghReadMessage s at t))
+
+-- the place where it was asked, in place of the one behind the message
+abbrev pub nextUntold : Library
+nextUntold = withWhole (λ s at t. wordsBy (λ w. set w 49 at) (sghReadMessage s at t))
+
+-- the words of the end are left as 1
+abbrev pub endLeft : Library
+endLeft = withWhole (λ s at t. wordsBy (λ w. set w 47 1) (sghReadMessage s at t))
+
 pub record FallLibraries : Type 0 where
   pub denies-new : HearsNew deniesNew → ⊥
   pub keeps-values : HearsDecoder keepsValues → ⊥
@@ -122,3 +160,6 @@ pub record FallLibraries : Type 0 where
   pub forgets-place : HearsWriter forgetsPlace → ⊥
   pub leaves-numbers : HearsWriter leavesNumbers → ⊥
   pub mistakes-words : HearsWriter mistakesWords → ⊥
+  pub places-at-zero : HearsWhole placesAtZero → ⊥
+  pub next-untold : HearsWhole nextUntold → ⊥
+  pub end-left : HearsWhole endLeft → ⊥

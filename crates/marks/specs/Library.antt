@@ -1,10 +1,11 @@
--- claim: the library, as a caller in C hears it. What is read out of the numbers that its calls give and leave is what is said of a decoder, an encode, an Encoder, a reader and a writer by value, call by call. So what is claimed of new decoders in use stands for what a collector links.
+-- claim: the library, as a caller in C hears it. What is read out of the numbers that its calls give and leave is what is said of a decoder, an encode, an Encoder, a reader, a writer and a reader of whole messages by value, call by call. So what is claimed of new decoders in use stands for what a collector links.
 use mathlib.Core.Path.{_≡_}
 use mathlib.Core.Bool.{cond}
 use mathlib.Core.List.{List, [], _∷_, _++_}
+use mathlib.Core.Option.{Option, some, none}
 use Prim.Native.Nat.{ℕ, suc, _+_, _-_, _^_, _≤_, _<_}
 use lib.IntN.{ℤ, pos, negsuc}
-use lib.ListN.{length, take, getD}
+use lib.ListN.{length, take, drop, getD}
 use lib.Dec.{eqb, ltb}
 use Rattle.refusals.specs.Numbers.{badStateNo, wrongBufferNo, discardedBytesNo, invalidEscNo, invalidMessageNo, limit}
 use Rattle.refusals.specs.declared.Span.{Span}
@@ -17,14 +18,19 @@ use Rattle.decoder.specs.Run.{KnownWay, Op, push, finalize, reset}
 use Rattle.decoder.specs.declared.Decoder.{Decoder}
 use Rattle.decoder.specs.declared.Setup.{Setup}
 use Rattle.value.specs.Values.{Status, Value, truth, bytes, signed, unsigned, listTime}
-use Rattle.message.specs.Messages.{Body, openBody, closeBody, listBody}
+use Rattle.common.specs.Fields.{ListEntry}
+use Rattle.message.specs.Messages.{MessageStart, ListEnd, Body, openBody, closeBody, listBody}
 use Rattle.writer.specs.Calls.{to, notWritten, AfterWrite}
 use Rattle.writer.specs.Answers.{afterWrite}
 use Rattle.writer.specs.declared.Head.{Head}
 use Rattle.writer.specs.declared.ListState.{ListState}
 use Rattle.writer.specs.declared.ListState.the-variants.{Entries, Ended}
 use Rattle.writer.specs.declared.ListWriter.{ListWriter}
+use Rattle.whole.specs.Whole.{EntryRow, WholeSaid, wholeIs, broken, refusedAlone}
+use Rattle.whole.specs.Answers.{afterWhole}
+use Rattle.events.specs.Message.{Message}
 use Rattle.written.specs.Calls.{Writer, ourWriter}
+use Rattle.one_call.specs.Readers.{WholeReader, ourWholeReader, Fair, RunsTo, rowsOf, GoodWholeReader}
 use Rattle.streaming.specs.Next.{MessageEvent, startEvent, entryEvent, endEvent, Said, event, noEvent, failed, alone}
 use Rattle.words.specs.Words.{eventWords}
 use Rattle.words.specs.Back.{wordAt, spanIn, fieldIn}
@@ -32,6 +38,7 @@ use Rattle.words.specs.Claims.{EventInTypes}
 use Rattle.sartrogheo.specs.Calls.{goodNo, payloadNo, finishedNo, Reply, reply, answerNo, encodeLen, sghDecoderNew, sghPushByte, sghPushSlice, sghPayload, sghFinalize, sghReset, sghEncode}
 use Rattle.sartrogheo.specs.Streams.{readerNo, sghEncoderNew, sghEncoderNext, sghNextEvent}
 use Rattle.sartrogheo.specs.Writes.{writerWords, endedAfter, headFields, sghWriteEvent}
+use Rattle.sartrogheo.specs.Wholes.{messageWords, sghReadMessage}
 use Rattle.marks.specs.Decoders.{Gave, Machine, ours, LeftBehind}
 use Rattle.marks.specs.Mark2.{PushesBytes, SoundBehind}
 use Rattle.marks.specs.Mark3.{Encode, ourEncode, Job, AllSuit, HeardBehindZeros}
@@ -55,6 +62,7 @@ pub record Library : Type 0 where
   pub crc : List ℕ → ℕ
   pub nextEvent : List ℕ → List ℕ → Reply  -- the input, the reader's numbers
   pub writeEvent : List ℕ → List ℕ → List ℕ → List ℕ → Reply  -- the output, the strings, the event's words, the writer's numbers
+  pub readMessage : List ℕ → ℕ → List ℕ → Reply  -- the input, a place, the table
 
 -- ours, by the definitions that the contracts of the exports cite
 abbrev pub ourLibrary : Library
@@ -72,6 +80,7 @@ ourLibrary =
       crc = crcOf;
       nextEvent = sghNextEvent;
       writeEvent = sghWriteEvent;
+      readMessage = sghReadMessage;
     }
 
 -- what the k-th thing that may be written holds behind a call, counted from 0; the first number in it
@@ -314,6 +323,37 @@ pub record HearsWriter (L : Library) : Type 0 where
       ((v : ListWriter) → InFourNumbers (v .state) → w ≡ writerWords v → ⊥) → L .writeEvent out strings words w ≡ reply badStateNo (out ∷ w ∷ [])
   pub leaves : (out strings words w : List ℕ) → let r : Reply = L .writeEvent out strings words w in (r .number ≡ goodNo → ⊥) → r ≡ reply (r .number) (out ∷ w ∷ [])
 
+-- ---- whole messages
+
+-- what the words of start and end say: a message, or why there is none
+abbrev pub wholeHeard : Said → Option (ListEnd Span) → ℕ → ℕ → WholeSaid
+wholeHeard (event (startEvent m)) end rows next = wholeIs m end rows next
+wholeHeard (event (entryEvent e)) end rows next = refusedAlone 0
+wholeHeard (event (endEvent e)) end rows next = refusedAlone 0
+wholeHeard noEvent end rows next = refusedAlone 0
+wholeHeard (failed f) end rows next = broken f
+wholeHeard (alone n) end rows next = refusedAlone n
+
+abbrev pub endAmong : MessageEvent Span → Option (ListEnd Span)
+endAmong (startEvent m) = none
+endAmong (entryEvent e) = none
+endAmong (endEvent e) = some e
+
+abbrev pub endHeard : List ℕ → Option (ListEnd Span)
+endHeard w = cond (eqb (wordAt w 0) 0) none (endAmong (eventIn w))
+
+-- a reader of whole messages by the library's call: its number, the 24 words of the start, the 24 of the end, rows and next place
+abbrev pub wholeReaderBy : Library → WholeReader
+wholeReaderBy L s at t =
+    let r : Reply = L .readMessage s at t in
+    let w : List ℕ = lentAt r 1 in
+    afterWhole (wholeHeard (heardEvent (r .number) (take 24 w)) (endHeard (take 24 (drop 24 w))) (wordAt w 48) (wordAt w 49)) (lentAt r 0)
+
+-- of any input, place and table what is heard, and what the table holds then, is what ours says; and all 50 words are those of what is heard
+pub record HearsWhole (L : Library) : Type 0 where
+  pub reads : (s : List ℕ) (at : ℕ) (t : List ℕ) → wholeReaderBy L s at t ≡ ourWholeReader s at t
+  pub words : (s : List ℕ) (at : ℕ) (t : List ℕ) → lentAt (L .readMessage s at t) 1 ≡ messageWords (wholeReaderBy L s at t .answer)
+
 pub record HearsOurs (L : Library) : Type 0 where
   pub new : HearsNew L
   pub decoder : HearsDecoder L
@@ -322,8 +362,23 @@ pub record HearsOurs (L : Library) : Type 0 where
   pub crc : HearsCrc L
   pub reader : HearsReader L
   pub writer : HearsWriter L
+  pub whole : HearsWhole L
 
 -- ---- the marks, of what is linked
+
+-- each entry of a message is heard again at its row, by the call for the next event: a reader at the row's place with three pending, of which the first is an entry
+abbrev pub EntriesHeard : Library → List ℕ → List EntryRow → List (ListEntry Span) → Type 0
+EntriesHeard L s [] [] = Unit {0}
+EntriesHeard L s (r ∷ rs) (e ∷ es) =
+    let place : ℕ = r .entry .start in
+    (readerBy L .next s (place ∷ place ∷ 3 ∷ []) .said ≡ event (entryEvent e)) × EntriesHeard L s rs es
+EntriesHeard L s [] (e ∷ es) = ⊥
+EntriesHeard L s (r ∷ rs) [] = ⊥
+
+pub record RowsHeard (L : Library) (s : List ℕ) (at next : ℕ) (rows : List EntryRow) : Type 0 where
+  pub whole : Message Span
+  pub runs : RunsTo s at next whole
+  pub entries : EntriesHeard L s rows (whole .content .entries)
 
 -- each payload is made of bytes
 abbrev pub JobsOfBytes : List Job → Type 0
@@ -351,7 +406,7 @@ pub record CallersBegin (C D : Setup) (c c′ : LentByCaller) (m n : List ℕ) :
   pub ways : C .way ≡ D .way
   pub sizes : C .capacity ≤ D .capacity
 
--- mark 2's soundness, and mark 3 with the library's own encode, both by single pushes; what a slice says is what single pushes say (`HearsDecoder`, and `Chunks` of ours). A larger buffer takes nothing away, whatever each caller lends beside it, given the same slices or slices of its own
+-- mark 2's soundness, and mark 3 with the library's own encode, both by single pushes; what a slice says is what single pushes say (`HearsDecoder`, and `Chunks` of ours). A larger buffer takes nothing away, whatever each caller lends beside it, given the same slices or slices of its own. A whole message is read in one call as a good reader does, and its entries are heard at their rows
 pub record MarksBy (L : Library) : Type 0 where
   pub soundness : (C : Setup) (c : LentByCaller) (m : List ℕ) → CallerBegins C c m
       → (decoderBy L c .payloadOf (decoderBy L c .new C) m ≡ []) × ((os : List Op) (o : Op) → PushesBytes (os ++ o ∷ []) → SoundBehind (decoderBy L c) C m os o)
@@ -360,3 +415,6 @@ pub record MarksBy (L : Library) : Type 0 where
   pub larger : (C D : Setup) (c c′ : LentByCaller) (m n : List ℕ) → CallersBegin C D c c′ m n → (us : List Use) → UsesBytes us → LosesNothingBy L C D c c′ m n us
   pub larger-cut : (C D : Setup) (c c′ : LentByCaller) (m n : List ℕ) → CallersBegin C D c c′ m n → (us us′ : List Use) → UsesBytes us → UsesBytes us′
       → newDoes (slicerBy L c) C m us ≡ newDoes (slicerBy L c′) D n us′ → LosesNothingCut (slicerBy L c) (slicerBy L c′) C D m n us us′
+  pub whole : GoodWholeReader (wholeReaderBy L)
+  pub rows : (s : List ℕ) (at : ℕ) (t : List ℕ) (start : MessageStart Span) (end : Option (ListEnd Span)) (rows next : ℕ) → Fair s at → wholeReaderBy L s at t .answer ≡ wholeIs start end rows next
+      → RowsHeard L s at next (rowsOf rows (wholeReaderBy L s at t .table))

@@ -17,6 +17,9 @@ use Rattle.words.specs.Claims.{BackClaims}
 use Rattle.words.specs.Fakes.{BackFakes}
 use Rattle.written.specs.Claims.{WrittenClaims}
 use Rattle.written.specs.Fakes.{FallWriters}
+use Rattle.one_call.specs.Readers.{ourWholeReader, GoodWholeReader, OnlyOurs}
+use Rattle.one_call.specs.Bench.{WholeBench}
+use Rattle.one_call.specs.Fakes.{FallWholeReaders}
 use Rattle.places.specs.Readers.{Readers}
 use Rattle.places.specs.Fakes.{FallReaders}
 use Rattle.marks.specs.Decided.{Views, Decided}
@@ -31,7 +34,7 @@ use Rattle.marks.specs.Ways.{ourWay, KeepsWay, RefusesUnknown}
 use Rattle.marks.specs.Packed.{ourHost, RoundTrip, Exactly, PacksWhatPushes, PacksInOrder, ActsAlike, SlicesAlike, HandsAlike, Serves, LeavesRefused, LeavesTidy, AnswersAlike}
 use Rattle.marks.specs.Encoders.{ourEncoder, SameBytes}
 use Rattle.marks.specs.Events.{ourReader, ourParser, ReaderGives, GoesOn, readerWith, parserWith, ListsEntries, SaysWhere, CallSaysWhere, TenAgain}
-use Rattle.marks.specs.Library.{Library, ourLibrary, HearsNew, HearsDecoder, HearsEncode, HearsEncoder, HearsCrc, readerBy, HearsReader, HearsWriter, HearsOurs, MarksBy}
+use Rattle.marks.specs.Library.{Library, ourLibrary, HearsNew, HearsDecoder, HearsEncode, HearsEncoder, HearsCrc, readerBy, HearsReader, HearsWriter, HearsWhole, HearsOurs, MarksBy}
 use Rattle.marks.specs.Bench.{b5Second, Holds, Bench}
 use Rattle.marks.specs.Fakes.{NotOurs, Fall}
 use Rattle.marks.specs.FakeHosts.{FallHosts}
@@ -96,7 +99,7 @@ pub record Marks : Type 0 where
   pub parser-goes-on : GoesOn ourParser parserWith
   pub reader-lists : ListsEntries ourReader
   pub parser-lists : ListsEntries ourParser
-  -- the library: what a caller hears of its calls is what ours say; so the reader's events are those of the tables. And of every library of which that is so soundness and mark 3 hold, and a larger buffer takes nothing away
+  -- the library: what a caller hears of its calls is what ours say; so the reader's events are those of the tables. And of every library of which that is so soundness and mark 3 hold, a larger buffer takes nothing away, and a whole message is read in one call
   pub library-new : HearsNew ourLibrary
   pub library-decoder : HearsDecoder ourLibrary
   pub library-encode : HearsEncode ourLibrary
@@ -104,6 +107,7 @@ pub record Marks : Type 0 where
   pub library-crc : HearsCrc ourLibrary
   pub library-reader : HearsReader ourLibrary
   pub library-writer : HearsWriter ourLibrary
+  pub library-whole : HearsWhole ourLibrary
   pub library-gives : ReaderGives (readerBy ourLibrary)
   pub library-marks : (L : Library) → HearsOurs L → MarksBy L
   -- events in words: each is read back, and no other words are taken; and what that is false of
@@ -112,6 +116,12 @@ pub record Marks : Type 0 where
   -- the writer of messages: what it writes is read back, in the fewest bytes; it takes what fits, counts entries, and refuses in order. And what that is false of
   pub writer : WrittenClaims
   pub fall-writers : FallWriters
+  -- a whole message in one call: accepted exactly where the event reader runs to its end and the table has room, with the same fields; refused as it refuses, 20 last, and the table left; who does that does as ours. And what that is false of
+  pub whole-reader : GoodWholeReader ourWholeReader
+  pub only-whole : OnlyOurs
+  pub only-whole : OnlyOurs
+  pub whole-bench : WholeBench ourWholeReader
+  pub fall-whole-readers : FallWholeReaders
   -- a length that passes 32 bits is refused, and no other is refused so
   pub overflows : Overflows tlfAt
   -- a refusal says where it broke: of every reader, of the calls on an input, of one call from any numbers; and what that is false of

@@ -72,4 +72,5 @@ decided =
       sgh-crc = λ bytes. equal _;
       sgh-next-event = λ input reader event. two-lists _;
       sgh-write-event = λ out strings event writer. two-lists _;
+      sgh-read-message = λ input at table message. two-lists _;
     }

@@ -1,5 +1,6 @@
 pub mod Told
 pub mod Streams
 pub mod Writes
+pub mod Wholes
 pub mod Decided
 pub mod Wrong

@@ -6,7 +6,7 @@ use Prim.Native.Nat.{ℕ}
 use native.Mathlib.Omega.{arith}
 use lib.ListN.{replicate, getD}
 use Rattle.refusals.specs.Numbers.{badStateNo}
-use Rattle.refusals.specs.Read.{Read, got, refused}
+use Rattle.refusals.specs.Read.{Read, got, refused, then, guard, byteAt}
 use Rattle.refusals.specs.declared.Span.{Span}
 use Rattle.crc_x25.specs.Crc.{start, reflect, polynomial, bitStep, bitSteps, byteStep, register, finalXor, crcOf}
 use Rattle.crc_x25.proofs.Laws.{check-value}
@@ -18,6 +18,7 @@ use Rattle.decoder.specs.Record.{wrote, badDecoder, wrongBuffer, pushed, pushRe
 use Rattle.decoder_slice.specs.Slice.{pushesFrom, sliceRecord}
 use Rattle.packed.specs.Layout.{lowFirst, numberAt, stateIn, packedBytes, packedIn, recordIn}
 use Rattle.packed.specs.Packed.{packInto, unpackOf, pushPacked, slicePacked, finalizePacked, resetPacked, payloadPacked, askPacked}
+use Rattle.tlf.specs.Lengths.{tlfAt, listOfAt}
 use Rattle.message.specs.Messages.{MessageStart, startAt}
 use Rattle.streaming.specs.Next.{MessageEvent, startEvent, event, ReaderAfter, onward, pendingOf, beginAt, stepAt, nextAt}
 use Rattle.words.specs.Words.{withZeros}
@@ -25,9 +26,11 @@ use Rattle.words.specs.Back.{eventOf}
 use Rattle.words.proofs.Wrong.{never-zeros}
 use Rattle.writer.specs.Calls.{AfterWrite}
 use Rattle.writer.specs.declared.ListWriter.{ListWriter}
+use Rattle.whole.specs.Whole.{wholeAt, fillTo, readTo}
 use Rattle.sartrogheo.specs.Calls.{Reply, reply, sghDecoderNew, sghPushByte, sghPushSlice, sghPayload, sghFinalize, sghReset, sghEncode}
 use Rattle.sartrogheo.specs.Streams.{encoderIn, sghEncoderNew, sghEncoderNext, readerNo, sghNextEvent}
 use Rattle.sartrogheo.specs.Writes.{writerIn, eventOr, writeNo, writerBehind, sghWriteEvent}
+use Rattle.sartrogheo.specs.Wholes.{messageWords, sghReadMessage}
 
 -- 28 zeros, eight of them, and four values that are left from a call before
 abbrev blankBytes : List ℕ
@@ -216,3 +219,22 @@ refused-event-ends-the-list : (o w : List ℕ) → getD w 1 0 ≡ 0 → reply 4 
 refused-event-ends-the-list o w wrong h =
     let n : _≡_ {A = ℕ} 0 1 = sym wrong ∙ ap (λ (a : Reply). getD (getD (a .lent) 1 []) 1 0) (h ∙ no-event-is-four [] [] (5 ∷ 1 ∷ 2 ∷ 3 ∷ [])) in
     omega (arith, n)
+
+-- ---- whole messages
+
+empty-message-is-finished : (t m : List ℕ) → reply 101 (t ∷ m ∷ []) ≡ sghReadMessage [] 0 [] → ⊥
+unfolding sghReadMessage readTo fillTo wholeAt startAt listOfAt tlfAt then guard byteAt
+empty-message-is-finished t m h = let n : _≡_ {A = ℕ} 101 10 = ap (λ (a : Reply). a .number) h in omega (arith, n)
+
+place-beyond-the-input-is-ten : (t m : List ℕ) → reply 10 (t ∷ m ∷ []) ≡ sghReadMessage [] 1 [] → ⊥
+unfolding sghReadMessage readTo
+place-beyond-the-input-is-ten t m h = let n : _≡_ {A = ℕ} 10 4 = ap (λ (a : Reply). a .number) h in omega (arith, n)
+
+-- four numbers that are left from a message before
+refused-message-clears-the-table : (t m : List ℕ) → getD t 0 0 ≡ 0 → reply 10 (t ∷ m ∷ []) ≡ sghReadMessage [] 0 oldValues → ⊥
+unfolding sghReadMessage readTo fillTo wholeAt startAt listOfAt tlfAt then guard byteAt
+refused-message-clears-the-table t m wrong h = let n : _≡_ {A = ℕ} 0 9 = sym wrong ∙ ap (λ (a : Reply). getD (getD (a .lent) 0 []) 0 0) h in omega (arith, n)
+
+refused-message-is-zeros : (t m : List ℕ) → getD m 0 0 ≡ 0 → reply 10 (t ∷ m ∷ []) ≡ sghReadMessage [] 0 [] → ⊥
+unfolding sghReadMessage readTo fillTo wholeAt startAt listOfAt tlfAt then guard byteAt messageWords withZeros
+refused-message-is-zeros t m wrong h = let n : _≡_ {A = ℕ} 0 4 = sym wrong ∙ ap (λ (a : Reply). getD (getD (a .lent) 1 []) 0 0) h in omega (arith, n)

@@ -7,6 +7,7 @@ use Rattle.crc_x25.specs.Crc.{crcOf}
 use Rattle.sartrogheo.specs.Calls.{reply, sghDecoderNew, sghPushByte, sghPushSlice, sghPayload, sghFinalize, sghReset, sghEncode}
 use Rattle.sartrogheo.specs.Streams.{sghEncoderNew, sghEncoderNext, sghNextEvent}
 use Rattle.sartrogheo.specs.Writes.{sghWriteEvent}
+use Rattle.sartrogheo.specs.Wholes.{sghReadMessage}
 
 -- every public function: over its parameters, what its `ensures` allows. What is lent stands for what it holds at the call; each thing that may be written stands beside the number, the last one outermost
 pub record Decided : Type 0 where
@@ -25,3 +26,4 @@ pub record Decided : Type 0 where
   pub sgh-crc : (bytes : List ℕ) → One (λ (r : ℕ). r ≡ crcOf bytes)
   pub sgh-next-event : (input reader event : List ℕ) → One (λ (r : Beside (Beside ℕ (List ℕ)) (List ℕ)). reply (r .answer .answer) (r .answer .lent ∷ r .lent ∷ []) ≡ sghNextEvent input reader)
   pub sgh-write-event : (out strings event writer : List ℕ) → One (λ (r : Beside (Beside ℕ (List ℕ)) (List ℕ)). reply (r .answer .answer) (r .answer .lent ∷ r .lent ∷ []) ≡ sghWriteEvent out strings event writer)
+  pub sgh-read-message : (input : List ℕ) (at : ℕ) (table message : List ℕ) → One (λ (r : Beside (Beside ℕ (List ℕ)) (List ℕ)). reply (r .answer .answer) (r .answer .lent ∷ r .lent ∷ []) ≡ sghReadMessage input at table)

@@ -3,6 +3,7 @@
 ghost use mathlib.Core.Path.{_≡_};
 ghost use mathlib.Core.List.{[], _∷_};
 ghost use Prim.Native.Nat.{_+_, _*_, _≤_};
+ghost use lib.ListN.{length};
 ghost use lib.Seq.{sets};
 ghost use Rattle.crc_x25.specs.Crc.{crcOf};
 ghost use Rattle.refusals.specs.Answers.{faultOf};
@@ -12,9 +13,12 @@ ghost use Rattle.packed.specs.Packed.{filled};
 ghost use Rattle.message.specs.Answers.{messageBody, messageStart};
 ghost use Rattle.streaming.specs.Answers.{said, parseEvent};
 ghost use Rattle.writer.specs.Answers.{errorNumber, placeWritten, listWritten, afterWrite};
+ghost use Rattle.words.specs.Words.{eventWords};
+ghost use Rattle.whole.specs.Answers.{optListEnd, wholeRead};
 ghost use Rattle.sartrogheo.specs.Calls.{reply, answerNo, sghDecoderNew, sghPushByte, sghPushSlice, sghPayload, sghFinalize, sghReset, encodeNo, encodeLen, sghEncode};
 ghost use Rattle.sartrogheo.specs.Streams.{encoderKind, endCount, encoderCount, encoderWords, stateOfKind, encoderOf, sghEncoderNew, sghEncoderNext, readerNo, sghNextEvent};
 ghost use Rattle.sartrogheo.specs.Writes.{writerWords, writerOf, endedBehind, headFields, messageTo, eventTo, sghWriteEvent};
+ghost use Rattle.sartrogheo.specs.Wholes.{startSaid, listEndSaid, endSaid, rowsSaid, nextSaid, messageWords, sghReadMessage};
 ghost use Rattle.sartrogheo.specs.Cut.{eventNo, eventValues, fillIn, optWriter};
 use decoder::Asked;
 use decoder::Decoder;
@@ -31,6 +35,8 @@ use refusals::Fault;
 use refusals::ParseError;
 use streaming::Answer;
 use streaming::ParseEvent;
+use whole::OptListEnd;
+use whole::WholeRead;
 use words::OptEvent;
 use writer::Head;
 use writer::ListState;
@@ -587,4 +593,156 @@ pub extern "C" fn sgh_write_event(
         }
         ListWritten::Refused(refusal) => error_number(refusal),
     }
+}
+
+// ---- whole messages
+
+// The first 24 words: the start as the event reader gives it, or why there is none. That reader never says 20.
+fn first_words(w: WholeRead) -> [u64; 24]
+    ensures { λ r. ⌜ r ≡ eventWords (startSaid (wholeRead w)) ⌝ }
+{
+    match w {
+        WholeRead::Is {
+            start,
+            end: _,
+            rows: _,
+            next: _,
+        } => words::event_words(Answer::Event(ParseEvent::MessageStart(start))),
+        WholeRead::Refused(f) => words::event_words(Answer::Refused(f)),
+        WholeRead::InputTooLong => words::event_words(Answer::InputTooLong),
+        WholeRead::BadState => words::event_words(Answer::BadState),
+        WholeRead::TooManyEntries => {
+            let mut r = [0; 24];
+            r[0] = 5;
+            r[1] = 20;
+            r
+        }
+    }
+}
+
+// The end in 24 words; zeros where a message has none.
+fn opt_end_words(end: OptListEnd) -> [u64; 24]
+    ensures { λ r. ⌜ r ≡ eventWords (listEndSaid (optListEnd end)) ⌝ }
+{
+    match end {
+        OptListEnd::Present(e) => {
+            words::event_words(Answer::Event(ParseEvent::GetListResponseEnd(e)))
+        }
+        OptListEnd::Absent => words::event_words(Answer::NoEvent),
+    }
+}
+
+// The next 24 words: a list's end, else zeros.
+fn last_words(w: WholeRead) -> [u64; 24]
+    ensures { λ r. ⌜ r ≡ eventWords (endSaid (wholeRead w)) ⌝ }
+{
+    match w {
+        WholeRead::Is {
+            start: _,
+            end,
+            rows: _,
+            next: _,
+        } => opt_end_words(end),
+        WholeRead::Refused(_) => words::event_words(Answer::NoEvent),
+        WholeRead::InputTooLong => words::event_words(Answer::NoEvent),
+        WholeRead::BadState => words::event_words(Answer::NoEvent),
+        WholeRead::TooManyEntries => words::event_words(Answer::NoEvent),
+    }
+}
+
+// How many rows stand in the table.
+fn row_count(w: WholeRead) -> u64
+    ensures { λ r. ⌜ r ≡ rowsSaid (wholeRead w) ⌝ }
+{
+    match w {
+        WholeRead::Is {
+            start: _,
+            end: _,
+            rows,
+            next: _,
+        } => rows as u64,
+        WholeRead::Refused(_) => 0,
+        WholeRead::InputTooLong => 0,
+        WholeRead::BadState => 0,
+        WholeRead::TooManyEntries => 0,
+    }
+}
+
+// The place behind the message.
+fn next_place(w: WholeRead) -> u64
+    ensures { λ r. ⌜ r ≡ nextSaid (wholeRead w) ⌝ }
+{
+    match w {
+        WholeRead::Is {
+            start: _,
+            end: _,
+            rows: _,
+            next,
+        } => next as u64,
+        WholeRead::Refused(_) => 0,
+        WholeRead::InputTooLong => 0,
+        WholeRead::BadState => 0,
+        WholeRead::TooManyEntries => 0,
+    }
+}
+
+// The call's number.
+fn whole_no(w: WholeRead) -> u32
+    ensures { λ r. ⌜ r ≡ readerNo (startSaid (wholeRead w)) ⌝ }
+{
+    match w {
+        WholeRead::Is {
+            start: _,
+            end: _,
+            rows: _,
+            next: _,
+        } => GOOD,
+        WholeRead::Refused(f) => fault_no(f),
+        WholeRead::InputTooLong => 9,
+        WholeRead::BadState => 4,
+        WholeRead::TooManyEntries => 20,
+    }
+}
+
+// Words, from a place on.
+fn put_words(out: &mut [u64], at: usize, part: &[u64])
+    requires { ⌜ at + length (now part) ≤ length (now out) ⌝ }
+    ensures { λ r. ⌜ now (out .exit) ≡ sets (now (out .entry)) at (now (part .entry)) ⌝ }
+{
+    let mut i = 0;
+    let mut p = at;
+    while i < part.len() {
+        out[p] = part[i];
+        i += 1;
+        p += 1;
+    }
+}
+
+// All 50 words of what was read.
+fn message_words(w: WholeRead) -> [u64; 50]
+    ensures { λ r. ⌜ r ≡ messageWords (wholeRead w) ⌝ }
+{
+    let mut all = [0; 50];
+    let first = first_words(w);
+    put_words(&mut all[..], 0, &first[..]);
+    let last = last_words(w);
+    put_words(&mut all[..], 24, &last[..]);
+    all[48] = row_count(w);
+    all[49] = next_place(w);
+    all
+}
+
+// The message at a place, whatever follows it, and the rows of its entries.
+#[no_mangle]
+pub extern "C" fn sgh_read_message(
+    input: &[u8],
+    at: usize,
+    table: &mut [u32],
+    message: &mut [u64; 50],
+) -> u32
+    ensures { λ r. ⌜ reply r (now (table .exit) ∷ now (message .exit) ∷ []) ≡ sghReadMessage (now (input .entry)) at (now (table .entry)) ⌝ }
+{
+    let w = whole::read_message(input, at, table);
+    *message = message_words(w);
+    whole_no(w)
 }

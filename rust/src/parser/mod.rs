@@ -1,12 +1,13 @@
 //! Messages, as a payload holds them.
 //!
-//! [`streaming`] reads them event by event; [`common`] has the records that events hold.
+//! [`streaming`] reads them event by event, [`whole`] a message in one call; [`common`] has the records that both give.
 use core::fmt;
 
 use crate::ffi;
 
 pub mod common;
 pub mod streaming;
+pub mod whole;
 pub(crate) mod words;
 
 /// A part of the input.

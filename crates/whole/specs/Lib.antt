@@ -1,0 +1,4 @@
+pub mod Whole
+pub mod Answers
+pub mod Cut
+pub mod Decided
