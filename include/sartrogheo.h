@@ -1,8 +1,8 @@
 /* Sartrogheo: SML meter frames (transport version 1) and messages, every function proved. Link libsartrogheo.a; docs/LIBRARY.md tells how.
 
    Any bytes may come in: no call relies on what its caller checked, and none stops the program. What is refused has the number of a refusal below, and leaves
-   what the comment says. A state whose counts could not be is refused; other bytes that no call left are taken as they are, and the answers mean nothing then. No heap, no global: a call touches only what it is lent, so that calls over different memory may run at once.
-   A pointer that is null with length 0 is an empty slice; every other pointer must be good for its length, and what a call writes must not overlap with anything else that it is lent. */
+   what the comment says. A state whose counts could not be is refused; other bytes that no call left are taken as they are, and the answers mean nothing then. No heap, no global: a call touches only what it is lent, so that calls may run at once if none writes what another reads or writes.
+   A pointer that is null with length 0 is an empty slice; every other pointer must be good for its length and aligned for its type, and what a call writes must not overlap with anything else that it is lent. */
 #ifndef SARTROGHEO_H
 #define SARTROGHEO_H
 
@@ -225,7 +225,7 @@ uint32_t sgh_next_event(const uint8_t *input, size_t len, sgh_reader *reader, sg
 
 /* ---- whole messages, for who wants no events */
 
-/* Where an entry stands in the input, from its first length byte on, and its name. A table is such rows, one behind the other. */
+/* Where an entry's name stands in the input, without its length bytes, and where the entry does, from its first length byte on. A table is such rows, one behind the other. */
 typedef struct {
     uint32_t name_start, name_len, entry_start, entry_len;
 } sgh_row;
@@ -240,11 +240,14 @@ typedef struct {
 
 #define SGH_MESSAGE_WORDS 50u
 
-/* Reads the message at `at`, whatever follows it, and puts a row for each entry into the table, from its first number on; `table_len` counts numbers, SGH_ROW_NUMBERS
-   a row, and what stands behind the rows stays. Gives 0; 9, else 4 for a place beyond the input; 10 to 15, as sgh_next_event would give first, but 10 where the input
-   ends at `at`, an empty one too; 20 for a message that would else be read. A refusal stands in `message->start.refused`, with its kind and its place if it has one,
-   `end`, `rows` and `next` are 0 then, and the table is as it was. `message` is written whole each time. The fields of an entry: sgh_next_event with the reader
-   {row.entry_start, row.entry_start, 3}, which says that an entry comes next, gives it over the same input. */
+/* Reads the message at `at`, whatever follows it, and puts a row for each entry into the table, from its first number on. `table_len` counts numbers, neither rows nor
+   bytes: SGH_ROW_NUMBERS a row. A part of a row is no room; `len` / 8 rows are always enough, since an entry has eight bytes at least. What stands behind the rows stays.
+   Gives 0; 9 for all `len` bytes, however short the message; else 4 for a place beyond the input; 10 to 15, as sgh_next_event with the reader {at, at, 0} would give
+   first for this message, but 10 where the input ends at `at`, an empty one too; 20 for a message that would else be read.
+   A refusal leaves the table as it was, and stands in `message->start.refused`: `start.kind` is SGH_REFUSED, with number, kind and place, or SGH_REFUSED_ALONE for 4, 9
+   and 20, with the number alone. `end`, `rows` and `next` are 0 then, so that who goes on at `next` begins anew: stop, or after 20 ask again with a longer table.
+   `message` is written whole each time. The fields of an entry: sgh_next_event with the reader {row.entry_start, row.entry_start, 3}, which says that an entry comes
+   next, gives it over the same input; that reader is good for this one call. */
 uint32_t sgh_read_message(const uint8_t *input, size_t len, size_t at, uint32_t *table, size_t table_len, sgh_message *message);
 
 /* ---- messages that are written, so that a bench can pose as a meter */

@@ -597,6 +597,7 @@ static void nulls(void)
     sgh_encoder encoder;
     sgh_reader r = {0};
     sgh_event e = used();
+    sgh_message m;
     uint8_t empty[16], byte;
     size_t n = 77;
 
@@ -620,6 +621,7 @@ static void nulls(void)
     HELD(sgh_crc(NULL, 0) == 0);
     HELD(sgh_next_event(NULL, 0, &r, &e) == SGH_FINISHED && ends_at(&e, SGH_NO_EVENT, 1) && is_reader(&r, 0, 0, 0));
     HELD(refuses(NULL, 0, 0, 0, SGH_UNEXPECTED_EOF, 0, 0) && refuses(NULL, 0, 1, NUMBERS, SGH_BAD_STATE, 0, 0));
+    HELD(sgh_read_message(TWO, sizeof TWO, 0, NULL, 0, &m) == SGH_TOO_MANY_ENTRIES && refused(&m.start, SGH_REFUSED_ALONE, SGH_TOO_MANY_ENTRIES, 0, 0) && m.next == 0);
     sgh_writer w = {0};
     HELD(sgh_write_event(NULL, 0, NULL, 0, &END, &w) == SGH_WRONG_NUMBER && sgh_write_event(NULL, 0, NULL, 0, &CLOSES, &w) == SGH_BAD_SPAN);
     e = CLOSES;

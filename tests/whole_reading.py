@@ -400,6 +400,7 @@ WRONG = {
     "half_row_is_room": wrong(room=lambda self, table: (len(table) + ROW // 2) // ROW),
     "part_of_a_row_is_room": wrong(room=lambda self, table: (len(table) + ROW - 1) // ROW),
     "last_row_is_no_room": wrong(room=lambda self, table: (len(table) - 1) // ROW),
+    "one_row_of_any_table": wrong(room=lambda self, table: min(1, len(table) // ROW)),
     "rest_of_the_table_cleared": wrong(fill=rest_cleared),
     "trailer_not_judged": wrong(trailer=trailer_taken),
     "crc_not_judged": wrong(trailer=sum_not_judged),

@@ -89,7 +89,6 @@ marks =
       fall-writers = fall-writers;
       whole-reader = ours-good;
       only-whole = only-ours;
-      only-whole = only-ours;
       whole-bench = whole-bench;
       fall-whole-readers = fall-whole-readers;
       overflows = overflows;

@@ -119,7 +119,6 @@ pub record Marks : Type 0 where
   -- a whole message in one call: accepted exactly where the event reader runs to its end and the table has room, with the same fields; refused as it refuses, 20 last, and the table left; who does that does as ours. And what that is false of
   pub whole-reader : GoodWholeReader ourWholeReader
   pub only-whole : OnlyOurs
-  pub only-whole : OnlyOurs
   pub whole-bench : WholeBench ourWholeReader
   pub fall-whole-readers : FallWholeReaders
   -- a length that passes 32 bits is refused, and no other is refused so

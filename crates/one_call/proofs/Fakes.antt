@@ -30,7 +30,7 @@ use Rattle.events.specs.Calls.{call}
 use Rattle.places.proofs.Seen.{isGot}
 use Rattle.one_call.specs.Readers.{WholeReader, ourWholeReader, Fair, callAt, RunsTo, RowIs, RowsAre, ReadAs, AcceptsExactly, RefusesAlike, RoomLast, LeavesTable, RestNotRead, JudgesFirst, SameWhole}
 use Rattle.one_call.specs.Bench.{closeInput, openInput, twoBegin, twoRest, twoInput, hugeInput, old, spanOf, bodyWithId, noEnd, twoStart}
-use Rattle.one_call.specs.Fakes.{onceJudged, readsBy, fillBy, fillsBy, rowsFor, answersTwenty, trailerBy, rowsTurned, behindItsHead, upToItsEnd, placedFrom, withoutEnd, clearedBehind, nextBefore, onlyAll, fromTheMessage, ifList, roomInNumbers, halfRowIsRoom, roomBeforeReading, filledAsFarAsItGoes, noRoomIsThree, fillsBeforeTheTrailer, trailerNotJudged, crcFromTheInput, nextMessageJudged, moreBytesRefused, withoutItsListByte, endForLength, lastRowFirst, rowsFromTheMessage, endDropped, clearsTheRest, endsBeforeItsEnd, emptyIsNothing, faultsUntold, placesFromTheMessage, otherKindsRefused, placeNotJudged, longInputCut, FallWholeReaders}
+use Rattle.one_call.specs.Fakes.{onceJudged, readsBy, fillBy, fillsBy, rowsFor, answersTwenty, trailerBy, rowsTurned, behindItsHead, upToItsEnd, placedFrom, withoutEnd, clearedBehind, nextBefore, onlyAll, fromTheMessage, ifList, roomInNumbers, halfRowIsRoom, roomBeforeReading, filledAsFarAsItGoes, noRoomIsThree, oneRowAtMost, fillsBeforeTheTrailer, trailerNotJudged, crcFromTheInput, nextMessageJudged, moreBytesRefused, withoutItsListByte, endForLength, lastRowFirst, rowsFromTheMessage, endDropped, clearsTheRest, endsBeforeItsEnd, emptyIsNothing, faultsUntold, placesFromTheMessage, otherKindsRefused, placeNotJudged, longInputCut, FallWholeReaders}
 use Rattle.one_call.proofs.Runs.{failedOr, events-never-refused, no-confusion, run-found}
 use Rattle.one_call.proofs.Outcomes.{WholeOutcome, tooLong, placeBeyond, brokenAt, tableFull, takenWhole, whole-outcome, not-broken, not-refused-alone, never-broken, same-number, endSaidBy, nextRead, never-both}
 use Rattle.one_call.proofs.Readers.{ours-good}
@@ -136,6 +136,14 @@ falls-three : RoomLast noRoomIsThree → ⊥
 falls-three h =
     let e = h .if twoInput 0 [] (record { table = old 8; accepted = record { start = twoStart 0; end = some noEnd; rows = 2; next = 45; is = three-read } }) (λ a. not-refused-alone (sym three-said ∙ a .is)) in
     omega (arith, same-number (sym three-said ∙ e))
+
+one-row : oneRowAtMost twoInput 0 (old 20) .answer ≡ refusedAlone 20
+unfolding then guard need many byteAt spanAt tlfAt lengthFrom lessOwn listOfAt number bytesAt rawFrom rawAt unsignedAt signedOf signedAt boolFrom boolAt octetsAt absentAt optional timeAt statusOf statusAt signedValue unsignedValue listTypeAt valueOf valueAt openAt closeAt entryAt messageEndAt listStartAt listEndAt contentAt bodyAt startAt reflect polynomial bitStep bitSteps byteStep register finalXor crcOf crcFrom trailerAt rowAt insideAt wholeAt flat fillTo readTo
+one-row = refl
+
+-- two entries in 45 bytes, for which five rows are always enough
+falls-one-row : RoomLast oneRowAtMost → ⊥
+falls-one-row h = h .enough twoInput 0 (old 20) (omega arith) one-row
 
 -- ---- rows, and the list's end
 
@@ -398,6 +406,7 @@ fall-whole-readers =
       room-first = falls-room-first;
       as-far-as-it-goes = falls-as-far-as-it-goes;
       three = falls-three;
+      one-row = falls-one-row;
       filled-early = falls-filled-early;
       no-trailer = falls-no-trailer;
       crc-from-the-input = falls-crc-from-the-input;

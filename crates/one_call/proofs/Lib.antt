@@ -1,6 +1,7 @@
 pub mod Messages
 pub mod Runs
 pub mod Outcomes
+pub mod Sizes
 pub mod Readers
 pub mod Unique
 pub mod Bench

@@ -2,7 +2,7 @@
 use mathlib.Core.Path.{_≡_, refl, sym, ap, _∙_}
 use mathlib.Core.List.{List, _++_}
 use mathlib.Core.Option.{Option}
-use Prim.Native.Nat.{ℕ, _+_, _*_, _≤_, _<_}
+use Prim.Native.Nat.{ℕ, _+_, _*_, _/_, _≤_, _<_}
 use native.Mathlib.Omega.{arith}
 use lib.ListN.{length, take, drop, length-append}
 use lib.Seq.{length-take-le, take-at}
@@ -21,6 +21,7 @@ use Rattle.places.proofs.Locates.{locates-taken, locates-broke}
 use Rattle.places.proofs.Readers.{locates-message, readers}
 use Rattle.one_call.specs.Readers.{ourWholeReader, Fair, RunsTo, AcceptedWhole, ReadAs, AcceptsExactly, Broken, RefusesAlike, WithRoom, RoomLast, GoodWholeReader}
 use Rattle.one_call.proofs.Messages.{whole-alike, held-whole, locates-whole-message}
+use Rattle.one_call.proofs.Sizes.{rows-long}
 use Rattle.one_call.proofs.Runs.{runs-to, events-given, goes-behind, run-found}
 use Rattle.one_call.proofs.Outcomes.{WholeOutcome, tooLong, placeBeyond, brokenAt, tableFull, takenWhole, whole-outcome, not-broken, not-refused-alone, never-broken, same-number, same-refusal, says-so, rows-back, rest-stays, length-stays, rows-count, nextRead, gotOr, never-both, lost-whole, lost-message, accepts, room-made}
 
@@ -151,11 +152,22 @@ room-only s at t a (brokenAt h f q) e = absurd (never-broken (sym e))
 room-only s at t a (tableFull h w n q l) e = room-made s at w n h q
 room-only s at t a (takenWhole h w n q l) e = absurd (not-refused-alone (sym e))
 
+never-full : (s : List ℕ) (at : ℕ) (t : List ℕ) (a : AfterWhole) → WholeOutcome s at t a → 4 * (length s / 8) ≤ length t → a .answer ≡ refusedAlone tooManyEntriesNo → ⊥
+never-full s at t a (tooLong h) room e = let z = same-number e in omega (arith, z)
+never-full s at t a (placeBeyond h k) room e = let z = same-number e in omega (arith, z)
+never-full s at t a (brokenAt h f q) room e = never-broken (sym e)
+never-full s at t a (tableFull h w n q l) room e =
+    let k = held-whole s at w n q in
+    let long = rows-long s (k .first-entry) (k .last-ends) (w .rows) (k .message .content .entries) (k .chained) (k .rows-are) in
+    omega (arith, l, room, long, k .ended, k .within)
+never-full s at t a (takenWhole h w n q l) room e = not-refused-alone (sym e)
+
 ours-last : RoomLast ourWholeReader
 ours-last =
     record {
       if = λ s at t w none-is. room-if s at t (readTo s at t) (readable s at (w .table) (readTo s at (w .table)) (whole-outcome s at (w .table)) (w .accepted)) (whole-outcome s at t) none-is;
       only-if = λ s at t e. room-only s at t (readTo s at t) (whole-outcome s at t) e;
+      enough = λ s at t room e. never-full s at t (readTo s at t) (whole-outcome s at t) room e;
     }
 
 -- ---- the table, and what follows

@@ -1,6 +1,6 @@
 -- What the claims rule out: each reader of docs/WRONG-READINGS.md that is told here is wrong in one way, and a claim is false of it.
 use Rattle.one_call.specs.Readers.{AcceptsExactly, RefusesAlike, RoomLast, LeavesTable, RestNotRead, JudgesFirst}
-use Rattle.one_call.specs.Fakes.{roomInNumbers, halfRowIsRoom, roomBeforeReading, filledAsFarAsItGoes, noRoomIsThree, fillsBeforeTheTrailer, trailerNotJudged, crcFromTheInput, nextMessageJudged, moreBytesRefused, withoutItsListByte, endForLength, lastRowFirst, rowsFromTheMessage, endDropped, clearsTheRest, endsBeforeItsEnd, emptyIsNothing, faultsUntold, placesFromTheMessage, otherKindsRefused, placeNotJudged, longInputCut}
+use Rattle.one_call.specs.Fakes.{roomInNumbers, halfRowIsRoom, roomBeforeReading, filledAsFarAsItGoes, noRoomIsThree, oneRowAtMost, fillsBeforeTheTrailer, trailerNotJudged, crcFromTheInput, nextMessageJudged, moreBytesRefused, withoutItsListByte, endForLength, lastRowFirst, rowsFromTheMessage, endDropped, clearsTheRest, endsBeforeItsEnd, emptyIsNothing, faultsUntold, placesFromTheMessage, otherKindsRefused, placeNotJudged, longInputCut}
 use Rattle.one_call.proofs.Fakes.{fall-whole-readers}
 
 fake-room-in-numbers : AcceptsExactly roomInNumbers → ⊥
@@ -17,6 +17,9 @@ fake-rows-stored-as-far-as-they-go = fall-whole-readers .as-far-as-it-goes
 
 fake-no-room-is-three : RoomLast noRoomIsThree → ⊥
 fake-no-room-is-three = fall-whole-readers .three
+
+fake-one-row-of-any-table : RoomLast oneRowAtMost → ⊥
+fake-one-row-of-any-table = fall-whole-readers .one-row
 
 fake-rows-filled-before-the-trailer : LeavesTable fillsBeforeTheTrailer → ⊥
 fake-rows-filled-before-the-trailer = fall-whole-readers .filled-early

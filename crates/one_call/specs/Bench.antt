@@ -1,4 +1,4 @@
--- check: the page of Q-13, vector by vector: what is read of its messages, and what the table holds then.
+-- check: the vectors of Q-13, and two more: what is read of its messages, and what the table holds then.
 use Prim.Native.Nat.{ℕ, _+_}
 use mathlib.Core.Path.{_≡_}
 use mathlib.Core.List.{List, [], _∷_, _++_}
@@ -62,7 +62,6 @@ pub record WholeBench (R : WholeReader) : Type 0 where
   pub more-room : R twoInput 0 (old 11) ≡ afterWhole (wholeIs (twoStart 0) (some noEnd) 2 45) (21 ∷ 1 ∷ 19 ∷ 10 ∷ 31 ∷ 1 ∷ 29 ∷ 10 ∷ old 3)
   pub less-room : R twoInput 0 (old 7) ≡ afterWhole (refusedAlone tooManyEntriesNo) (old 7)
   pub no-room-and-more : R (twoInput ++ 0x76 ∷ 0xff ∷ []) 0 (old 7) ≡ afterWhole (refusedAlone tooManyEntriesNo) (old 7)
-  pub no-room-and-more : R (twoInput ++ 0x76 ∷ 0xff ∷ []) 0 (old 7) ≡ afterWhole (refusedAlone tooManyEntriesNo) (old 7)
   pub more-bytes : R (twoInput ++ 0x76 ∷ 0xff ∷ []) 0 (old 8) ≡ afterWhole (wholeIs (twoStart 0) (some noEnd) 2 45) (21 ∷ 1 ∷ 19 ∷ 10 ∷ 31 ∷ 1 ∷ 29 ∷ 10 ∷ [])
   pub cut : R (twoBegin ++ (0x77 ∷ twoRest) ++ 0x63 ∷ 0x01 ∷ 0x93 ∷ []) 0 (old 8) ≡ afterWhole (broken (eof 44)) (old 8)
   pub other-crc : R (twoBegin ++ (0x77 ∷ twoRest) ++ 0x63 ∷ 0x01 ∷ 0x92 ∷ 0x00 ∷ []) 0 [] ≡ afterWhole (broken (crcMismatch 41)) []
@@ -72,7 +71,6 @@ pub record WholeBench (R : WholeReader) : Type 0 where
   pub empty : R [] 0 (old 8) ≡ afterWhole (broken (eof 0)) (old 8)
   pub opens : R openInput 0 [] ≡ afterWhole (wholeIs (bodyWithId 2 (openBody (record { codepage = none; «client_id» = none; «req_file_id» = spanOf 16 1; «server_id» = spanOf 18 1; «ref_time» = none; «sml_version» = none }))) none 0 25) []
   pub in-a-payload : R (openInput ++ twoInput ++ closeInput) 25 (old 8) ≡ afterWhole (wholeIs (twoStart 25) (some noEnd) 2 70) (46 ∷ 1 ∷ 44 ∷ 10 ∷ 56 ∷ 1 ∷ 54 ∷ 10 ∷ [])
-  pub broken-behind : R (openInput ++ 0x10 ∷ []) 25 [] ≡ afterWhole (broken (invalidTy 25)) []
   pub broken-behind : R (openInput ++ 0x10 ∷ []) 25 [] ≡ afterWhole (broken (invalidTy 25)) []
   pub at-the-end : R closeInput 18 [] ≡ afterWhole (broken (eof 18)) []
   pub beyond-the-end : R closeInput 19 [] ≡ afterWhole (refusedAlone badStateNo) []

@@ -74,6 +74,10 @@ filledAsFarAsItGoes = fillsBy rowsFor (λ rows t. afterWhole (refusedAlone tooMa
 abbrev pub noRoomIsThree : WholeReader
 noRoomIsThree = fillsBy rowsFor (λ rows t. afterWhole (refusedAlone decoderOutOfMemoryNo) t)
 
+-- of a table of any length one row is used
+abbrev pub oneRowAtMost : WholeReader
+oneRowAtMost = fillsBy (λ t. rowsFor (take 4 t)) answersTwenty
+
 -- ---- the trailer, and what follows
 
 -- a message up to its trailer
@@ -223,6 +227,7 @@ pub record FallWholeReaders : Type 0 where
   pub room-first : RoomLast roomBeforeReading → ⊥
   pub as-far-as-it-goes : LeavesTable filledAsFarAsItGoes → ⊥
   pub three : RoomLast noRoomIsThree → ⊥
+  pub one-row : RoomLast oneRowAtMost → ⊥
   pub filled-early : LeavesTable fillsBeforeTheTrailer → ⊥
   pub no-trailer : AcceptsExactly trailerNotJudged → ⊥
   pub crc-from-the-input : AcceptsExactly crcFromTheInput → ⊥

@@ -1,5 +1,5 @@
 -- claim: what every reader of whole messages must do. It accepts exactly where the event reader runs to a message's end and the table has room, with the same fields; its refusals are the event reader's, but 20, which comes last, and 10 where the input has ended; and they leave the table.
-use Prim.Native.Nat.{ℕ, zero, suc, _+_, _*_, _≤_, _<_}
+use Prim.Native.Nat.{ℕ, zero, suc, _+_, _*_, _/_, _≤_, _<_}
 use mathlib.Core.Path.{_≡_}
 use mathlib.Core.List.{List, [], _∷_, _++_, map}
 use mathlib.Core.Option.{Option}
@@ -125,10 +125,11 @@ pub record WithRoom (R : WholeReader) (s : List ℕ) (at : ℕ) : Type 0 where
   pub table : List ℕ
   pub accepted : AcceptedWhole (R s at table)
 
--- 20 exactly where it would be accepted with more room
+-- 20 exactly where it would be accepted with more room; never with a row for every eight bytes of the input, of which an entry has as many at least
 pub record RoomLast (R : WholeReader) : Type 0 where
   pub if : (s : List ℕ) (at : ℕ) (t : List ℕ) → WithRoom R s at → (AcceptedWhole (R s at t) → ⊥) → R s at t .answer ≡ refusedAlone tooManyEntriesNo
   pub only-if : (s : List ℕ) (at : ℕ) (t : List ℕ) → R s at t .answer ≡ refusedAlone tooManyEntriesNo → WithRoom R s at
+  pub enough : (s : List ℕ) (at : ℕ) (t : List ℕ) → 4 * (length s / 8) ≤ length t → R s at t .answer ≡ refusedAlone tooManyEntriesNo → ⊥
 
 -- every refusal leaves the table
 abbrev pub LeavesTable : WholeReader → Type 0

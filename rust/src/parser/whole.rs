@@ -16,7 +16,7 @@ const ENTRY_IS_DUE: u64 = 3;
 pub enum ReadErr {
     /// The place is beyond the input.
     BadState,
-    /// The first refusal of the message, as a [`Parser`](super::streaming::Parser) gives it, or that the input ends where a message is to begin.
+    /// The first refusal of the message, as a [`Parser`](super::streaming::Parser) gives it, or that the input ends where a message is to begin, or is too long.
     Refused(ParseError),
     /// The message is right, and has more entries than the table has rows.
     TooManyEntries,
@@ -57,7 +57,7 @@ impl core::error::Error for ReadErr {}
 pub struct Whole<'i, 't> {
     /// Its start: of a list what stands before its entries, of others all.
     pub start: MessageStart<'i>,
-    /// What stands behind the entries of a list.
+    /// What stands behind the entries of a list; `None` for an open or a close.
     pub end: Option<GetListResponseEnd<'i>>,
     /// Where the entries of a list stand, in their order: the table's first rows.
     pub rows: &'t [Row],
@@ -71,7 +71,7 @@ impl Row {
         input.get(self.name_start as usize..)?.get(..self.name_len as usize)
     }
 
-    /// The entry, in the input that it was read from. Of a row that no call has made it is what begins at its place, if that is an entry.
+    /// The entry, in the input that it was read from. Of a row that [`read_message`] made, over the same input, it is always `Some`; of one that no call has made it is what begins at its place, if that is an entry.
     pub fn entry<'i>(&self, input: &'i [u8]) -> Option<ListEntry<'i>> {
         let (place, mut words) = (self.entry_start.into(), [0; ffi::EVENT_WORDS]);
         ffi::next_event(input, &mut [place, place, ENTRY_IS_DUE], &mut words);
@@ -86,6 +86,7 @@ impl Row {
 ///
 /// A message is read exactly if a [`Parser`](super::streaming::Parser) gives all of it and the table has room; what is wrong is then the first that the parser would refuse.
 /// Its CRC is judged before anything is given. Where the input ends, an empty one too, there is no message: that is refused with 10. A refusal leaves the table as it was, and rows behind the last one stay.
+/// A row for every eight bytes of the input is always enough, since an entry has eight bytes at least.
 ///
 /// ```
 /// use sartrogheo::parser::common::Value;
