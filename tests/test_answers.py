@@ -10,8 +10,8 @@ import clink, programs, wrong_answers
 SAMPLE = ["full_width_refused", "pad_not_against_length", "first_byte_again", "slice_noise_without_matched", "pad_count_in_hex", "fifth_1b_keeps_four"]
 # an edit of the line that `later_type_not_tested` edits, the same for every byte
 EQUAL = "tlf", [("src/lib.rt", "if b / 16 % 8 != 0 {", "if b % 128 / 16 != 0 {")], "leaf oct 8014aabb", "err InvalidTlf TlfNextByteTypeMismatch"
-# what bin/wrong is tried on: a theorem, of which nothing is left to prove
-SHOWN = "low_byte_first"
+# what bin/wrong is tried on: theorems, of which nothing is left to prove; the second by its name without fake_
+SHOWN = {"low_byte_first": "low_byte_first", "half_row_is_room": "fake_half_row_is_room"}
 bad, began = [], time.time()
 
 
@@ -49,9 +49,10 @@ with ThreadPoolExecutor(int(os.environ.get("RT_JOBS") or min(4, os.cpu_count() o
 bad += [f"{name}: of the sample, and can't be run" for name in SAMPLE if name not in runs]
 if f"runs all {len(runs)} edits of code: " not in page:
     bad.append(f"docs/WRONG-READINGS.md: the figure of --all is not that of {len(runs)} edits of code")
-said = subprocess.run([os.path.join(wrong_answers.ROOT, "bin/wrong"), SHOWN], capture_output=True, text=True)
-if said.returncode != 0 or not all(part in said.stdout for part in lines.get(SHOWN, ["Answers"])):
-    bad.append(f"bin/wrong {SHOWN} does not print its command and both answers: {said.stderr}")
+for asked_for, name in SHOWN.items():
+    said = subprocess.run([os.path.join(wrong_answers.ROOT, "bin/wrong"), asked_for], capture_output=True, text=True)
+    if said.returncode != 0 or not all(part in said.stdout for part in lines.get(name, ["Answers"])):
+        bad.append(f"bin/wrong {asked_for} does not print its command and both answers: {said.stderr}")
 print("\n".join(bad))
 print(f"{len(lines)} lines; {len(asked)} of our answers run, {len(lines) - len(asked)} told in words; {len(chosen)} of {len(runs)} edits of code run, in {time.time() - began:.0f} s; {len(bad)} faults")
 sys.exit(1 if bad or not lines else 0)
