@@ -15,9 +15,10 @@ extern "C" {
 
 /* ---- answers: 0, what is no refusal, or the number of a refusal */
 
-#define SGH_GOOD 0u       /* done; of a push or finalize: nothing to say */
-#define SGH_PAYLOAD 100u  /* a payload stands in the buffer, from its first byte on */
-#define SGH_FINISHED 101u /* no byte or event is left */
+#define SGH_GOOD 0u        /* done; of a push or finalize: nothing to say */
+#define SGH_PAYLOAD 100u   /* a payload stands in the buffer, from its first byte on */
+#define SGH_FINISHED 101u  /* no byte or event is left */
+#define SGH_NOT_FOUND 102u /* no row has the name */
 
 #define SGH_PAYLOAD_TOO_LONG 1u      /* a payload of more than SGH_LIMIT bytes */
 #define SGH_ENCODE_OUT_OF_MEMORY 2u  /* the whole frame doesn't fit in the output */
@@ -39,7 +40,7 @@ extern "C" {
 #define SGH_UNEXPECTED_VARIANT 13u /* an unknown tag */
 #define SGH_CRC_MISMATCH 14u       /* a message's CRC is wrong */
 #define SGH_MSG_END_MISMATCH 15u   /* a message's end byte isn't 00 */
-#define SGH_BAD_SPAN 16u           /* no payload stands in the buffer; an event's string is no part of what is lent for it */
+#define SGH_BAD_SPAN 16u           /* no payload stands in the buffer; an event's string is no part of what is lent for it; a table to look up in isn't whole rows within the input, strictly in order */
 #define SGH_WRONG_NUMBER 17u       /* an entry or a list's end is to be written where none is due */
 #define SGH_OUTPUT_TOO_SHORT 18u   /* what is to be written doesn't fit in the output */
 #define SGH_TOO_MANY_ENTRIES 20u   /* a message has more entries than the table has rows */
@@ -249,6 +250,31 @@ typedef struct {
    `message` is written whole each time. The fields of an entry: sgh_next_event with the reader {row.entry_start, row.entry_start, 3}, which says that an entry comes
    next, gives it over the same input; that reader is good for this one call. */
 uint32_t sgh_read_message(const uint8_t *input, size_t len, size_t at, uint32_t *table, size_t table_len, sgh_message *message);
+
+/* ---- an index of entries, for who asks for names many times: build it once for a message, then look up */
+
+/* How many rows stand in the table, and the place behind the message's end byte; or why nothing was built. `refused` is 0 where all is good. */
+typedef struct {
+    uint64_t rows, next;
+    sgh_refusal refused;
+} sgh_index;
+
+#define SGH_INDEX_WORDS 5u
+
+/* Reads the message at `at`, and puts a row for each entry into the table, as sgh_read_message does, but sorted: by the bytes of the names, each from 0 to 255, a
+   beginning before the longer name, and rows of one name by where their entries start. The empty name is a name. What stands behind the rows stays; an open or a close
+   has no rows. Gives 0, or 9, 4, 10 to 15, 20 exactly as sgh_read_message does. A refusal leaves the table as it was, and stands in `index->refused`, with kind and
+   place for 10 to 15 and the number alone for 4, 9 and 20; `rows` and `next` are 0 then. `index` is written whole each time. No memory but the table is taken:
+   n rows, n below 2 to the l, are sorted with n + 3 * l * n comparisons at most. */
+uint32_t sgh_build_index(const uint8_t *input, size_t len, size_t at, uint32_t *table, size_t table_len, sgh_index *index);
+
+/* The first row with exactly this name, which may be empty: of a table that was built the first entry of its message. Lend the same input, and the rows alone,
+   SGH_ROW_NUMBERS * index.rows numbers: all that is lent is judged as rows, in one pass, also what stands behind the row that is found. Any table may be lent, an empty
+   one too, and one that no call has built: the answer speaks of its rows then. No message is read.
+   Gives 0 and the row, whose entry is read as that of a row of sgh_read_message; SGH_NOT_FOUND exactly if no row has the name; 9 for all `len` bytes, first; 16 for a part
+   of a row, a row whose name or entry isn't within the input, or one that isn't strictly before the next (of one name and one start neither is). SGH_NOT_FOUND, 9 and
+   16 leave the row as it was. */
+uint32_t sgh_look_up(const uint8_t *input, size_t len, const uint32_t *table, size_t table_len, const uint8_t *name, size_t name_len, sgh_row *row);
 
 /* ---- messages that are written, so that a bench can pose as a meter */
 

@@ -14,6 +14,7 @@
 #define TIMES 1048576u        /* how often zN:HH pushes its byte at the most */
 #define SLICE 4096u           /* and how many of them make a slice */
 #define NONE UINT64_MAX       /* a number that is none */
+#define LARGEST 4294967295u   /* the largest number in a table */
 
 /* ---- the output: kept until it is full, or until there is nothing left to read */
 
@@ -143,23 +144,26 @@ static bool is_hex(struct text s)
 
 /* ---- a command */
 
-static uint8_t bytes[BYTES]; /* those of its hex, or of the operation that is run */
+static uint8_t bytes[BYTES];  /* those of its hex, or of the operation that is run */
+static uint8_t sought[BYTES]; /* and of the name that is looked up */
+static uint32_t table[ROOM];
 
 struct asked {
     uint64_t way, room; /* of a decoder; `room` of an output or a table too */
     struct text ops;
-    size_t len;     /* how many bytes its hex has */
-    size_t strings; /* how many of them are lent as strings */
-    uint64_t at;    /* a place in the output, or of `message` in the input, or beyond it */
+    size_t len;      /* how many bytes its hex has */
+    size_t strings;  /* how many of them are lent as strings */
+    size_t name_len; /* how many the name has that is looked up */
+    uint64_t at;     /* a place in the output, or of `message` and `index` in the input, or beyond it */
 };
 
 /* The bytes of a hex word, which is as long as two of them each; gives how many, and none for `-`. */
-static size_t unhex(struct text s)
+static size_t unhex(struct text s, uint8_t *to)
 {
     size_t n = s.len / 2;
 
     for (size_t i = 0; i < n; i++)
-        bytes[i] = (uint8_t)(digit(s.at[2 * i]) << 4 | digit(s.at[2 * i + 1]));
+        to[i] = (uint8_t)(digit(s.at[2 * i]) << 4 | digit(s.at[2 * i + 1]));
     return n;
 }
 
@@ -168,7 +172,7 @@ static bool takes_bytes(struct asked *a, struct text rest)
     if (!is_hex(rest))
         return false;
     a->room = ROOM;
-    a->len = unhex(rest);
+    a->len = unhex(rest, bytes);
     return true;
 }
 
@@ -240,16 +244,23 @@ static bool takes_packed(struct asked *a, struct text rest)
     return a->way <= UINT8_MAX && a->room <= ROOM && are_ops(a->ops);
 }
 
+/* A plain decimal number up to `most`, which is 9 at least. */
+static bool takes_number(uint64_t *x, struct text s, uint64_t most)
+{
+    *x = 0;
+    for (size_t i = 0; i < s.len; i++) {
+        uint64_t d = (uint64_t)(s.at[i] - '0');
+        if (s.at[i] < '0' || s.at[i] > '9' || *x > (most - d) / 10)
+            return false;
+        *x = 10 * *x + d;
+    }
+    return s.len > 0;
+}
+
 /* A place, which may be any number of 64 bits. */
 static bool takes_place(struct asked *a, struct text s)
 {
-    for (size_t i = 0; i < s.len; i++) {
-        uint64_t d = (uint64_t)(s.at[i] - '0');
-        if (s.at[i] < '0' || s.at[i] > '9' || a->at > (UINT64_MAX - d) / 10)
-            return false;
-        a->at = 10 * a->at + d;
-    }
-    return s.len > 0;
+    return takes_number(&a->at, s, UINT64_MAX);
 }
 
 static bool are_steps(struct text s)
@@ -283,6 +294,32 @@ static bool takes_message(struct asked *a, struct text rest)
     if (room > ROOM || !takes_place(a, first(placed, ' ')) || !takes_bytes(a, behind(placed, ' ')))
         return false;
     a->room = room;
+    return true;
+}
+
+/* Numbers of 32 bits with commas between them, or `-` for none. A line has room for fewer than the table. */
+static bool takes_table(struct asked *a, struct text s)
+{
+    a->room = 0;
+    for (bool more = !is(s, "-"); more; s = behind(s, ',')) {
+        struct text one = first(s, ',');
+        uint64_t x;
+        if (!takes_number(&x, one, LARGEST))
+            return false;
+        table[a->room++] = (uint32_t)x;
+        more = one.len < s.len;
+    }
+    return true;
+}
+
+/* HEX TABLE NAME. */
+static bool takes_lookup(struct asked *a, struct text rest)
+{
+    struct text numbered = behind(rest, ' '), named = behind(numbered, ' ');
+
+    if (!is_hex(named) || !takes_bytes(a, first(rest, ' ')) || !takes_table(a, first(numbered, ' ')))
+        return false;
+    a->name_len = unhex(named, sought);
     return true;
 }
 
@@ -472,7 +509,7 @@ static void push_chunk(struct pair *p, const uint8_t *chunk, size_t len)
 /* N:HH, in slices. */
 static void push_run(struct pair *p, struct text op)
 {
-    unhex(behind(op, ':'));
+    unhex(behind(op, ':'), bytes);
     memset(bytes, bytes[0], SLICE);
     for (uint64_t left = number(first(op, ':')); left > 0;) {
         size_t n = left < SLICE ? left : SLICE;
@@ -510,7 +547,7 @@ static void run_op(struct pair *p, struct text op)
 
     switch (op.at[0]) {
     case 'b':
-        push_chunk(p, bytes, unhex(rest));
+        push_chunk(p, bytes, unhex(rest, bytes));
         break;
     case 'z':
         push_run(p, rest);
@@ -733,6 +770,12 @@ static void put_event(const sgh_event *e, bool places)
     }
 }
 
+/* Whether a refusal is at a place of the input. */
+static bool has_place(uint64_t number)
+{
+    return number >= SGH_UNEXPECTED_EOF && number <= SGH_MSG_END_MISMATCH;
+}
+
 /* Whether a call's answer and the event that it wrote say the same. */
 static bool is_answer(uint32_t answer, const sgh_event *e)
 {
@@ -744,7 +787,7 @@ static bool is_answer(uint32_t answer, const sgh_event *e)
     case SGH_LIST_ENTRY:
         return answer == SGH_GOOD;
     case SGH_REFUSED:
-        return answer == e->refused.number && answer >= SGH_UNEXPECTED_EOF && answer <= SGH_MSG_END_MISMATCH && e->refused.kind <= SGH_TLF_INVALID_TY;
+        return answer == e->refused.number && has_place(answer) && e->refused.kind <= SGH_TLF_INVALID_TY;
     default:
         return answer == e->refused.number && (answer == SGH_INPUT_TOO_LONG || answer == SGH_BAD_STATE);
     }
@@ -798,13 +841,17 @@ static bool says_places(const struct asked *a)
 
 #define UNTOUCHED 0x77777777u /* what each number of a table is before; a place is less */
 
-static uint32_t table[ROOM];
 static uint32_t longer[BYTES]; /* has a row for each entry that a line holds: an entry has eight bytes at least, and a row four numbers */
 
-static uint32_t read_whole(const struct asked *a, uint32_t *t, size_t room, sgh_message *m)
+static void clear(uint32_t *t, size_t room)
 {
     for (size_t i = 0; i < room; i++)
         t[i] = UNTOUCHED;
+}
+
+static uint32_t read_whole(const struct asked *a, uint32_t *t, size_t room, sgh_message *m)
+{
+    clear(t, room);
     return sgh_read_message(bytes, a->len, a->at, t, room, m);
 }
 
@@ -879,6 +926,12 @@ static bool is_refused(const struct asked *a, uint32_t answer, const sgh_message
     return m->start.kind == SGH_REFUSED_ALONE && read_whole(a, longer, BYTES, &taken) == SGH_GOOD && taken.rows > a->room / SGH_ROW_NUMBERS && is_by_events(a, longer, BYTES, &taken);
 }
 
+static void put_counts(uint64_t rows, uint64_t next)
+{
+    put_counted("rows ", rows);
+    put_counted(" next ", next);
+}
+
 static void put_read(const sgh_message *m)
 {
     put_event(&m->start, false);
@@ -886,16 +939,16 @@ static void put_read(const sgh_message *m)
         put(" | ");
         put_event(&m->end, false);
     }
-    put_counted(" | rows ", m->rows);
-    put_counted(" next ", m->next);
+    put(" | ");
+    put_counts(m->rows, m->next);
 }
 
-static void put_not_read(const sgh_event *e)
+static void put_not_read(const sgh_refusal *r)
 {
-    put_counted("refused ", e->refused.number);
-    put(kinds[e->refused.kind]);
-    if (e->kind == SGH_REFUSED)
-        put_counted(" @", e->refused.place);
+    put_counted("refused ", r->number);
+    put(kinds[r->kind]);
+    if (has_place(r->number))
+        put_counted(" @", r->place);
 }
 
 static void put_table(size_t room)
@@ -920,8 +973,161 @@ static bool says_message(const struct asked *a)
     if (answer == SGH_GOOD)
         put_read(&m);
     else
-        put_not_read(&m.start);
+        put_not_read(&m.start.refused);
     put_table(a->room);
+    return true;
+}
+
+/* ---- an index of a message's entries, and names that are looked up in any table */
+
+#define NAMES 64u /* of so many entries the names are looked up in an index: each is a pass over it */
+
+static uint32_t unsorted[ROOM]; /* the table that sgh_read_message leaves */
+
+static sgh_row row_at(const uint32_t *t, uint64_t i)
+{
+    sgh_row row;
+
+    memcpy(&row, t + SGH_ROW_NUMBERS * i, sizeof row);
+    return row;
+}
+
+static bool same_row(sgh_row x, sgh_row y)
+{
+    return memcmp(&x, &y, sizeof x) == 0;
+}
+
+static bool same_name(sgh_row x, sgh_row y)
+{
+    return x.name_len == y.name_len && memcmp(bytes + x.name_start, bytes + y.name_start, x.name_len) == 0;
+}
+
+static bool same_refusal(const sgh_refusal *x, const sgh_refusal *y)
+{
+    return memcmp(x, y, sizeof *x) == 0;
+}
+
+/* Whether a row is one of the message's, whose entries stand one behind the other. */
+static bool is_among(sgh_row row, uint64_t rows)
+{
+    uint64_t low = 0, high = rows;
+
+    while (low < high) {
+        uint64_t middle = low + (high - low) / 2;
+        if (row_at(unsorted, middle).entry_start < row.entry_start)
+            low = middle + 1;
+        else
+            high = middle;
+    }
+    return low < rows && same_row(row_at(unsorted, low), row);
+}
+
+/* Whether by the name of the message's entry k the first entry of that name is found. The names before were asked for. */
+static bool finds(const struct asked *a, uint64_t rows, uint64_t k)
+{
+    sgh_row own = row_at(unsorted, k), found;
+    uint64_t first = 0;
+
+    if (own.name_start > a->len || own.name_len > a->len - own.name_start)
+        return false;
+    while (!same_name(row_at(unsorted, first), own))
+        first++;
+    return sgh_look_up(bytes, a->len, table, SGH_ROW_NUMBERS * rows, bytes + own.name_start, own.name_len, &found) == SGH_GOOD && same_row(found, row_at(unsorted, first));
+}
+
+/* Whether the index has the message's rows alone. None stands there twice, since each lookup judges whether all are strictly in order. */
+static bool is_index(const struct asked *a, uint64_t rows)
+{
+    for (uint64_t i = 0; i < rows; i++)
+        if (!is_among(row_at(table, i), rows))
+            return false;
+    for (uint64_t k = 0; k < rows && k < NAMES; k++)
+        if (!finds(a, rows, k))
+            return false;
+    return true;
+}
+
+/* Whether the message is read by sgh_read_message, and by events, with as many rows up to the same place, or refused alike. */
+static bool is_by_message(const struct asked *a, uint32_t answer, const sgh_index *x)
+{
+    static const sgh_refusal none;
+    sgh_message m;
+
+    if (read_whole(a, unsorted, a->room, &m) != answer || m.rows != x->rows || m.next != x->next)
+        return false;
+    if (answer != SGH_GOOD)
+        return is_refused(a, answer, &m) && same_refusal(&x->refused, &m.start.refused);
+    return is_by_events(a, unsorted, a->room, &m) && same_refusal(&x->refused, &none) && untouched(table, SGH_ROW_NUMBERS * x->rows, a->room) && is_index(a, x->rows);
+}
+
+static bool says_index(const struct asked *a)
+{
+    sgh_index x;
+    uint32_t answer;
+
+    clear(table, a->room);
+    answer = sgh_build_index(bytes, a->len, a->at, table, a->room, &x);
+    if (!is_by_message(a, answer, &x))
+        return false;
+    if (answer == SGH_GOOD)
+        put_counts(x.rows, x.next);
+    else
+        put_not_read(&x.refused);
+    put_table(a->room);
+    return true;
+}
+
+static const sgh_row UNFOUND = {UNTOUCHED, UNTOUCHED, UNTOUCHED, UNTOUCHED};
+
+/* What is said of so many numbers of the table. */
+static uint32_t look_up(const struct asked *a, size_t from, size_t n, sgh_row *row)
+{
+    *row = UNFOUND;
+    return sgh_look_up(bytes, a->len, table + from, n, sought, a->name_len, row);
+}
+
+/* What is said of each row alone, and with the next: a table is taken if these all are, and the first row that is found alone is the one. */
+static uint32_t look_up_by_rows(const struct asked *a, sgh_row *row)
+{
+    uint32_t answer = a->room % SGH_ROW_NUMBERS == 0 ? SGH_NOT_FOUND : SGH_BAD_SPAN;
+    sgh_row one;
+
+    *row = UNFOUND;
+    for (size_t at = 0; at < a->room && answer != SGH_BAD_SPAN; at += SGH_ROW_NUMBERS) {
+        size_t left = a->room - at;
+        uint32_t alone = look_up(a, at, SGH_ROW_NUMBERS, &one);
+        if (alone == SGH_BAD_SPAN || look_up(a, at, left < 2 * SGH_ROW_NUMBERS ? left : 2 * SGH_ROW_NUMBERS, &one) == SGH_BAD_SPAN) {
+            answer = SGH_BAD_SPAN;
+            *row = UNFOUND;
+        } else if (alone == SGH_GOOD && answer == SGH_NOT_FOUND) {
+            answer = SGH_GOOD;
+            *row = row_at(table + at, 0);
+        }
+    }
+    return answer;
+}
+
+static void put_found(sgh_row row)
+{
+    put_counted("found ", row.name_start);
+    put_counted(",", row.name_len);
+    put_counted(",", row.entry_start);
+    put_counted(",", row.entry_len);
+}
+
+static bool says_lookup(const struct asked *a)
+{
+    sgh_row row, by_rows;
+    uint32_t answer = look_up(a, 0, a->room, &row);
+
+    if (look_up_by_rows(a, &by_rows) != answer || !same_row(row, by_rows))
+        return false;
+    if (answer == SGH_GOOD)
+        put_found(row);
+    else if (answer == SGH_NOT_FOUND)
+        put("none");
+    else
+        put_counted("refused ", answer);
     return true;
 }
 
@@ -1013,6 +1219,8 @@ static const struct command {
     {"places", takes_bytes, says_places},
     {"rewrite", takes_rewrite, says_rewrite},
     {"message", takes_message, says_message},
+    {"index", takes_message, says_index},
+    {"lookup", takes_lookup, says_lookup},
 };
 
 /* Without a word first, since it is known at the end alone whether all agree. */

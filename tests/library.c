@@ -406,12 +406,13 @@ static const uint8_t TWO[] = {0x76, 3,    0xdd, 0x43, 0x62, 0,    0x62, 0,    0x
                               1,    1,    0x62, 7,    1,    0x77, 2,    0x61, 1,    1,    1,    1,    0x62, 8,    1,    1,    1,    0x63, 1,    0x93, 0,    0xff};
 #define TWO_LEN (sizeof TWO - 1)
 static const sgh_row ROWS_OF_TWO[] = {{21, 1, 19, 10}, {31, 1, 29, 10}};
-#define NUMBERS 11u /* of a table: two rows, and what is none */
+#define NUMBERS 28u /* of a table */
 #define MARK 0x77777777u
 
 struct whole {
     uint32_t table[NUMBERS];
     sgh_message message;
+    sgh_index index;
 };
 
 static struct whole unread(void)
@@ -421,6 +422,7 @@ static struct whole unread(void)
     for (unsigned i = 0; i < NUMBERS; i++)
         w.table[i] = MARK;
     memset(&w.message, 0xa5, sizeof w.message);
+    memset(&w.index, 0xa5, sizeof w.index);
     return w;
 }
 
@@ -432,14 +434,20 @@ static bool marked(const struct whole *w, unsigned from)
     return from == NUMBERS;
 }
 
-/* Whether a call refuses with this, says nothing else and leaves the table. */
+static bool is_index(const sgh_index *x, uint64_t rows, uint64_t next, uint64_t number, uint64_t kind, uint64_t place)
+{
+    return x->rows == rows && x->next == next && x->refused.number == number && x->refused.kind == kind && x->refused.place == place;
+}
+
+/* Whether both calls refuse with this, say nothing else and leave the table. */
 static bool refuses(const uint8_t *input, size_t len, size_t at, size_t room, uint32_t number, uint64_t kind, uint64_t place)
 {
     struct whole w = unread();
     bool alone = number == SGH_INPUT_TOO_LONG || number == SGH_BAD_STATE || number == SGH_TOO_MANY_ENTRIES;
 
     return sgh_read_message(input, len, at, w.table, room, &w.message) == number && refused(&w.message.start, alone ? SGH_REFUSED_ALONE : SGH_REFUSED, number, kind, place) &&
-           ends_at(&w.message.end, SGH_NO_EVENT, 1) && w.message.rows == 0 && w.message.next == 0 && marked(&w, 0);
+           ends_at(&w.message.end, SGH_NO_EVENT, 1) && w.message.rows == 0 && w.message.next == 0 && marked(&w, 0) &&
+           sgh_build_index(input, len, at, w.table, room, &w.index) == number && is_index(&w.index, 0, 0, number, kind, place) && marked(&w, 0);
 }
 
 static void wholes(void)
@@ -478,6 +486,90 @@ static void unread_messages(void)
     HELD(refuses(bytes, SGH_LIMIT + 1, 0, NUMBERS, SGH_INPUT_TOO_LONG, 0, 0) && refuses(bytes, SGH_LIMIT + 1, SIZE_MAX, NUMBERS, SGH_INPUT_TOO_LONG, 0, 0));
     HELD(refuses(bytes, SGH_LIMIT, 0, NUMBERS, SGH_INVALID_TLF, SGH_TLF_LENGTH_UNDERFLOW, 0) && refuses(bytes, SGH_LIMIT, SGH_LIMIT, NUMBERS, SGH_UNEXPECTED_EOF, 0, SGH_LIMIT));
     HELD(refuses(TWO, sizeof TWO, TWO_LEN, NUMBERS, SGH_UNEXPECTED_EOF, 0, sizeof TWO));
+}
+
+/* ---- an index */
+
+/* A list of six entries, named b, nothing, ab, the byte 80, a and b, and their rows by name. */
+static const uint8_t SIX[] = {
+    0x76, 0x03, 0xdd, 0x43, 0x62, 0x00, 0x62, 0x00, 0x72, 0x63, 0x07, 0x01, 0x77, 0x01, 0x02, 0x73, 0x01,
+    0x01, 0x76, 0x77, 0x02, 0x62, 0x01, 0x01, 0x01, 0x01, 0x62, 0x00, 0x01, 0x77, 0x01, 0x01, 0x01, 0x01,
+    0x01, 0x62, 0x01, 0x01, 0x77, 0x03, 0x61, 0x62, 0x01, 0x01, 0x01, 0x01, 0x62, 0x02, 0x01, 0x77, 0x02,
+    0x80, 0x01, 0x01, 0x01, 0x01, 0x62, 0x03, 0x01, 0x77, 0x02, 0x61, 0x01, 0x01, 0x01, 0x01, 0x62, 0x04,
+    0x01, 0x77, 0x02, 0x62, 0x01, 0x01, 0x01, 0x01, 0x62, 0x05, 0x01, 0x01, 0x01, 0x63, 0x3c, 0x55, 0x00,
+};
+static const sgh_row ROWS_OF_SIX[] = {{31, 0, 29, 9}, {61, 1, 59, 10}, {40, 2, 38, 11}, {21, 1, 19, 10}, {71, 1, 69, 10}, {51, 1, 49, 10}};
+#define SIX_NUMBERS (SGH_ROW_NUMBERS * sizeof ROWS_OF_SIX / sizeof *ROWS_OF_SIX)
+
+static void indexes(void)
+{
+    HELD(sizeof(sgh_index) == 8 * SGH_INDEX_WORDS);
+    for (size_t room = SIX_NUMBERS; room <= NUMBERS; room++) {
+        struct whole w = unread();
+        HELD(sgh_build_index(SIX, sizeof SIX, 0, w.table, room, &w.index) == SGH_GOOD && is_index(&w.index, 6, sizeof SIX, 0, 0, 0));
+        HELD(memcmp(w.table, ROWS_OF_SIX, sizeof ROWS_OF_SIX) == 0 && marked(&w, SIX_NUMBERS));
+    }
+    for (size_t room = 0; room < SIX_NUMBERS; room++)
+        HELD(refuses(SIX, sizeof SIX, 0, room, SGH_TOO_MANY_ENTRIES, 0, 0));
+    for (size_t len = 0; len < sizeof SIX; len++)
+        HELD(refuses(SIX, len, 0, NUMBERS, SGH_UNEXPECTED_EOF, 0, len));
+    /* at another place, and of a close, which needs no table; what follows a message is not looked at */
+    struct whole w = unread();
+    memcpy(bytes, CLOSE, sizeof CLOSE);
+    memcpy(bytes + sizeof CLOSE, SIX, sizeof SIX);
+    HELD(sgh_build_index(bytes, SGH_LIMIT, 0, NULL, 0, &w.index) == SGH_GOOD && is_index(&w.index, 0, sizeof CLOSE, 0, 0, 0));
+    HELD(sgh_build_index(bytes, SGH_LIMIT, sizeof CLOSE, w.table, NUMBERS, &w.index) == SGH_GOOD && is_index(&w.index, 6, sizeof CLOSE + sizeof SIX, 0, 0, 0));
+    for (unsigned i = 0; i < SIX_NUMBERS; i++)
+        HELD(w.table[i] == ((const uint32_t *)ROWS_OF_SIX)[i] + (i % 2 ? 0 : sizeof CLOSE));
+    memset(bytes, 0, sizeof CLOSE + sizeof SIX);
+}
+
+static const sgh_row UNFOUND = {MARK, MARK, MARK, MARK};
+
+/* Whether a lookup gives this number, and the row if one is found; else the row is as it was. */
+static bool looks_up(uint32_t number, const void *input, size_t len, const uint32_t *table, size_t n, const char *name, const void *row)
+{
+    sgh_row found = UNFOUND;
+
+    return sgh_look_up(input, len, table, n, (const uint8_t *)name, strlen(name), &found) == number && memcmp(&found, number == SGH_GOOD ? row : &UNFOUND, sizeof found) == 0;
+}
+
+/* In the index, in parts of it and in the rows the other way; then in tables of no message over `aab`. */
+static void lookups(void)
+{
+    static const struct { const char *name; unsigned row; } six[] = {{"", 0}, {"a", 1}, {"ab", 2}, {"b", 3}, {"\x80", 5}};
+    static const char *const others[] = {"abc", "aa", "c", "\x7f", "\x80\x80", "\xff"};
+    static const struct { uint32_t number; unsigned row, n; uint32_t table[12]; const char *name; } aab[] = {
+        {SGH_NOT_FOUND, 0, 0, {0}, "a"}, {SGH_BAD_SPAN, 0, 8, {0, 1, 0, 1, 0, 1, 0, 1}, "a"}, {SGH_GOOD, 0, 8, {0, 1, 0, 1, 0, 1, 1, 1}, "a"}, {SGH_BAD_SPAN, 0, 8, {0, 1, 2, 1, 1, 1, 1, 1}, "a"},
+        {SGH_BAD_SPAN, 0, 4, {0, 3, 4, 0}, "aab"}, {SGH_BAD_SPAN, 0, 4, {2, 2, 0, 1}, "b"}, {SGH_BAD_SPAN, 0, 4, {4294967295, 2, 0, 1}, "b"}, {SGH_BAD_SPAN, 0, 4, {0, 1, 4294967295, 1}, "a"},
+        {SGH_GOOD, 1, 12, {0, 1, 0, 3, 0, 2, 0, 3, 2, 1, 0, 3}, "aa"}, {SGH_GOOD, 0, 4, {3, 0, 3, 0}, ""}, {SGH_BAD_SPAN, 0, 4, {0, 0, 0, 4}, ""}, {SGH_BAD_SPAN, 0, 12, {0, 1, 0, 3, 2, 1, 0, 3, 0, 2, 0, 3}, "a"},
+    };
+    struct whole w = unread();
+    sgh_index x;
+
+    HELD(sgh_build_index(SIX, sizeof SIX, 0, w.table, NUMBERS, &x) == SGH_GOOD);
+    for (unsigned k = 0; k < sizeof six / sizeof *six; k++)
+        for (size_t n = 0; n <= NUMBERS; n++) {
+            uint32_t number = n % SGH_ROW_NUMBERS || n > SIX_NUMBERS ? SGH_BAD_SPAN : six[k].row < n / SGH_ROW_NUMBERS ? SGH_GOOD : SGH_NOT_FOUND;
+            HELD(looks_up(number, SIX, sizeof SIX, w.table, n, six[k].name, &ROWS_OF_SIX[six[k].row]));
+        }
+    for (unsigned k = 0; k < sizeof others / sizeof *others; k++)
+        HELD(looks_up(SGH_NOT_FOUND, SIX, sizeof SIX, w.table, SIX_NUMBERS, others[k], NULL));
+    /* an input that is shorter than an entry; rows the other way */
+    HELD(looks_up(SGH_GOOD, SIX, 79, w.table, SIX_NUMBERS, "a", &ROWS_OF_SIX[1]) && looks_up(SGH_BAD_SPAN, SIX, 78, w.table, SIX_NUMBERS, "a", NULL));
+    memcpy(w.table, &ROWS_OF_SIX[1], sizeof(sgh_row));
+    memcpy(w.table + SGH_ROW_NUMBERS, &ROWS_OF_SIX[0], sizeof(sgh_row));
+    HELD(looks_up(SGH_BAD_SPAN, SIX, sizeof SIX, w.table, SIX_NUMBERS, "b", NULL));
+    for (unsigned k = 0; k < sizeof aab / sizeof *aab; k++)
+        HELD(looks_up(aab[k].number, "aab", 3, aab[k].table, aab[k].n, aab[k].name, aab[k].table + SGH_ROW_NUMBERS * aab[k].row));
+    /* 9 first; the longest input, all of it a name */
+    static const uint32_t long_row[] = {0, SGH_LIMIT, 0, SGH_LIMIT}, at_end[] = {SGH_LIMIT, 0, SGH_LIMIT, 0}, beyond[] = {SGH_LIMIT, 1, 0, 0};
+    sgh_row row = UNFOUND;
+    HELD(looks_up(SGH_INPUT_TOO_LONG, bytes, SGH_LIMIT + 1, at_end, 4, "", NULL) && looks_up(SGH_INPUT_TOO_LONG, bytes, SGH_LIMIT + 1, at_end, 3, "", NULL));
+    HELD(looks_up(SGH_GOOD, bytes, SGH_LIMIT, at_end, 4, "", at_end) && looks_up(SGH_BAD_SPAN, bytes, SGH_LIMIT, beyond, 4, "", NULL));
+    HELD(sgh_look_up(bytes, SGH_LIMIT, long_row, 4, bytes, SGH_LIMIT, &row) == SGH_GOOD && memcmp(&row, long_row, sizeof row) == 0);
+    row = UNFOUND;
+    HELD(sgh_look_up(bytes, SGH_LIMIT, long_row, 4, bytes, SGH_LIMIT + 1, &row) == SGH_NOT_FOUND && memcmp(&row, &UNFOUND, sizeof row) == 0);
 }
 
 /* ---- messages that are written */
@@ -621,6 +713,11 @@ static void nulls(void)
     HELD(sgh_crc(NULL, 0) == 0);
     HELD(sgh_next_event(NULL, 0, &r, &e) == SGH_FINISHED && ends_at(&e, SGH_NO_EVENT, 1) && is_reader(&r, 0, 0, 0));
     HELD(refuses(NULL, 0, 0, 0, SGH_UNEXPECTED_EOF, 0, 0) && refuses(NULL, 0, 1, NUMBERS, SGH_BAD_STATE, 0, 0));
+    sgh_index x;
+    HELD(sgh_build_index(NULL, 0, 0, NULL, 0, &x) == SGH_UNEXPECTED_EOF && is_index(&x, 0, 0, SGH_UNEXPECTED_EOF, 0, 0) && sgh_build_index(SIX, sizeof SIX, 0, NULL, 0, &x) == SGH_TOO_MANY_ENTRIES);
+    sgh_row row = UNFOUND;
+    HELD(sgh_look_up(NULL, 0, NULL, 0, NULL, 0, &row) == SGH_NOT_FOUND && memcmp(&row, &UNFOUND, sizeof row) == 0);
+    HELD(sgh_look_up(NULL, 0, (const uint32_t[SGH_ROW_NUMBERS]){0}, SGH_ROW_NUMBERS, NULL, 0, &row) == SGH_GOOD && memcmp(&row, &(sgh_row){0, 0, 0, 0}, sizeof row) == 0);
     HELD(sgh_read_message(TWO, sizeof TWO, 0, NULL, 0, &m) == SGH_TOO_MANY_ENTRIES && refused(&m.start, SGH_REFUSED_ALONE, SGH_TOO_MANY_ENTRIES, 0, 0) && m.next == 0);
     sgh_writer w = {0};
     HELD(sgh_write_event(NULL, 0, NULL, 0, &END, &w) == SGH_WRONG_NUMBER && sgh_write_event(NULL, 0, NULL, 0, &CLOSES, &w) == SGH_BAD_SPAN);
@@ -647,6 +744,8 @@ static int calls(void)
     readers();
     wholes();
     unread_messages();
+    indexes();
+    lookups();
     writing();
     no_events();
     writers();
@@ -782,28 +881,56 @@ static void answer_events(const uint8_t *s, size_t len)
     }
 }
 
+/* The entry at a row. */
+static void put_row(const uint8_t *s, size_t len, const sgh_row *row)
+{
+    sgh_reader r = {row->entry_start, row->entry_start, 3};
+    sgh_event e;
+
+    sgh_next_event(s, len, &r, &e);
+    put_event(s, &e);
+    fputs(" | ", stdout);
+}
+
+static sgh_row rows[SGH_LIMIT / 8];
+#define ROWS_NUMBERS (SGH_ROW_NUMBERS * (sizeof rows / sizeof *rows))
+
 /* Message by message, an entry at its row, up to the input's end or a refusal. */
 static void answer_messages(const uint8_t *s, size_t len)
 {
-    static sgh_row rows[SGH_LIMIT / 8];
     sgh_message m;
     uint32_t answer = SGH_GOOD;
 
     for (size_t at = 0; at < len && answer == SGH_GOOD; at = m.next) {
-        answer = sgh_read_message(s, len, at, (uint32_t *)rows, SGH_ROW_NUMBERS * (sizeof rows / sizeof *rows), &m);
+        answer = sgh_read_message(s, len, at, (uint32_t *)rows, ROWS_NUMBERS, &m);
         put_event(s, &m.start);
         fputs(answer == SGH_GOOD ? " | " : "", stdout);
-        for (uint64_t i = 0; i < m.rows; i++) {
-            sgh_reader r = {rows[i].entry_start, rows[i].entry_start, 3};
-            sgh_event e;
-            sgh_next_event(s, len, &r, &e);
-            put_event(s, &e);
-            fputs(" | ", stdout);
-        }
+        for (uint64_t i = 0; i < m.rows; i++)
+            put_row(s, len, &rows[i]);
         if (m.end.kind != SGH_NO_EVENT) {
             put_event(s, &m.end);
             fputs(" | ", stdout);
         }
+    }
+    fputs(answer == SGH_GOOD ? "none" : "", stdout);
+}
+
+/* Message by message, the entries by name, behind each the one that is found by its name, up to the input's end or a refusal. */
+static void answer_indexes(const uint8_t *s, size_t len)
+{
+    sgh_index x;
+    sgh_row found;
+    uint32_t answer = SGH_GOOD;
+
+    for (size_t at = 0; at < len && answer == SGH_GOOD; at = x.next) {
+        answer = sgh_build_index(s, len, at, (uint32_t *)rows, ROWS_NUMBERS, &x);
+        for (uint64_t i = 0; i < x.rows; i++) {
+            put_row(s, len, &rows[i]);
+            if (sgh_look_up(s, len, (const uint32_t *)rows, SGH_ROW_NUMBERS * x.rows, s + rows[i].name_start, rows[i].name_len, &found) == SGH_GOOD)
+                put_row(s, len, &found);
+        }
+        if (answer != SGH_GOOD)
+            printf("err %" PRIu64 " %" PRIu64 " @%" PRIu64, x.refused.number, x.refused.kind, x.refused.place);
     }
     fputs(answer == SGH_GOOD ? "none" : "", stdout);
 }
@@ -908,6 +1035,8 @@ static int answers(void)
             answer_events(bytes, len);
         else if (line[0] == 'm')
             answer_messages(bytes, len);
+        else if (line[0] == 'i')
+            answer_indexes(bytes, len);
         else if (line[0] == 'f')
             answer_encode(bytes, len);
         else if (line[0] == 'w')

@@ -8,6 +8,7 @@ os.chdir(os.path.join(os.path.dirname(os.path.abspath(__file__)), ".."))
 sys.path.append("scripts")
 import wrong_answers
 from programs import LIBRARY, VECTORS
+from index_reading import VECTORS as INDEX
 from whole_reading import MORE, VECTORS as WHOLE
 
 # Of the commands that say the same kinds of things so many short ones are asked in the gate. A run has ten seconds and may write a megabyte, so that a batch has few lines and little to write.
@@ -71,6 +72,9 @@ chosen = asked(pairs if sys.argv[1:] else sample(pairs))
 # a whole message by value, in a table of at most 64 numbers
 whole = [(f"message {room} {at} {data.hex() or '-'}", answer) for room, at, data, answer in WHOLE + MORE if room <= 64 and at < 1 << 20 and len(data) < LONGEST // 2 - 20]
 chosen += whole
+# an index and a lookup, by value
+index = [(command, answer) for command, answer in INDEX]
+chosen += index
 with tempfile.TemporaryDirectory() as tmp:
     wrong_answers.copied(tmp)
     layout = subprocess.run(["rt", "fmt", "--check"], cwd=tmp, capture_output=True, text=True)
@@ -84,6 +88,8 @@ bad += [f"{words}: no answer has {what}" for words, some in answers.items() for 
 counts = {word: sum(len(answers[form + word]) for form in FORMS[word]) for word in FORMS}
 if not all(any(what in a for _, a in whole) for what in ("| rows 2 next", "refused 4 ", "refused 10 @", "refused 14 @", "refused 20 ")):
     bad.append("message: an answer of a kind that was to be there is missing")
+if not all(any(a.startswith(what) for _, a in index) for what in ("rows 6 next", "refused 10 @", "refused 15 @", "refused 20 ", "refused 16", "found ", "none")):
+    bad.append("index, lookup: an answer of a kind that was to be there is missing")
 print("\n".join(bad))
 print(f"{len(chosen)} answers in {time.time() - began:.0f} s ({', '.join(f'{n} {word}' for word, n in counts.items())}), and those of limits; the first {interpreted} on the interpreter too; {len(bad)} faults")
 sys.exit(1 if bad else 0)

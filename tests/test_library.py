@@ -69,7 +69,7 @@ TAGS = {("startWords", "m"): "MESSAGE_START", ("endWords", "e"): "GET_LIST_RESPO
 PLACED = {("startWords", "m"): "message.", ("bodyWords", "openBody b"): "message.open.", ("bodyWords", "closeBody b"): "message.close.", ("bodyWords", "listBody b"): "message.list.", ("endWords", "e"): "end.", ("entryWords", "e"): "entry.", ("saidWords", "failed f"): "refused."}
 # the type of a parameter, and of an answer
 TYPES = {"&mut [u8; 28]": "sgh_decoder *", "&[u8; 28]": "const sgh_decoder *", "&mut [u64; 3]": "sgh_reader *", "&mut [u64; 24]": "sgh_event *", "&[u64; 24]": "const sgh_event *", "&[u8]": "const uint8_t *, size_t", "&mut [u8]": "uint8_t *, size_t",
-         "&mut [u64; 50]": "sgh_message *", "&mut [u32]": "uint32_t *, size_t", "&mut usize": "size_t *", "&mut u8": "uint8_t *", "u8": "uint8_t", "usize": "size_t", "u16": "uint16_t", "u32": "uint32_t", "": "void"}
+         "&mut [u64; 50]": "sgh_message *", "&mut [u64; 5]": "sgh_index *", "&mut [u32; 4]": "sgh_row *", "&mut [u32]": "uint32_t *, size_t", "&[u32]": "const uint32_t *, size_t", "&mut usize": "size_t *", "&mut u8": "uint8_t *", "u8": "uint8_t", "usize": "size_t", "u16": "uint16_t", "u32": "uint32_t", "": "void"}
 
 
 def upper(name):
@@ -100,17 +100,24 @@ def row():
     return [f"{part}_{field}" for part, field in re.findall(r"r \.(\w+) \.(\w+) ∷", re.search(r"^flat \(r ∷ rs\) = (.*)", text("crates/whole/specs/Whole.antt"), re.M).group(1))]
 
 
+def index():
+    """The fields of an index in C, by what `indexWords` puts down where one is built, and where the message is refused."""
+    built, broken = (re.search(rf"^indexWords \({case} .*\) = (.*) ∷ \[\]$", text("crates/sartrogheo/specs/Indexes.antt"), re.M).group(1).split(" ∷ ") for case in ("indexIs", "indexBroken"))
+    return [other.replace("f .", "refused.") if one == "0" else one for one, other in zip(built, broken)]
+
+
 def constants():
     """The header's constants by the definitions and the code that the proofs are about."""
     held("the numbers of refusals", sorted(REFUSALS), NUMBERED)
     wanted = {name: n for n, name in REFUSALS.items()} | {upper(name): n for name, n in KINDS.items()}
-    wanted |= {upper(name): n for name, n in numbers_of("crates/sartrogheo/specs/Calls.antt", r"^(good|payload|finished)No = (\d+)$").items()}
+    wanted |= {upper(name): n for name, n in numbers_of("crates/sartrogheo/specs/Calls.antt", r"^(good|payload|finished|notFound)No = (\d+)$").items()}
     wanted |= numbers_of("crates/decoder/src/lib.rt", r"const (\w+_WAY): u8 = (\d);")
     wanted |= {case: int(terms(*words)[0]) for words, case in TAGS.items()}
     wanted["LIMIT"] = numbers_of("crates/refusals/specs/Numbers.antt", r"^(limit) = (\d+)$")["limit"]
     wanted["DECODER_LEN"] = numbers_of("crates/packed/src/lib.rt", r"^pub const (LEN): usize = (\d+);")["LEN"]
     wanted["VALUES"] = int(re.search(r"values: &mut \[u64; (\d+)\]", EXPORTS).group(1))
     wanted["MESSAGE_WORDS"] = int(re.search(r"message: &mut \[u64; (\d+)\]", EXPORTS).group(1))
+    wanted["INDEX_WORDS"] = int(re.search(r"index: &mut \[u64; (\d+)\]", EXPORTS).group(1))
     wanted["ROW_NUMBERS"] = len(row())
     wanted["EVENT_WORDS"] = int(re.search(r"^eventWords s = withZeros (\d+)", WORDS, re.M).group(1))
     found = {name: int(n) for name, n in re.findall(r"^#define SGH_(\w+) (\d+)u *$", HEADER, re.M)}
@@ -161,8 +168,10 @@ def structs_are(folder):
     parts = {"start": 0, "end": words_of_event, "rows": 2 * words_of_event, "next": 2 * words_of_event + 1}
     asked += [f"_Static_assert(offsetof(sgh_message, {name}) == {8 * at}, \"{name} of a message\");" for name, at in parts.items()]
     asked += [f"_Static_assert(offsetof(sgh_row, {name}) == {4 * k} && sizeof(((sgh_row *)0)->{name}) == 4, \"{name}\");" for k, name in enumerate(row())]
+    asked += [f"_Static_assert(offsetof(sgh_index, {name}) == {8 * k} && sizeof(((sgh_index *)0)->{name}) == 8, \"{name} of an index\");" for k, name in enumerate(index())]
     held("layout: fields of sgh_row and sgh_message", (list(leaves("sgh_row", structs)), structs["sgh_message"]), (row(), ["sgh_event start, end", "uint64_t rows, next"]))
-    sizes = {"sgh_row": "4 * SGH_ROW_NUMBERS", "sgh_message": "8 * SGH_MESSAGE_WORDS", "sgh_decoder": "SGH_DECODER_LEN", "sgh_event": "8 * SGH_EVENT_WORDS", "sgh_encoder": "8 * 4", "sgh_reader": "8 * 3", "sgh_writer": "8 * 4"}
+    held("layout: fields of sgh_index", list(leaves("sgh_index", structs)), index())
+    sizes = {"sgh_row": "4 * SGH_ROW_NUMBERS", "sgh_index": "8 * SGH_INDEX_WORDS", "sgh_message": "8 * SGH_MESSAGE_WORDS", "sgh_decoder": "SGH_DECODER_LEN", "sgh_event": "8 * SGH_EVENT_WORDS", "sgh_encoder": "8 * 4", "sgh_reader": "8 * 3", "sgh_writer": "8 * 4"}
     asked += [f"_Static_assert(sizeof({name}) == {size}, \"{name}\");" for name, size in sizes.items()]
     held("layout: Encoder, reader and writer", [list(leaves(name, structs)) for name in ("sgh_encoder", "sgh_reader", "sgh_writer")], [["kind", "count", "place", "crc"], ["place", "start", "pending"], ["place", "state", "left", "crc"]])
     compiles(folder, "layout: as the compiler has it", "\n".join(["#include <stddef.h>", "#include <sartrogheo.h>", *asked, ""]), ["-std=c11"])
@@ -308,11 +317,31 @@ def written(events):
     return f"{out.hex()} 0 {left}"
 
 
+def messages_of(found):
+    """The events of a reading, message by message, without one that is refused."""
+    starts = [k for k, event in enumerate(found.events) if event.split(" ")[0] in TAGGED]
+    groups = [found.events[k:end] for k, end in zip(starts, [*starts[1:], None])]
+    return groups[:-1] if found.inside and found.refusal else groups
+
+
+def ended(found, events):
+    """Events, and how a reading ends."""
+    return numbered(" | ".join([*events, "none" if found.refusal is None else str(found.refusal)]))
+
+
 def by_message(found):
     """The events of a reading, message by message: one that is refused has none."""
-    starts = [k for k, event in enumerate(found.events) if event.split(" ")[0] in TAGGED]
-    events = found.events[: starts[-1]] if found.inside and found.refusal else found.events
-    return numbered(" | ".join([*events, "none" if found.refusal is None else str(found.refusal)]))
+    return ended(found, sum(messages_of(found), []))
+
+
+def name_of(entry):
+    return bytes.fromhex(entry.split(" ")[1].removeprefix("name=x"))
+
+
+def by_name(found):
+    """The entries of each message of a reading by name, equal names as they stand, and behind each the first one of its name."""
+    listed = [[e for e in events if e.startswith("entry ")] for events in messages_of(found)]
+    return ended(found, [one for entries in listed for e in sorted(entries, key=name_of) for one in (e, next(f for f in entries if name_of(f) == name_of(e)))])
 
 
 def commands(n):
@@ -327,6 +356,7 @@ def commands(n):
         data = file(r)
         yield f"e 0 0 0 {data.hex()}", numbered(Reading(data).line())
         yield f"m 0 0 0 {data.hex()}", by_message(Reading(data))
+        yield f"i 0 0 0 {data.hex()}", by_name(Reading(data))
         yield f"w 0 0 0 {data.hex()}", written(Reading(data).events)
 
 
@@ -656,8 +686,12 @@ def failing(folder):
     held("scripts/install, no rt, an archive: which", contents(to)["lib/libsartrogheo.a"], b"an archive")
 
 
-def paged(data, whole=False):
-    """What the program of docs/LIBRARY.md prints, by the readings: of every event, or of every message that is right."""
+# the names that the program with an index asks for
+ASKED_FOR = bytes.fromhex("0100010800ff"), bytes.fromhex("0100020800ff")
+
+
+def paged(data, whole=False, names=()):
+    """What the program of docs/LIBRARY.md prints, by the readings: of every event; of every message that is right; or of each of these the first entry of some names."""
     lines = []
     for event in push_rules.events(CAPACITY, data, 2):
         word, _, rest = event.partition(" ")
@@ -665,12 +699,14 @@ def paged(data, whole=False):
         if not found:
             lines.append(f"lost {rest} bytes" if word == "discarded" else "refused " + REFUSED[word].split(" ")[0])
             continue
-        starts = [k for k, one in enumerate(found.events) if one.split(" ")[0] in TAGGED]
-        for one in found.events[: starts[-1]] if whole and found.inside and found.refusal else found.events:
+        groups = messages_of(found) if whole else [found.events]
+        groups = [[one for one in events if one.startswith("entry")] for events in groups]
+        if names:
+            groups = [[one for name in names for one in [e for e in entries if name_of(e) == name][:1]] for entries in groups]
+        for one in sum(groups, []):
             field = dict(w.split("=", 1) for w in one.split(" ")[1:])
-            kind, _, value = field.get("value", "").partition(":")
-            if one.startswith("entry"):
-                lines.append(field["name"][1:] + (f" {value} e{0 if field['scaler'] == '-' else field['scaler']}" if kind[:1] in ("i", "u") else ""))
+            kind, _, value = field["value"].partition(":")
+            lines.append(field["name"][1:] + (f" {value} e{0 if field['scaler'] == '-' else field['scaler']}" if kind[:1] in ("i", "u") else ""))
         if found.refusal:
             lines.append(f"refused {found.refusal.number}, at byte {found.refusal.place} of the payload")
     return "".join(line + "\n" for line in lines)
@@ -686,21 +722,24 @@ def page_is(folder, moved, exports):
     page, path = text("docs/LIBRARY.md"), os.path.join(folder, "page.c")
     held("docs/LIBRARY.md: calls", sorted(re.findall(r"^\| `(sgh_\w+)` \|", page, re.M)), sorted(exports))
     held("docs/LIBRARY.md: numbers", re.findall(r"^\| (\d+)(?: to \d+)? \| `SGH_(\w+)`", page, re.M), [(str(k), REFUSALS[k]) for k in (*range(1, 11), 16, 17, 18, 20)])
-    (source, messages, writes), (wanted, heard) = (re.findall(rf"^```{kind}\n(.*?)^```", page, re.M | re.S) for kind in ("c", "text"))
+    (source, messages, indexed, writes), (wanted, found, heard) = (re.findall(rf"^```{kind}\n(.*?)^```", page, re.M | re.S) for kind in ("c", "text"))
     include, library = flags_of(moved)
-    # the second block takes the place of a function of the first
+    # the second block takes the place of a function of the first, and so does the third
     own = re.search(r"^static void print_payload\(.*?^\}\n", source, re.M | re.S).group(0)
-    program, reader, writer = (clink.built(put(path, code), os.path.join(folder, name), include, library) for code, name in ((source, "page"), (source.replace(own, messages), "messages"), (writes, "writes")))
+    blocks = {"page": source, "messages": source.replace(own, messages), "indexed": source.replace(own, indexed), "writes": writes}
+    program, reader, finder, writer = (clink.built(put(path, code), os.path.join(folder, name), include, library) for name, code in blocks.items())
     sent = subprocess.run(writer, capture_output=True).stdout
     held("what the program of docs/LIBRARY.md that writes has written, heard by the first", ran(program, sent), (0, heard))
     held("that is one frame", sent, frame(bytes.fromhex(push_rules.events(CAPACITY, sent, 2)[0][8:])))
     meter = open("captures/two-byte-length.bin", "rb").read()
     held("the program of docs/LIBRARY.md", ran(program, meter), (0, wanted))
+    held("the program of docs/LIBRARY.md with an index", ran(finder, meter), (0, found))
     for what, data in (("the capture", meter), ("values", frame(values())), ("the recording", recording()), ("a cut frame", meter[:99]), ("nothing", b"")):
         status, output = ran(program, data)
         held(f"the program of docs/LIBRARY.md, {what}: status", status, 0)
         held_lines(f"the program of docs/LIBRARY.md, {what}", output, paged(data))
         held_lines(f"the program of docs/LIBRARY.md by messages, {what}", ran(reader, data)[1], paged(data, True))
+        held_lines(f"the program of docs/LIBRARY.md with an index, {what}", ran(finder, data)[1], paged(data, True, ASKED_FOR))
     held("a list that is refused in its second entry", paged(recording(), True).count("\n") + 1, paged(recording()).count("\n"))
     held("the largest number and the lost bytes", [line in paged(recording() + meter[:99]).split("\n") for line in ("0100010800ff 18446744073709551615 e0", "0100010800ff -1 e0", "lost 99 bytes")], [True] * 3)
     return include, library

@@ -29,6 +29,14 @@ pub struct Message {
     pub next: u64,
 }
 
+/// `sgh_index`; of what is refused number, kind and place.
+#[repr(C)]
+pub struct Index {
+    pub rows: u64,
+    pub next: u64,
+    pub refused: [u64; 3],
+}
+
 /// `sgh_row`: where an entry of a list stands in the input, from its first length byte on, and where its name does.
 #[repr(C)]
 #[derive(Debug, Clone, Copy, Default, PartialEq, Eq, Hash)]
@@ -46,6 +54,7 @@ pub struct Row {
 // The header's numbers, by its names without SGH_: of answers,
 pub const GOOD: u32 = 0;
 pub const PAYLOAD: u32 = 100;
+pub const NOT_FOUND: u32 = 102;
 pub const PAYLOAD_TOO_LONG: u32 = 1;
 pub const DECODER_OUT_OF_MEMORY: u32 = 3;
 pub const DISCARDED_BYTES: u32 = 6;
@@ -91,12 +100,14 @@ pub const VALUES: usize = 4;
 pub const EVENT_WORDS: usize = 24;
 pub const ROW_NUMBERS: usize = 4;
 pub const MESSAGE_WORDS: usize = 50;
+pub const INDEX_WORDS: usize = 5;
 
-// a struct of another size would be no row, or no message
-const _: () = assert!(size_of::<Row>() == 4 * ROW_NUMBERS && size_of::<Message>() == 8 * MESSAGE_WORDS);
+// a struct of another size would be no row, no message, or no index
+const _: () = assert!(size_of::<Row>() == 4 * ROW_NUMBERS);
+const _: () = assert!(size_of::<Message>() == 8 * MESSAGE_WORDS && size_of::<Index>() == 8 * INDEX_WORDS);
 
 mod c {
-    use super::{Encoder, Event, Message, Reader, State, Values, Writer};
+    use super::{Encoder, Event, Index, Message, Reader, Row, State, Values, Writer};
 
     extern "C" {
         pub fn sgh_decoder_new(d: *mut State, capacity: usize, way: u8) -> u32;
@@ -119,6 +130,16 @@ mod c {
         pub fn sgh_crc(bytes: *const u8, len: usize) -> u16;
         pub fn sgh_next_event(input: *const u8, len: usize, reader: *mut Reader, event: *mut Event) -> u32;
         pub fn sgh_read_message(input: *const u8, len: usize, at: usize, table: *mut u32, table_len: usize, message: *mut Message) -> u32;
+        pub fn sgh_build_index(input: *const u8, len: usize, at: usize, table: *mut u32, table_len: usize, index: *mut Index) -> u32;
+        pub fn sgh_look_up(
+            input: *const u8,
+            len: usize,
+            table: *const u32,
+            table_len: usize,
+            name: *const u8,
+            name_len: usize,
+            row: *mut Row,
+        ) -> u32;
         pub fn sgh_write_event(
             out: *mut u8,
             out_len: usize,
@@ -202,6 +223,18 @@ pub fn next_event(input: &[u8], reader: &mut Reader, event: &mut Event) -> u32 {
 pub fn read_message(input: &[u8], at: usize, table: &mut [Row], message: &mut Message) -> u32 {
     // SAFETY: two `&mut`, which overlap neither with each other nor with `input`, which is good for its length; `repr(C)` makes a row four numbers, one behind the other, and `Message` the struct of the header.
     unsafe { c::sgh_read_message(input.as_ptr(), input.len(), at, table.as_mut_ptr().cast(), ROW_NUMBERS * table.len(), message) }
+}
+
+#[inline]
+pub fn build_index(input: &[u8], at: usize, table: &mut [u32], index: &mut Index) -> u32 {
+    // SAFETY: two `&mut`, which overlap neither with each other nor with `input`; both slices are good for their length, and `repr(C)` makes `Index` the struct of the header.
+    unsafe { c::sgh_build_index(input.as_ptr(), input.len(), at, table.as_mut_ptr(), table.len(), index) }
+}
+
+#[inline]
+pub fn look_up(input: &[u8], table: &[u32], name: &[u8], row: &mut Row) -> u32 {
+    // SAFETY: `row` is a `&mut`, and overlaps with none of the others, which are only read; the three slices are good for their length, and `repr(C)` makes a row the struct of the header.
+    unsafe { c::sgh_look_up(input.as_ptr(), input.len(), table.as_ptr(), table.len(), name.as_ptr(), name.len(), row) }
 }
 
 #[inline]

@@ -2,6 +2,7 @@
 use std::cell::Cell;
 
 use sartrogheo::parser::common::{CloseResponse, ListEntry, ListType, OpenResponse, Status, Time, Value};
+use sartrogheo::parser::index::{build_index, look_up, Index, LookErr};
 use sartrogheo::parser::streaming::{
     GetListResponseEnd, GetListResponseStart, MessageBody, MessageStart, ParseEvent, Parser, UntilRefused,
 };
@@ -130,6 +131,7 @@ fn decoders_and_readers_can_be_sent_and_shared() {
     both::<Writer>();
     both::<UntilRefused>();
     both::<Whole>();
+    both::<Index>();
 }
 
 #[test]
@@ -620,11 +622,12 @@ fn messages_in_one_call_have_the_fields_of_the_events() {
     assert_eq!((events_by_message(bytes, &mut table), table), (Err(ReadErr::TooManyEntries), [MARK; 25]));
 }
 
-/// The number and place of a refusal, which leaves the table.
+/// The number and place of a refusal, which leaves the table; that of an index is the same.
 fn not_read(bytes: &[u8], at: usize) -> (u32, Option<usize>, String) {
-    let mut table = [MARK; 2];
+    let (mut table, mut numbers) = ([MARK; 2], [7; 8]);
     let e = read_message(bytes, at, &mut table).unwrap_err();
     assert_eq!(table, [MARK; 2]);
+    assert_eq!((build_index(bytes, at, &mut numbers).unwrap_err(), numbers), (e, [7; 8]));
     (e.number(), e.place(), e.to_string())
 }
 
@@ -660,4 +663,90 @@ fn a_row_that_is_another_s_has_no_entry_or_name() {
         assert_eq!((row.entry(&CLOSE), row.name(&CLOSE)), (None, None));
     }
     assert_eq!(at(17, 1).entry(&LIST).unwrap().obj_name, &LIST[19..25]);
+}
+
+/// A list of six entries, named b, nothing, ab, the byte 80, a and b, whose values are 0 to 5.
+const SIX: [u8; 85] = [
+    0x76, 3, 0xdd, 0x43, 0x62, 0, 0x62, 0, 0x72, 0x63, 7, 1, 0x77, 1, 2, 0x73, 1, 1, 0x76, 0x77, 2, 0x62, 1, 1, 1, 1, 0x62, 0, 1, 0x77, 1,
+    1, 1, 1, 1, 0x62, 1, 1, 0x77, 3, 0x61, 0x62, 1, 1, 1, 1, 0x62, 2, 1, 0x77, 2, 0x80, 1, 1, 1, 1, 0x62, 3, 1, 0x77, 2, 0x61, 1, 1, 1, 1,
+    0x62, 4, 1, 0x77, 2, 0x62, 1, 1, 1, 1, 0x62, 5, 1, 1, 1, 0x63, 0x3c, 0x55, 0,
+];
+/// Their rows by name.
+const BY_NAME: [u32; 24] = [31, 0, 29, 9, 61, 1, 59, 10, 40, 2, 38, 11, 21, 1, 19, 10, 71, 1, 69, 10, 51, 1, 49, 10];
+
+fn row(numbers: &[u32]) -> Row {
+    Row { name_start: numbers[0], name_len: numbers[1], entry_start: numbers[2], entry_len: numbers[3] }
+}
+
+#[test]
+fn an_index_has_the_rows_by_name() {
+    for room in 0..=30 {
+        let mut table = vec![7; room];
+        let wanted = if room < 24 { Err(ReadErr::TooManyEntries) } else { Ok(Index { rows: &BY_NAME, next: 85 }) };
+        assert_eq!(build_index(&SIX, 0, &mut table), wanted);
+        assert!(table.iter().skip(if room < 24 { 0 } else { 24 }).all(|n| *n == 7));
+    }
+    let bytes = [&CLOSE[..], &SIX, &[0xff]].concat();
+    let mut table = [7; 24];
+    assert_eq!(build_index(&bytes, 0, &mut []), Ok(Index { rows: &[], next: 20 }));
+    let moved: Vec<u32> = BY_NAME.iter().enumerate().map(|(k, n)| if k % 2 == 0 { n + 20 } else { *n }).collect();
+    assert_eq!(build_index(&bytes, 20, &mut table), Ok(Index { rows: &moved, next: 105 }));
+    assert_eq!(not_read(&with(19, 1), 0), (15, Some(19), "MsgEndMismatch at 19".into()));
+    // cut, with no room either, it is the cut that is told
+    assert_eq!(build_index(&SIX[..84], 0, &mut []).map_err(|e| (e.number(), e.place())), Err((10, Some(84))));
+}
+
+#[test]
+fn a_name_gives_its_first_entry() {
+    let value = |name: &[u8]| look_up(&SIX, &BY_NAME, name).map(|found| found.map(|row| row.entry(&SIX).unwrap().value));
+    let names: [(&[u8], u8); 5] = [(b"b", 0), (b"", 1), (b"ab", 2), (&[0x80], 3), (b"a", 4)];
+    for (name, n) in names {
+        assert_eq!(value(name), Ok(Some(Value::U8(n))));
+        assert_eq!(look_up(&SIX, &BY_NAME, name).unwrap().unwrap().name(&SIX), Some(name));
+    }
+    let others: [&[u8]; 6] = [b"abc", b"aa", b"c", &[0x7f], &[0x80, 0x80], &SIX];
+    assert!(others.iter().all(|name| value(name) == Ok(None)));
+    // the table's first rows, and what is none
+    for n in 0..24 {
+        let wanted = if n % 4 != 0 { Err(LookErr::BadSpan) } else { Ok((n >= 16).then(|| row(&BY_NAME[12..]))) };
+        assert_eq!(look_up(&SIX, &BY_NAME[..n], b"b"), wanted);
+    }
+}
+
+#[test]
+fn any_table_may_be_lent() {
+    let said = |table: &[u32], name: &[u8]| look_up(b"aab", table, name);
+    let none = Err(LookErr::BadSpan);
+    assert_eq!((said(&[], b"a"), look_up(&[], &[0; 4], b"")), (Ok(None), Ok(Some(Row::default()))));
+    assert_eq!((said(&[0, 1, 0, 1, 0, 1, 0, 1], b"a"), said(&[0, 1, 2, 1, 1, 1, 1, 1], b"a")), (none, none));
+    assert_eq!(said(&[0, 1, 0, 1, 0, 1, 1, 1], b"a"), Ok(Some(row(&[0, 1, 0, 1]))));
+    assert_eq!(said(&[0, 1, 0, 3, 0, 2, 0, 3, 2, 1, 0, 3], b"aa"), Ok(Some(row(&[0, 2, 0, 3]))));
+    // outside: an entry, a name, and sums over 32 bits
+    for table in [[0, 3, 4, 0], [2, 2, 0, 1], [u32::MAX, 2, 0, 1], [0, 1, u32::MAX, 2]] {
+        assert_eq!(said(&table, b"b"), none);
+    }
+    // the other way, and with what stands behind the rows
+    assert_eq!(look_up(&SIX, &[61, 1, 59, 10, 31, 0, 29, 9], b"a"), none);
+    assert_eq!(look_up(&SIX, &[&BY_NAME[..], &[7; 4]].concat(), b"a"), none);
+    let long = vec![0; LIMIT + 1];
+    assert_eq!((look_up(&long, &[1], b""), look_up(&long, &[], b"")), (Err(LookErr::InputTooLong), Err(LookErr::InputTooLong)));
+    assert_eq!(look_up(&long[1..], &[LIMIT as u32, 0, 0, LIMIT as u32], b"").map(|found| found.is_some()), Ok(true));
+    assert_eq!(
+        [LookErr::InputTooLong, LookErr::BadSpan].map(|e| (e.number(), e.to_string())),
+        [(9, "InputTooLong".into()), (16, "BadSpan".into())]
+    );
+}
+
+#[test]
+fn an_index_is_the_message_s_table_sorted() {
+    let names: [&[u8]; 9] = [b"z", b"", b"ab", &[0xff], b"a", b"z", &[0x7f, 0], b"ab", b""];
+    let one = |(k, name): (usize, &&[u8])| entry([octets(name), vec![1], vec![1], vec![1], vec![1], vec![0x62, k as u8], vec![1]]);
+    let bytes = list(&names.iter().enumerate().map(one).collect::<Vec<_>>());
+    let (mut table, mut numbers) = ([MARK; 9], [7; 36]);
+    let mut rows = read_message(&bytes, 0, &mut table).unwrap().rows.to_vec();
+    let index = build_index(&bytes, 0, &mut numbers).unwrap();
+    let first: Vec<_> = names.iter().map(|name| rows.iter().copied().find(|row| row.name(&bytes) == Some(name))).collect();
+    rows.sort_by_key(|row| (row.name(&bytes), row.entry_start));
+    assert_eq!(index.rows.chunks(4).map(row).collect::<Vec<_>>(), rows);
+    assert_eq!(names.map(|name| look_up(&bytes, index.rows, name).unwrap()).to_vec(), first);
 }

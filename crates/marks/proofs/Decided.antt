@@ -20,6 +20,8 @@ use Rattle.streaming.proofs.Decided as Streaming
 use Rattle.parser.proofs.Decided as Parser
 use Rattle.writer.proofs.Decided as Writer
 use Rattle.whole.proofs.Decided as Whole
+use Rattle.name_order.proofs.Decided as NameOrder
+use Rattle.index.proofs.Decided as Index
 use Rattle.words.proofs.Decided as Words
 use Rattle.sartrogheo.proofs.Decided as Library
 use Rattle.marks.specs.Decided.{Views, Decided}
@@ -44,6 +46,7 @@ views =
       parser = Parser.views;
       writer = Writer.views;
       whole = Whole.views;
+      index = Index.views;
       words = Words.views;
     }
 
@@ -71,6 +74,8 @@ decided =
       parser = Parser.decided;
       writer = Writer.decided;
       whole = Whole.decided;
+      name-order = NameOrder.decided;
+      index = Index.decided;
       words = Words.decided;
       library = Library.decided;
     }

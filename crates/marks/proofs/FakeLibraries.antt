@@ -43,11 +43,14 @@ use Rattle.sartrogheo.specs.Calls.{Reply, sghDecoderNew, sghPushByte, sghPushSl
 use Rattle.sartrogheo.specs.Streams.{encoderIn, sghEncoderNew, sghEncoderNext, sghNextEvent}
 use Rattle.sartrogheo.specs.Writes.{writerIn, sghWriteEvent}
 use Rattle.sartrogheo.specs.Wholes.{messageWords, sghReadMessage}
+use Rattle.sartrogheo.specs.Indexes.{sghBuildIndex, sghLookUp}
+use Rattle.name_order.specs.Order.{lower}
+use Rattle.index.specs.Index.{before, IndexSaid, indexIs, indexBroken, indexRefused, AfterIndex, indexOf, indexTo, rowWithin, every, rising, isTable, firstWith, hasName, FoundSaid, foundRow, foundNone, lookRefused, lookUp}
 use Rattle.marks.specs.Encoders.{callsOf}
 use Rattle.marks.specs.Events.{Numbers, saysAt}
 use Rattle.marks.specs.Chunks.{oneOp, slice, HeardUse, heardUse, usesSay, usesLeave}
-use Rattle.marks.specs.Library.{HearsNew, LentByCaller, CallerBegins, HearsDecoder, HearsEncode, HearsEncoder, HearsReader, HearsWriter, HearsWhole}
-use Rattle.marks.specs.FakeLibraries.{leavesNumbers, deniesNew, keepsValues, handsBuffer, paysAlways, leavesLast, forgetsSlice, encodesNothing, forgetsCount, losesPlace, losesSign, losesKind, forgetsPlace, mistakesWords, placesAtZero, nextUntold, endLeft, FallLibraries}
+use Rattle.marks.specs.Library.{HearsNew, LentByCaller, CallerBegins, HearsDecoder, HearsEncode, HearsEncoder, HearsReader, HearsWriter, lentAt, HearsWhole, HearsIndex}
+use Rattle.marks.specs.FakeLibraries.{leavesNumbers, deniesNew, keepsValues, handsBuffer, paysAlways, leavesLast, forgetsSlice, encodesNothing, forgetsCount, losesPlace, losesSign, losesKind, forgetsPlace, mistakesWords, placesAtZero, nextUntold, endLeft, indexPlaceLost, indexClears, rowsLeft, noneIsZeros, nameLeft, rowCleared, FallLibraries}
 use Rattle.marks.proofs.Narrow.{zeros-bytes}
 
 abbrev blank : LentByCaller
@@ -207,6 +210,43 @@ end-left : HearsWhole endLeft → ⊥
 unfolding then guard need byteAt tlfAt lengthFrom listOfAt startAt wholeAt fillTo readTo withZeros same messageWords sghReadMessage
 end-left h = let n : _≡_ {A = ℕ} 1 0 = ap (λ (l : List ℕ). wordAt l 47) (h .words [] 0 []) in omega (arith, n)
 
+-- ---- an index
+
+placeTold : IndexSaid → ℕ
+placeTold (indexIs rows next) = next
+placeTold (indexBroken f) = f .place
+placeTold (indexRefused n) = 0
+
+index-place-lost : HearsIndex indexPlaceLost → ⊥
+unfolding placeTold then guard need byteAt tlfAt lengthFrom listOfAt startAt wholeAt fillTo readTo indexOf indexTo withZeros same sghBuildIndex
+index-place-lost h = let n : _≡_ {A = ℕ} 0 1 = ap (λ (a : AfterIndex). placeTold (a .answer)) (h .builds (0x10 ∷ 0x10 ∷ []) 1 []) in omega (arith, n)
+
+index-clears : HearsIndex indexClears → ⊥
+unfolding then guard need byteAt tlfAt lengthFrom listOfAt startAt wholeAt fillTo readTo indexOf indexTo withZeros same sghBuildIndex
+index-clears h = let n : _≡_ {A = ℕ} 0 7 = ap (λ (a : AfterIndex). getD (a .table) 0 0) (h .builds [] 0 (7 ∷ [])) in omega (arith, n)
+
+rows-left : HearsIndex rowsLeft → ⊥
+unfolding then guard need byteAt tlfAt lengthFrom listOfAt startAt wholeAt fillTo readTo indexOf indexTo withZeros same sghBuildIndex
+rows-left h = let n : _≡_ {A = ℕ} 1 0 = ap (λ (l : List ℕ). wordAt l 0) (h .words [] 0 []) in omega (arith, n)
+
+answerTold : FoundSaid → ℕ
+answerTold (foundRow r) = r .name .start
+answerTold foundNone = 100
+answerTold (lookRefused n) = n
+
+none-is-zeros : HearsIndex noneIsZeros → ⊥
+unfolding answerTold same isWithin partOf lower before rowWithin every rising isTable firstWith hasName lookUp flat sghLookUp
+none-is-zeros h = let n : _≡_ {A = ℕ} 0 100 = ap answerTold (h .finds (7 ∷ 7 ∷ 7 ∷ 7 ∷ []) [] [] []) in omega (arith, n)
+
+-- the empty name, of a row of zeros
+name-left : HearsIndex nameLeft → ⊥
+unfolding answerTold same isWithin partOf lower before rowWithin every rising isTable firstWith hasName lookUp flat sghLookUp
+name-left h = let n : _≡_ {A = ℕ} 7 0 = ap answerTold (h .finds (7 ∷ 7 ∷ 7 ∷ 7 ∷ []) [] (0 ∷ 0 ∷ 0 ∷ 0 ∷ []) []) in omega (arith, n)
+
+row-cleared : HearsIndex rowCleared → ⊥
+unfolding same isWithin partOf lower before rowWithin every rising isTable firstWith hasName lookUp flat sghLookUp
+row-cleared h = let n : _≡_ {A = ℕ} 0 7 = ap (λ (r : Reply). wordAt (lentAt r 0) 0) (h .leaves (7 ∷ 7 ∷ 7 ∷ 7 ∷ []) [] [] [] (λ e. omega (arith, e))) in omega (arith, n)
+
 pub fall-libraries : FallLibraries
 fall-libraries =
     record {
@@ -227,4 +267,10 @@ fall-libraries =
       places-at-zero = places-at-zero;
       next-untold = next-untold;
       end-left = end-left;
+      index-place-lost = index-place-lost;
+      index-clears = index-clears;
+      rows-left = rows-left;
+      none-is-zeros = none-is-zeros;
+      name-left = name-left;
+      row-cleared = row-cleared;
     }

@@ -254,14 +254,17 @@ next-tells s at start pending =
     (λ u. rw (t, u) (omega arith)))
 
 -- a refusal with a place is one of 10 to 15
+pub stands-between : {A : Type 0} {read : List ℕ → Read A} {s : List ℕ} {start : ℕ} (f : Refusal) (q : ℕ) → Stands read s start f q → (10 ≤ f .number) × (f .number ≤ 15)
+stands-between f q over = omega arith
+stands-between f q (badLength kind p q′ x i e) = omega arith
+stands-between f q (unwanted t p n x i e) = omega arith
+stands-between f q (messageTag tag p n x i e a b c) = omega arith
+stands-between f q (timeTag tag p n x i e a) = omega arith
+stands-between f q (otherCrc crc p n x i e l z a) = omega arith
+stands-between f q (otherEnd p x l a) = omega arith
+
 pub stands-refuses : {A : Type 0} {read : List ℕ → Read A} {s : List ℕ} {start : ℕ} (f : Refusal) (q : ℕ) → Stands read s start f q → IsRefusal (f .number)
-stands-refuses f q over = omega arith
-stands-refuses f q (badLength kind p q′ x i e) = omega arith
-stands-refuses f q (unwanted t p n x i e) = omega arith
-stands-refuses f q (messageTag tag p n x i e a b c) = omega arith
-stands-refuses f q (timeTag tag p n x i e a) = omega arith
-stands-refuses f q (otherCrc crc p n x i e l z a) = omega arith
-stands-refuses f q (otherEnd p x l a) = omega arith
+stands-refuses f q h = omega (arith, stands-between f q h)
 
 call-refuses : (s : List ℕ) (at start pending : ℕ) (f : Refusal) → CallBroke s at start pending f → IsRefusal (f .number)
 call-refuses s at start pending f (inStart f′ l b) = stands-refuses f _ (b .stands)

@@ -18,14 +18,14 @@ use Rattle.events.proofs.Calls.{SoundReader, sound-next}
 use Rattle.words.specs.Words.{withZeros, eventWords}
 use Rattle.words.specs.Back.{wordAt}
 use Rattle.words.proofs.Laws.{event-words-length}
-use Rattle.whole.specs.Whole.{EntryRow, WholeSaid, wholeIs, broken, refusedAlone, AfterWhole, readTo}
+use Rattle.whole.specs.Whole.{EntryRow, WholeSaid, wholeIs, broken, refusedAlone, AfterWhole, readTo, Fair, rowsOf}
 use Rattle.whole.specs.Answers.{afterWhole}
+use Rattle.whole.proofs.Outcomes.{WholeOutcome, tooLong, placeBeyond, brokenAt, tableFull, takenWhole, whole-outcome}
 use Rattle.sartrogheo.specs.Calls.{goodNo, Reply, reply}
 use Rattle.sartrogheo.specs.Streams.{readerNo}
 use Rattle.sartrogheo.specs.Wholes.{startSaid, listEndSaid, endSaid, rowsSaid, nextSaid, messageWords, sghReadMessage}
-use Rattle.one_call.specs.Readers.{WholeReader, ourWholeReader, Fair, RunsTo, RowIs, RowsAre, rowsOf, ReadAs, GoodWholeReader}
+use Rattle.one_call.specs.Readers.{WholeReader, ourWholeReader, RunsTo, RowIs, RowsAre, ReadAs, GoodWholeReader}
 use Rattle.one_call.proofs.Runs.{failedOr}
-use Rattle.one_call.proofs.Outcomes.{WholeOutcome, tooLong, placeBeyond, brokenAt, tableFull, takenWhole, whole-outcome}
 use Rattle.one_call.proofs.Readers.{ours-good}
 use Rattle.marks.specs.Events.{ourReader, saysAt}
 use Rattle.marks.specs.Library.{Library, ourLibrary, lentAt, heardEvent, readerBy, HearsReader, wholeHeard, endAmong, endHeard, wholeReaderBy, HearsWhole, EntriesHeard, RowsHeard}
@@ -133,7 +133,7 @@ entry-said : (s : List ℕ) (p n : ℕ) (e : ListEntry Span) → SoundReader s p
 unfolding stepAt entryNext onward
 entry-said s p n e h q = rw (sound-next s p p 3 h, q)
 
-entries-heard : (L : Library) → HearsReader L → (s : List ℕ) → length s ≤ limit → (rows : List EntryRow) (es : List (ListEntry Span)) → RowsAre s rows es → EntriesHeard L s rows es
+pub entries-heard : (L : Library) → HearsReader L → (s : List ℕ) → length s ≤ limit → (rows : List EntryRow) (es : List (ListEntry Span)) → RowsAre s rows es → EntriesHeard L s rows es
 unfolding saysAt
 entries-heard L h s short [] [] k = tt
 entries-heard L h s short (r ∷ rows) (e ∷ es) k =

@@ -21,6 +21,7 @@ pub mod HeardAnswer
 pub mod HeardEvent
 pub mod HeardWriter
 pub mod HeardWhole
+pub mod HeardIndex
 pub mod Library
 pub mod LibraryMarks
 pub mod Decided

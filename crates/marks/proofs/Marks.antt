@@ -6,6 +6,11 @@ use Rattle.one_call.proofs.Readers.{ours-good}
 use Rattle.one_call.proofs.Unique.{only-ours}
 use Rattle.one_call.proofs.Bench.{whole-bench}
 use Rattle.one_call.proofs.Fakes.{fall-whole-readers}
+use Rattle.by_name.proofs.Indexes.{ours-good-index, ours-judges}
+use Rattle.by_name.proofs.Unique.{only-our-indexer, only-our-finder, always-finds}
+use Rattle.by_name.proofs.Rest.{never-reads-on}
+use Rattle.by_name.proofs.Bench.{index-bench, lookup-bench}
+use Rattle.by_name.proofs.Fakes.{fall-indexes}
 use Rattle.words.proofs.Back.{back-claims}
 use Rattle.words.proofs.Fakes.{back-fakes}
 use Rattle.places.proofs.Readers.{readers}
@@ -81,6 +86,7 @@ marks =
       library-reader = hears-ours .reader;
       library-writer = hears-ours .writer;
       library-whole = hears-ours .whole;
+      library-index = hears-ours .index;
       library-gives = library-gives;
       library-marks = marks-by;
       words-back = back-claims;
@@ -91,6 +97,15 @@ marks =
       only-whole = only-ours;
       whole-bench = whole-bench;
       fall-whole-readers = fall-whole-readers;
+      index = ours-good-index;
+      only-index = only-our-indexer;
+      index-reads-on = never-reads-on;
+      lookup = ours-judges;
+      only-lookup = only-our-finder;
+      finds-first = always-finds;
+      index-bench = index-bench;
+      lookup-bench = lookup-bench;
+      fall-indexes = fall-indexes;
       overflows = overflows;
       readers = readers;
       reader-says-where = reader-says-where;

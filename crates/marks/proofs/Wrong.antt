@@ -15,8 +15,8 @@ use Rattle.marks.specs.Events.{ReaderGives, GoesOn, readerWith, ListsEnt
 use Rattle.marks.specs.Fakes.{refusesAll, constant, idle, invents, once, stale, hasty, forgiving, firstOnly, countsEight, deaf, forgetsWay, servesAnyWay, swallows, takesNone, withholds, shrugs, forgetful, blamesTheMessage, saysItAgain, writesNothing, finishedAtOnce, withoutEvents, noEntries}
 use Rattle.marks.specs.FakeHosts.{unpacksNothing, packsConstants, packsAny, unpacksAny, onlyAnswers, saysNothingEver, handsNothing, clearsRefused, growsOutput, clearsRest}
 use Rattle.marks.proofs.Fakes.{not-ours, fall}
-use Rattle.marks.specs.Library.{HearsNew, HearsDecoder, HearsEncode, HearsEncoder, HearsReader, HearsWriter, HearsWhole}
-use Rattle.marks.specs.FakeLibraries.{deniesNew, keepsValues, handsBuffer, paysAlways, leavesLast, forgetsSlice, encodesNothing, forgetsCount, losesPlace, losesSign, losesKind, forgetsPlace, leavesNumbers, mistakesWords, placesAtZero, nextUntold, endLeft}
+use Rattle.marks.specs.Library.{HearsNew, HearsDecoder, HearsEncode, HearsEncoder, HearsReader, HearsWriter, HearsWhole, HearsIndex}
+use Rattle.marks.specs.FakeLibraries.{deniesNew, keepsValues, handsBuffer, paysAlways, leavesLast, forgetsSlice, encodesNothing, forgetsCount, losesPlace, losesSign, losesKind, forgetsPlace, leavesNumbers, mistakesWords, placesAtZero, nextUntold, endLeft, indexPlaceLost, indexClears, rowsLeft, noneIsZeros, nameLeft, rowCleared}
 use Rattle.marks.specs.FakeLarger.{storesLess, secondStoresLess, largerHandsNothing, handsTheBuffer, resetCountsRoom, finalizeCountsRoom, hesitates, looksAhead, deniesLarger, ForAnyTwo, AcrossWays, FullAnswerToo, HearsAsMany}
 use Rattle.marks.proofs.FakeHosts.{fall-hosts}
 use Rattle.marks.proofs.FakeLarger.{fall-larger}
@@ -183,6 +183,24 @@ fake-next-place-not-told = fall-libraries .next-untold
 
 fake-unused-words-left : HearsWhole endLeft → ⊥
 fake-unused-words-left = fall-libraries .end-left
+
+fake-index-refused-without-a-place : HearsIndex indexPlaceLost → ⊥
+fake-index-refused-without-a-place = fall-libraries .index-place-lost
+
+fake-refused-index-clears-the-table : HearsIndex indexClears → ⊥
+fake-refused-index-clears-the-table = fall-libraries .index-clears
+
+fake-rows-of-a-refused-index : HearsIndex rowsLeft → ⊥
+fake-rows-of-a-refused-index = fall-libraries .rows-left
+
+fake-none-is-a-row-of-zeros : HearsIndex noneIsZeros → ⊥
+fake-none-is-a-row-of-zeros = fall-libraries .none-is-zeros
+
+fake-found-row-without-its-name : HearsIndex nameLeft → ⊥
+fake-found-row-without-its-name = fall-libraries .name-left
+
+fake-row-cleared-where-none-is-found : HearsIndex rowCleared → ⊥
+fake-row-cleared-where-none-is-found = fall-libraries .row-cleared
 
 fake-larger-buffer-stores-less : Larger (storesLess .machine) → ⊥
 fake-larger-buffer-stores-less = fall-larger .stores-less

@@ -20,6 +20,8 @@ use Rattle.streaming.specs.Decided as Streaming
 use Rattle.parser.specs.Decided as Parser
 use Rattle.writer.specs.Decided as Writer
 use Rattle.whole.specs.Decided as Whole
+use Rattle.name_order.specs.Decided as NameOrder
+use Rattle.index.specs.Decided as Index
 use Rattle.words.specs.Decided as Words
 use Rattle.sartrogheo.specs.Decided as Library
 
@@ -42,6 +44,7 @@ pub record Views : Type 0 where
   pub parser : Parser.Views
   pub writer : Writer.Views
   pub whole : Whole.Views
+  pub index : Index.Views
   pub words : Words.Views
 
 -- one outcome for each input: answer, record and the content of lent memory. No public function has a `requires`
@@ -67,5 +70,7 @@ pub record Decided : Type 0 where
   pub parser : Parser.Decided
   pub writer : Writer.Decided
   pub whole : Whole.Decided
+  pub name-order : NameOrder.Decided
+  pub index : Index.Decided
   pub words : Words.Decided
   pub library : Library.Decided

@@ -1,14 +1,17 @@
 -- check: fakes of a library, and which claim is false of each.
+use mathlib.Core.Bool.{cond}
 use mathlib.Core.List.{List, [], _∷_}
 use Prim.Native.Nat.{ℕ, _-_, _%_}
-use lib.ListN.{length, set}
+use lib.ListN.{length, set, replicate}
+use lib.Dec.{eqb}
 use Rattle.crc_x25.specs.Crc.{crcOf}
 use Rattle.sartrogheo.specs.Calls.{Reply, reply, sghDecoderNew, sghPushByte, sghPushSlice, sghPayload, sghFinalize, sghReset, sghEncode}
 use Rattle.sartrogheo.specs.Streams.{sghEncoderNew, sghEncoderNext, sghNextEvent}
 use Rattle.sartrogheo.specs.Writes.{sghWriteEvent}
 use Rattle.sartrogheo.specs.Wholes.{sghReadMessage}
+use Rattle.sartrogheo.specs.Indexes.{sghBuildIndex, sghLookUp}
 use Rattle.words.specs.Back.{wordAt}
-use Rattle.marks.specs.Library.{Library, lentAt, firstAt, HearsNew, HearsDecoder, HearsEncode, HearsEncoder, HearsReader, HearsWriter, HearsWhole}
+use Rattle.marks.specs.Library.{Library, lentAt, firstAt, HearsNew, HearsDecoder, HearsEncode, HearsEncoder, HearsReader, HearsWriter, HearsWhole, HearsIndex}
 
 -- ours, but for the calls that make a decoder, push a slice, ask for the payload and finalize; or for those over frames and messages
 abbrev pub withDecoder : (List ℕ → ℕ → ℕ → Reply) → (List ℕ → List ℕ → List ℕ → List ℕ → Reply) → (List ℕ → List ℕ → Reply) → (List ℕ → List ℕ → Reply) → Library
@@ -27,6 +30,8 @@ withDecoder new slice payload finalize =
       nextEvent = sghNextEvent;
       writeEvent = sghWriteEvent;
       readMessage = sghReadMessage;
+      buildIndex = sghBuildIndex;
+      findsRow = sghLookUp;
     }
 
 abbrev pub withMessages : (List ℕ → List ℕ → Reply) → (List ℕ → List ℕ → ℕ → Reply) → (List ℕ → List ℕ → Reply) → (List ℕ → List ℕ → List ℕ → List ℕ → Reply) → Library
@@ -45,6 +50,8 @@ withMessages encode next event write =
       nextEvent = event;
       writeEvent = write;
       readMessage = sghReadMessage;
+      buildIndex = sghBuildIndex;
+      findsRow = sghLookUp;
     }
 
 abbrev pub withFrames : (List ℕ → List ℕ → Reply) → (List ℕ → List ℕ → ℕ → Reply) → (List ℕ → List ℕ → Reply) → Library
@@ -110,9 +117,9 @@ leavesNumbers = withMessages sghEncode sghEncoderNext sghNextEvent (λ out strin
 abbrev pub mistakesWords : Library
 mistakesWords = withMessages sghEncode sghEncoderNext sghNextEvent (λ out strings e w. reply 17 (out ∷ w ∷ []))
 
--- ours, but for the call that reads a whole message
-abbrev pub withWhole : (List ℕ → ℕ → List ℕ → Reply) → Library
-withWhole read =
+-- ours, but for the calls that read a whole message, build an index, and look a name up
+abbrev pub withTables : (List ℕ → ℕ → List ℕ → Reply) → (List ℕ → ℕ → List ℕ → Reply) → (List ℕ → List ℕ → List ℕ → List ℕ → Reply) → Library
+withTables read build find =
     record {
       decoderNew = sghDecoderNew;
       pushByte = sghPushByte;
@@ -127,7 +134,12 @@ withWhole read =
       nextEvent = sghNextEvent;
       writeEvent = sghWriteEvent;
       readMessage = read;
+      buildIndex = build;
+      findsRow = find;
     }
+
+abbrev pub withWhole : (List ℕ → ℕ → List ℕ → Reply) → Library
+withWhole read = withTables read sghBuildIndex sghLookUp
 
 -- the table in its reply, and the words
 abbrev pub wordsBy : (List ℕ → List ℕ) → Reply → Reply
@@ -144,6 +156,30 @@ nextUntold = withWhole (λ s at t. wordsBy (λ w. set w 49 at) (sghReadMessage s
 -- the words of the end are left as 1
 abbrev pub endLeft : Library
 endLeft = withWhole (λ s at t. wordsBy (λ w. set w 47 1) (sghReadMessage s at t))
+
+-- of an index's refusal the number is told, and not its place
+abbrev pub indexPlaceLost : Library
+indexPlaceLost = withTables sghReadMessage (λ s at t. wordsBy (λ w. set w 4 0) (sghBuildIndex s at t)) sghLookUp
+
+-- behind a refusal the table holds zeros
+abbrev pub indexClears : Library
+indexClears = withTables sghReadMessage (λ s at t. let r : Reply = sghBuildIndex s at t in reply (r .number) (cond (eqb (r .number) 0) (lentAt r 0) (replicate (length t) 0) ∷ lentAt r 1 ∷ [])) sghLookUp
+
+-- behind a refusal the number of rows is 1
+abbrev pub rowsLeft : Library
+rowsLeft = withTables sghReadMessage (λ s at t. wordsBy (λ w. cond (eqb (wordAt w 2) 0) w (set w 0 1)) (sghBuildIndex s at t)) sghLookUp
+
+-- none is told as a row of zeros
+abbrev pub noneIsZeros : Library
+noneIsZeros = withTables sghReadMessage sghBuildIndex (λ s t name row. let r : Reply = sghLookUp s t name row in cond (eqb (r .number) 102) (reply 0 ((0 ∷ 0 ∷ 0 ∷ 0 ∷ []) ∷ [])) r)
+
+-- the entry is told alone, and the name's place left
+abbrev pub nameLeft : Library
+nameLeft = withTables sghReadMessage sghBuildIndex (λ s t name row. let r : Reply = sghLookUp s t name row in reply (r .number) ((wordAt row 0 ∷ wordAt row 1 ∷ wordAt (lentAt r 0) 2 ∷ wordAt (lentAt r 0) 3 ∷ []) ∷ []))
+
+-- a row that isn't found is cleared
+abbrev pub rowCleared : Library
+rowCleared = withTables sghReadMessage sghBuildIndex (λ s t name row. let r : Reply = sghLookUp s t name row in reply (r .number) (cond (eqb (r .number) 0) (lentAt r 0) (0 ∷ 0 ∷ 0 ∷ 0 ∷ []) ∷ []))
 
 pub record FallLibraries : Type 0 where
   pub denies-new : HearsNew deniesNew → ⊥
@@ -163,3 +199,9 @@ pub record FallLibraries : Type 0 where
   pub places-at-zero : HearsWhole placesAtZero → ⊥
   pub next-untold : HearsWhole nextUntold → ⊥
   pub end-left : HearsWhole endLeft → ⊥
+  pub index-place-lost : HearsIndex indexPlaceLost → ⊥
+  pub index-clears : HearsIndex indexClears → ⊥
+  pub rows-left : HearsIndex rowsLeft → ⊥
+  pub none-is-zeros : HearsIndex noneIsZeros → ⊥
+  pub name-left : HearsIndex nameLeft → ⊥
+  pub row-cleared : HearsIndex rowCleared → ⊥

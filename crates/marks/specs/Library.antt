@@ -1,13 +1,13 @@
--- claim: the library, as a caller in C hears it. What is read out of the numbers that its calls give and leave is what is said of a decoder, an encode, an Encoder, a reader, a writer and a reader of whole messages by value, call by call. So what is claimed of new decoders in use stands for what a collector links.
+-- claim: the library, as a caller in C hears it. What is read out of the numbers that its calls give and leave is what is said of a decoder, an encode, an Encoder, a reader, a writer, a reader of whole messages and an index by value, call by call. So what is claimed of new decoders in use stands for what a collector links.
 use mathlib.Core.Path.{_≡_}
-use mathlib.Core.Bool.{cond}
+use mathlib.Core.Bool.{cond, _||_}
 use mathlib.Core.List.{List, [], _∷_, _++_}
 use mathlib.Core.Option.{Option, some, none}
-use Prim.Native.Nat.{ℕ, suc, _+_, _-_, _^_, _≤_, _<_}
+use Prim.Native.Nat.{ℕ, suc, _+_, _-_, _*_, _^_, _≤_, _<_}
 use lib.IntN.{ℤ, pos, negsuc}
 use lib.ListN.{length, take, drop, getD}
 use lib.Dec.{eqb, ltb}
-use Rattle.refusals.specs.Numbers.{badStateNo, wrongBufferNo, discardedBytesNo, invalidEscNo, invalidMessageNo, limit}
+use Rattle.refusals.specs.Numbers.{badStateNo, wrongBufferNo, discardedBytesNo, invalidEscNo, invalidMessageNo, inputTooLongNo, tooManyEntriesNo, limit}
 use Rattle.refusals.specs.declared.Span.{Span}
 use Rattle.crc_x25.specs.Crc.{crcOf}
 use Rattle.frame.specs.Frame.{same}
@@ -26,19 +26,23 @@ use Rattle.writer.specs.declared.Head.{Head}
 use Rattle.writer.specs.declared.ListState.{ListState}
 use Rattle.writer.specs.declared.ListState.the-variants.{Entries, Ended}
 use Rattle.writer.specs.declared.ListWriter.{ListWriter}
-use Rattle.whole.specs.Whole.{EntryRow, WholeSaid, wholeIs, broken, refusedAlone}
+use Rattle.whole.specs.Whole.{EntryRow, flat, WholeSaid, wholeIs, broken, refusedAlone, Fair, rowsOf}
 use Rattle.whole.specs.Answers.{afterWhole}
 use Rattle.events.specs.Message.{Message}
 use Rattle.written.specs.Calls.{Writer, ourWriter}
-use Rattle.one_call.specs.Readers.{WholeReader, ourWholeReader, Fair, RunsTo, rowsOf, GoodWholeReader}
+use Rattle.one_call.specs.Readers.{WholeReader, ourWholeReader, RunsTo, RowIs, GoodWholeReader}
+use Rattle.index.specs.Index.{IndexSaid, indexIs, indexBroken, indexRefused, FoundSaid, foundRow, foundNone, lookRefused}
+use Rattle.index.specs.Answers.{afterIndex}
+use Rattle.by_name.specs.Indexes.{Indexer, Finder, ourIndexer, ourFinder, GoodIndexer, FirstNamed, JudgesTables, entryName}
 use Rattle.streaming.specs.Next.{MessageEvent, startEvent, entryEvent, endEvent, Said, event, noEvent, failed, alone}
 use Rattle.words.specs.Words.{eventWords}
 use Rattle.words.specs.Back.{wordAt, spanIn, fieldIn}
 use Rattle.words.specs.Claims.{EventInTypes}
-use Rattle.sartrogheo.specs.Calls.{goodNo, payloadNo, finishedNo, Reply, reply, answerNo, encodeLen, sghDecoderNew, sghPushByte, sghPushSlice, sghPayload, sghFinalize, sghReset, sghEncode}
+use Rattle.sartrogheo.specs.Calls.{goodNo, payloadNo, finishedNo, notFoundNo, Reply, reply, answerNo, encodeLen, sghDecoderNew, sghPushByte, sghPushSlice, sghPayload, sghFinalize, sghReset, sghEncode}
 use Rattle.sartrogheo.specs.Streams.{readerNo, sghEncoderNew, sghEncoderNext, sghNextEvent}
 use Rattle.sartrogheo.specs.Writes.{writerWords, endedAfter, headFields, sghWriteEvent}
 use Rattle.sartrogheo.specs.Wholes.{messageWords, sghReadMessage}
+use Rattle.sartrogheo.specs.Indexes.{indexWords, sghBuildIndex, sghLookUp}
 use Rattle.marks.specs.Decoders.{Gave, Machine, ours, LeftBehind}
 use Rattle.marks.specs.Mark2.{PushesBytes, SoundBehind}
 use Rattle.marks.specs.Mark3.{Encode, ourEncode, Job, AllSuit, HeardBehindZeros}
@@ -48,7 +52,7 @@ use Rattle.marks.specs.Packed.{AreBytes}
 use Rattle.marks.specs.Encoders.{Caller, ourEncoder, callsOf}
 use Rattle.marks.specs.Events.{Reader, Numbers, ourReader, saysAt}
 
--- what each call gives of what it is lent, in the header's order
+-- what each call gives of what it is lent
 pub record Library : Type 0 where
   pub decoderNew : List ℕ → ℕ → ℕ → Reply  -- the decoder's bytes, capacity, way
   pub pushByte : List ℕ → List ℕ → ℕ → List ℕ → Reply  -- the decoder's bytes, the buffer, a byte, the values
@@ -63,6 +67,8 @@ pub record Library : Type 0 where
   pub nextEvent : List ℕ → List ℕ → Reply  -- the input, the reader's numbers
   pub writeEvent : List ℕ → List ℕ → List ℕ → List ℕ → Reply  -- the output, the strings, the event's words, the writer's numbers
   pub readMessage : List ℕ → ℕ → List ℕ → Reply  -- the input, a place, the table
+  pub buildIndex : List ℕ → ℕ → List ℕ → Reply  -- the same
+  pub findsRow : List ℕ → List ℕ → List ℕ → List ℕ → Reply  -- the input, the table, a name, the row
 
 -- ours, by the definitions that the contracts of the exports cite
 abbrev pub ourLibrary : Library
@@ -81,6 +87,8 @@ ourLibrary =
       nextEvent = sghNextEvent;
       writeEvent = sghWriteEvent;
       readMessage = sghReadMessage;
+      buildIndex = sghBuildIndex;
+      findsRow = sghLookUp;
     }
 
 -- what the k-th thing that may be written holds behind a call, counted from 0; the first number in it
@@ -354,6 +362,37 @@ pub record HearsWhole (L : Library) : Type 0 where
   pub reads : (s : List ℕ) (at : ℕ) (t : List ℕ) → wholeReaderBy L s at t ≡ ourWholeReader s at t
   pub words : (s : List ℕ) (at : ℕ) (t : List ℕ) → lentAt (L .readMessage s at t) 1 ≡ messageWords (wholeReaderBy L s at t .answer)
 
+-- ---- an index
+
+-- what the number and the five words say: 4, 9 and 20 stand at no place, every other refusal at one
+abbrev pub indexHeard : ℕ → List ℕ → IndexSaid
+indexHeard number w =
+    cond (eqb number goodNo) (indexIs (wordAt w 0) (wordAt w 1))
+    (cond (eqb number badStateNo || (eqb number inputTooLongNo || eqb number tooManyEntriesNo)) (indexRefused number)
+    (indexBroken (record { number = number; kind = wordAt w 3; place = wordAt w 4 })))
+
+abbrev pub indexerBy : Library → Indexer
+indexerBy L s at t = let r : Reply = L .buildIndex s at t in afterIndex (indexHeard (r .number) (lentAt r 1)) (lentAt r 0)
+
+-- a row's four numbers, and what is told with them
+abbrev pub rowHeard : List ℕ → EntryRow
+rowHeard w = record { name = record { start = wordAt w 0; len = wordAt w 1 }; entry = record { start = wordAt w 2; len = wordAt w 3 } }
+
+abbrev pub foundHeard : ℕ → List ℕ → FoundSaid
+foundHeard number w = cond (eqb number goodNo) (foundRow (rowHeard w)) (cond (eqb number notFoundNo) foundNone (lookRefused number))
+
+-- a lookup by the library's call, whatever stood in the row that is lent
+abbrev pub finderBy : Library → List ℕ → Finder
+finderBy L row s t name = let r : Reply = L .findsRow s t name row in foundHeard (r .number) (lentAt r 0)
+
+-- of any input, place and table what is heard, and what the table holds then, is what ours says; all five words are those of what is heard. Of any input, table and name what is found is what ours finds; a row that is found is four numbers, and else what is lent for it stays
+pub record HearsIndex (L : Library) : Type 0 where
+  pub builds : (s : List ℕ) (at : ℕ) (t : List ℕ) → indexerBy L s at t ≡ ourIndexer s at t
+  pub words : (s : List ℕ) (at : ℕ) (t : List ℕ) → lentAt (L .buildIndex s at t) 1 ≡ indexWords (indexerBy L s at t .answer)
+  pub finds : (row s t name : List ℕ) → finderBy L row s t name ≡ ourFinder s t name
+  pub numbers : (row s t name : List ℕ) → let r : Reply = L .findsRow s t name row in r .number ≡ goodNo → lentAt r 0 ≡ flat (rowHeard (lentAt r 0) ∷ [])
+  pub leaves : (row s t name : List ℕ) → let r : Reply = L .findsRow s t name row in (r .number ≡ goodNo → ⊥) → r ≡ reply (r .number) (row ∷ [])
+
 pub record HearsOurs (L : Library) : Type 0 where
   pub new : HearsNew L
   pub decoder : HearsDecoder L
@@ -363,6 +402,7 @@ pub record HearsOurs (L : Library) : Type 0 where
   pub reader : HearsReader L
   pub writer : HearsWriter L
   pub whole : HearsWhole L
+  pub index : HearsIndex L
 
 -- ---- the marks, of what is linked
 
@@ -406,7 +446,7 @@ pub record CallersBegin (C D : Setup) (c c′ : LentByCaller) (m n : List ℕ) :
   pub ways : C .way ≡ D .way
   pub sizes : C .capacity ≤ D .capacity
 
--- mark 2's soundness, and mark 3 with the library's own encode, both by single pushes; what a slice says is what single pushes say (`HearsDecoder`, and `Chunks` of ours). A larger buffer takes nothing away, whatever each caller lends beside it, given the same slices or slices of its own. A whole message is read in one call as a good reader does, and its entries are heard at their rows
+-- mark 2's soundness, and mark 3 with the library's own encode, both by single pushes; what a slice says is what single pushes say (`HearsDecoder`, and `Chunks` of ours). A larger buffer takes nothing away, whatever each caller lends beside it, given the same slices or slices of its own. A whole message is read in one call as a good reader does, and its entries are heard at their rows. An index is built as a good one is, any table is judged, and the first entry with a name is found and heard at its row
 pub record MarksBy (L : Library) : Type 0 where
   pub soundness : (C : Setup) (c : LentByCaller) (m : List ℕ) → CallerBegins C c m
       → (decoderBy L c .payloadOf (decoderBy L c .new C) m ≡ []) × ((os : List Op) (o : Op) → PushesBytes (os ++ o ∷ []) → SoundBehind (decoderBy L c) C m os o)
@@ -418,3 +458,7 @@ pub record MarksBy (L : Library) : Type 0 where
   pub whole : GoodWholeReader (wholeReaderBy L)
   pub rows : (s : List ℕ) (at : ℕ) (t : List ℕ) (start : MessageStart Span) (end : Option (ListEnd Span)) (rows next : ℕ) → Fair s at → wholeReaderBy L s at t .answer ≡ wholeIs start end rows next
       → RowsHeard L s at next (rowsOf rows (wholeReaderBy L s at t .table))
+  pub index : GoodIndexer (indexerBy L)
+  pub lookup : (row : List ℕ) → JudgesTables (finderBy L row)
+  pub finds : (row s : List ℕ) (at : ℕ) (t : List ℕ) (next : ℕ) (m : Message Span) → Fair s at → RunsTo s at next m → (rows p : ℕ) → indexerBy L s at t .answer ≡ indexIs rows p
+      → (name : List ℕ) → FirstNamed (entryName s) (λ r e. RowIs s r e × EntriesHeard L s (r ∷ []) (e ∷ [])) name (m .content .entries) (finderBy L row s (take (4 * rows) (indexerBy L s at t .table)) name)

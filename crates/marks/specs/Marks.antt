@@ -20,6 +20,9 @@ use Rattle.written.specs.Fakes.{FallWriters}
 use Rattle.one_call.specs.Readers.{ourWholeReader, GoodWholeReader, OnlyOurs}
 use Rattle.one_call.specs.Bench.{WholeBench}
 use Rattle.one_call.specs.Fakes.{FallWholeReaders}
+use Rattle.by_name.specs.Indexes.{ourIndexer, ourFinder, GoodIndexer, JudgesTables, AlwaysFindsFirst, OnlyOurIndexer, OnlyOurFinder, NeverReadsOn}
+use Rattle.by_name.specs.Bench.{IndexBench, LookupBench}
+use Rattle.by_name.specs.Fakes.{FallIndexes}
 use Rattle.places.specs.Readers.{Readers}
 use Rattle.places.specs.Fakes.{FallReaders}
 use Rattle.marks.specs.Decided.{Views, Decided}
@@ -34,7 +37,7 @@ use Rattle.marks.specs.Ways.{ourWay, KeepsWay, RefusesUnknown}
 use Rattle.marks.specs.Packed.{ourHost, RoundTrip, Exactly, PacksWhatPushes, PacksInOrder, ActsAlike, SlicesAlike, HandsAlike, Serves, LeavesRefused, LeavesTidy, AnswersAlike}
 use Rattle.marks.specs.Encoders.{ourEncoder, SameBytes}
 use Rattle.marks.specs.Events.{ourReader, ourParser, ReaderGives, GoesOn, readerWith, parserWith, ListsEntries, SaysWhere, CallSaysWhere, TenAgain}
-use Rattle.marks.specs.Library.{Library, ourLibrary, HearsNew, HearsDecoder, HearsEncode, HearsEncoder, HearsCrc, readerBy, HearsReader, HearsWriter, HearsWhole, HearsOurs, MarksBy}
+use Rattle.marks.specs.Library.{Library, ourLibrary, HearsNew, HearsDecoder, HearsEncode, HearsEncoder, HearsCrc, readerBy, HearsReader, HearsWriter, HearsWhole, HearsIndex, HearsOurs, MarksBy}
 use Rattle.marks.specs.Bench.{b5Second, Holds, Bench}
 use Rattle.marks.specs.Fakes.{NotOurs, Fall}
 use Rattle.marks.specs.FakeHosts.{FallHosts}
@@ -99,7 +102,7 @@ pub record Marks : Type 0 where
   pub parser-goes-on : GoesOn ourParser parserWith
   pub reader-lists : ListsEntries ourReader
   pub parser-lists : ListsEntries ourParser
-  -- the library: what a caller hears of its calls is what ours say; so the reader's events are those of the tables. And of every library of which that is so soundness and mark 3 hold, a larger buffer takes nothing away, and a whole message is read in one call
+  -- the library: what a caller hears of its calls is what ours say; so the reader's events are those of the tables. And of every library of which that is so soundness and mark 3 hold, a larger buffer takes nothing away, a whole message is read in one call, and an index is built and asked
   pub library-new : HearsNew ourLibrary
   pub library-decoder : HearsDecoder ourLibrary
   pub library-encode : HearsEncode ourLibrary
@@ -108,6 +111,7 @@ pub record Marks : Type 0 where
   pub library-reader : HearsReader ourLibrary
   pub library-writer : HearsWriter ourLibrary
   pub library-whole : HearsWhole ourLibrary
+  pub library-index : HearsIndex ourLibrary
   pub library-gives : ReaderGives (readerBy ourLibrary)
   pub library-marks : (L : Library) → HearsOurs L → MarksBy L
   -- events in words: each is read back, and no other words are taken; and what that is false of
@@ -121,6 +125,16 @@ pub record Marks : Type 0 where
   pub only-whole : OnlyOurs
   pub whole-bench : WholeBench ourWholeReader
   pub fall-whole-readers : FallWholeReaders
+  -- an index of entries: a whole message's rows, each once, strictly in order, and the rest as it was; refused as a reader of whole messages refuses. A lookup judges any table, 9 first, 16 exactly where it isn't sound, and speaks of its rows; in one that was built it finds the message's first entry with exactly that name, none exactly if no entry has it. Who does that does as ours. And what that is false of
+  pub index : GoodIndexer ourIndexer
+  pub only-index : OnlyOurIndexer
+  pub index-reads-on : NeverReadsOn
+  pub lookup : JudgesTables ourFinder
+  pub only-lookup : OnlyOurFinder
+  pub finds-first : AlwaysFindsFirst
+  pub index-bench : IndexBench ourIndexer
+  pub lookup-bench : LookupBench ourFinder
+  pub fall-indexes : FallIndexes
   -- a length that passes 32 bits is refused, and no other is refused so
   pub overflows : Overflows tlfAt
   -- a refusal says where it broke: of every reader, of the calls on an input, of one call from any numbers; and what that is false of

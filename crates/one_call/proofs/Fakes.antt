@@ -21,18 +21,19 @@ use Rattle.value.specs.Values.{timeAt, statusOf, statusAt, signedValue, unsigne
 use Rattle.common.specs.Fields.{ListEntry, openAt, closeAt, entryAt}
 use Rattle.message.specs.Messages.{MessageStart, ListEnd, closeBody, listStartAt, listEndAt, contentAt, bodyAt, startAt}
 use Rattle.trailer.specs.Trailer.{messageEndAt, crcFrom, trailerAt}
-use Rattle.whole.specs.Whole.{EntryRow, rowAt, WholeMessage, insideAt, wholeAt, flat, WholeSaid, wholeIs, broken, refusedAlone, AfterWhole, fillTo, readTo}
+use Rattle.whole.specs.Whole.{EntryRow, rowAt, WholeMessage, insideAt, wholeAt, flat, WholeSaid, wholeIs, broken, refusedAlone, AfterWhole, fillTo, readTo, Fair}
 use Rattle.whole.specs.Answers.{afterWhole}
+use Rattle.whole.proofs.Outcomes.{WholeOutcome, tooLong, placeBeyond, brokenAt, tableFull, takenWhole, whole-outcome, not-broken, not-refused-alone, never-broken, same-number, endSaidBy}
 use Rattle.streaming.specs.Next.{Said, failed, alone, onward, beginAt, trailerNext, stepAt, nextAt}
 use Rattle.events.specs.Message.{Message, messageAt}
 use Rattle.events.specs.Telling.{messageEvents, isRefused, RefusesFirst}
 use Rattle.events.specs.Calls.{call}
 use Rattle.places.proofs.Seen.{isGot}
-use Rattle.one_call.specs.Readers.{WholeReader, ourWholeReader, Fair, callAt, RunsTo, RowIs, RowsAre, ReadAs, AcceptsExactly, RefusesAlike, RoomLast, LeavesTable, RestNotRead, JudgesFirst, SameWhole}
+use Rattle.one_call.specs.Readers.{WholeReader, ourWholeReader, callAt, RunsTo, RowIs, RowsAre, ReadAs, AcceptsExactly, RefusesAlike, RoomLast, LeavesTable, RestNotRead, JudgesFirst, SameWhole}
 use Rattle.one_call.specs.Bench.{closeInput, openInput, twoBegin, twoRest, twoInput, hugeInput, old, spanOf, bodyWithId, noEnd, twoStart}
 use Rattle.one_call.specs.Fakes.{onceJudged, readsBy, fillBy, fillsBy, rowsFor, answersTwenty, trailerBy, rowsTurned, behindItsHead, upToItsEnd, placedFrom, withoutEnd, clearedBehind, nextBefore, onlyAll, fromTheMessage, ifList, roomInNumbers, halfRowIsRoom, roomBeforeReading, filledAsFarAsItGoes, noRoomIsThree, oneRowAtMost, fillsBeforeTheTrailer, trailerNotJudged, crcFromTheInput, nextMessageJudged, moreBytesRefused, withoutItsListByte, endForLength, lastRowFirst, rowsFromTheMessage, endDropped, clearsTheRest, endsBeforeItsEnd, emptyIsNothing, faultsUntold, placesFromTheMessage, otherKindsRefused, placeNotJudged, longInputCut, FallWholeReaders}
 use Rattle.one_call.proofs.Runs.{failedOr, events-never-refused, no-confusion, run-found}
-use Rattle.one_call.proofs.Outcomes.{WholeOutcome, tooLong, placeBeyond, brokenAt, tableFull, takenWhole, whole-outcome, not-broken, not-refused-alone, never-broken, same-number, endSaidBy, nextRead, never-both}
+use Rattle.one_call.proofs.Outcomes.{nextRead, never-both}
 use Rattle.one_call.proofs.Readers.{ours-good}
 
 -- ---- ours

@@ -12,18 +12,19 @@ use Rattle.refusals.specs.Read.{Read, got, refused, Refusal, eof}
 use Rattle.refusals.specs.declared.Span.{Span}
 use Rattle.tlf.proofs.Ends.{tlf-end}
 use Rattle.message.specs.Messages.{MessageStart, ListEnd}
-use Rattle.whole.specs.Whole.{WholeMessage, wholeAt, flat, wholeIs, broken, refusedAlone, AfterWhole, fillTo, readTo}
+use Rattle.whole.specs.Whole.{WholeMessage, wholeAt, flat, wholeIs, broken, refusedAlone, AfterWhole, fillTo, readTo, Fair}
 use Rattle.whole.specs.Answers.{afterWhole}
+use Rattle.whole.proofs.Outcomes.{WholeOutcome, tooLong, placeBeyond, brokenAt, tableFull, takenWhole, whole-outcome, not-broken, not-refused-alone, never-broken, same-number, same-refusal, says-so, rows-back, rest-stays, length-stays}
 use Rattle.events.specs.Message.{Message, messageAt}
 use Rattle.events.proofs.Refuses.{message-refuses}
 use Rattle.places.specs.Stands.{SameBefore}
 use Rattle.places.proofs.Locates.{locates-taken, locates-broke}
 use Rattle.places.proofs.Readers.{locates-message, readers}
-use Rattle.one_call.specs.Readers.{ourWholeReader, Fair, RunsTo, AcceptedWhole, ReadAs, AcceptsExactly, Broken, RefusesAlike, WithRoom, RoomLast, GoodWholeReader}
+use Rattle.one_call.specs.Readers.{ourWholeReader, RunsTo, AcceptedWhole, ReadAs, AcceptsExactly, Broken, RefusesAlike, WithRoom, RoomLast, GoodWholeReader}
 use Rattle.one_call.proofs.Messages.{whole-alike, held-whole, locates-whole-message}
 use Rattle.one_call.proofs.Sizes.{rows-long}
 use Rattle.one_call.proofs.Runs.{runs-to, events-given, goes-behind, run-found}
-use Rattle.one_call.proofs.Outcomes.{WholeOutcome, tooLong, placeBeyond, brokenAt, tableFull, takenWhole, whole-outcome, not-broken, not-refused-alone, never-broken, same-number, same-refusal, says-so, rows-back, rest-stays, length-stays, rows-count, nextRead, gotOr, never-both, lost-whole, lost-message, accepts, room-made}
+use Rattle.one_call.proofs.Outcomes.{rows-count, nextRead, gotOr, never-both, lost-whole, lost-message, accepts, room-made}
 
 -- ---- accepted exactly
 

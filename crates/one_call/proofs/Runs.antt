@@ -26,7 +26,8 @@ use Rattle.places.specs.Stands.{SameBefore}
 use Rattle.places.proofs.Before.{same-cut}
 use Rattle.places.proofs.Readers.{locates-message}
 use Rattle.places.proofs.Locates.{locates-taken}
-use Rattle.one_call.specs.Readers.{Fair, callAt, RunsTo}
+use Rattle.whole.specs.Whole.{Fair}
+use Rattle.one_call.specs.Readers.{callAt, RunsTo}
 
 -- ---- what calls give
 

@@ -10,13 +10,14 @@ use Rattle.refusals.specs.Numbers.{tooManyEntriesNo}
 use Rattle.refusals.specs.declared.Span.{Span}
 use Rattle.common.specs.Fields.{ListEntry, entryAt}
 use Rattle.message.specs.Messages.{MessageStart, ListEnd}
-use Rattle.whole.specs.Whole.{EntryRow, flat, WholeSaid, wholeIs, broken, refusedAlone, AfterWhole, readTo}
+use Rattle.whole.specs.Whole.{EntryRow, flat, WholeSaid, wholeIs, broken, refusedAlone, AfterWhole, readTo, Fair, rowsOf}
 use Rattle.whole.specs.Answers.{afterWhole}
+use Rattle.whole.proofs.Outcomes.{WholeOutcome, tooLong, placeBeyond, brokenAt, tableFull, takenWhole, whole-outcome, not-broken, not-refused-alone}
 use Rattle.events.specs.Message.{Message}
-use Rattle.one_call.specs.Readers.{WholeReader, ourWholeReader, Fair, rowsOf, RowsAre, Chained, AcceptedWhole, ReadAs, AcceptsExactly, WithRoom, GoodWholeReader, OnlyOurs}
+use Rattle.one_call.specs.Readers.{WholeReader, ourWholeReader, RowsAre, Chained, AcceptedWhole, ReadAs, AcceptsExactly, WithRoom, GoodWholeReader, OnlyOurs}
 use Rattle.one_call.proofs.Messages.{whole-alike}
 use Rattle.one_call.proofs.Runs.{run-found}
-use Rattle.one_call.proofs.Outcomes.{WholeOutcome, tooLong, placeBeyond, brokenAt, tableFull, takenWhole, whole-outcome, not-broken, not-refused-alone, nextRead, gotOr, faultOr, never-both, lost-message, accepts, room-made}
+use Rattle.one_call.proofs.Outcomes.{nextRead, gotOr, faultOr, never-both, lost-message, accepts, room-made}
 use Rattle.one_call.proofs.Readers.{ours-good}
 
 -- ---- the table

@@ -10,7 +10,7 @@ use Rattle.refusals.specs.declared.Span.{Span}
 use Rattle.common.specs.Fields.{ListEntry, entryAt}
 use Rattle.message.specs.Messages.{MessageStart, ListEnd, startAt}
 use Rattle.streaming.specs.Next.{Said, event, noEvent}
-use Rattle.whole.specs.Whole.{EntryRow, wholeIs, broken, refusedAlone, AfterWhole, readTo}
+use Rattle.whole.specs.Whole.{EntryRow, wholeIs, broken, refusedAlone, AfterWhole, readTo, Fair, rowsOf}
 use Rattle.whole.specs.Answers.{afterWhole}
 use Rattle.events.specs.Message.{Message, messageAt}
 use Rattle.events.specs.Events.{nth}
@@ -26,11 +26,6 @@ WholeReader = List ℕ → ℕ → List ℕ → AfterWhole
 abbrev pub ourWholeReader : WholeReader
 ourWholeReader = readTo
 
--- an input and a place that are refused neither with 9 nor with 4. (A short message runs to its end in a longer input too, and the answer is 9.)
-pub record Fair (s : List ℕ) (at : ℕ) : Type 0 where
-  pub short : length s ≤ limit
-  pub inside : at ≤ length s
-
 -- ---- the event reader
 
 -- what call k says, counted from 0, of an event reader that stands at a place between messages
@@ -43,14 +38,6 @@ pub record RunsTo (s : List ℕ) (at next : ℕ) (m : Message Span) : Type 0 whe
   pub gives : (k : ℕ) → callAt (take next s) at k ≡ nth (map event (messageEvents m)) noEvent k
 
 -- ---- the table
-
--- a table's first row, and its first n rows
-abbrev pub firstRow : List ℕ → EntryRow
-firstRow t = record { name = record { start = getD t 0 0; len = getD t 1 0 }; entry = record { start = getD t 2 0; len = getD t 3 0 } }
-
-abbrev pub rowsOf : ℕ → List ℕ → List EntryRow
-rowsOf zero t = []
-rowsOf (suc n) t = firstRow t ∷ rowsOf n (drop 4 t)
 
 -- a row of the entry e: the place of its name, and where the entry is read again, both within the input
 pub record RowIs (s : List ℕ) (r : EntryRow) (e : ListEntry Span) : Type 0 where

@@ -73,4 +73,6 @@ decided =
       sgh-next-event = λ input reader event. two-lists _;
       sgh-write-event = λ out strings event writer. two-lists _;
       sgh-read-message = λ input at table message. two-lists _;
+      sgh-build-index = λ input at table index. two-lists _;
+      sgh-look-up = λ input table name row. one-list _;
     }

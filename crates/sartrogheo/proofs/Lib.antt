@@ -2,5 +2,6 @@ pub mod Told
 pub mod Streams
 pub mod Writes
 pub mod Wholes
+pub mod Indexes
 pub mod Decided
 pub mod Wrong

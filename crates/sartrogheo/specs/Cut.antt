@@ -1,14 +1,16 @@
--- cut: an event's number and values, where a payload's length is known; a writer or none.
+-- cut: an event's number and values, where a payload's length is known; a writer or none; a row of small numbers.
 use mathlib.Core.Bool.{cond}
 use mathlib.Core.List.{List, [], _∷_}
 use mathlib.Core.Option.{Option, some, none}
-use Prim.Native.Nat.{ℕ}
+use Prim.Native.Nat.{ℕ, _+_, _≤_}
 use lib.Dec.{ltb}
+use Rattle.refusals.specs.Numbers.{limit}
 use Rattle.decoder.specs.Record.{answerOf}
 use Rattle.decoder.specs.declared.Event.{Event}
 use Rattle.decoder.specs.declared.Event.the-variants.{Nothing, Payload, DiscardedBytes, InvalidEsc, OutOfMemory, InvalidMessage, BadState, WrongBuffer}
 use Rattle.packed.specs.Layout.{numberAt}
 use Rattle.writer.specs.declared.ListWriter.{ListWriter}
+use Rattle.whole.specs.Whole.{EntryRow}
 use Rattle.sartrogheo.specs.Calls.{answerNo, answerValues}
 use Rattle.sartrogheo.specs.declared.OptWriter.{OptWriter}
 use Rattle.sartrogheo.specs.declared.OptWriter.the-variants.{Present, Absent}
@@ -34,3 +36,8 @@ fillIn l room = cond (ltb (numberAt l 8 4) room) (numberAt l 8 4) room
 abbrev pub optWriter : OptWriter → Option ListWriter
 optWriter (Present w) = some w
 optWriter Absent = none
+
+-- a row that a table's numbers hold
+pub record RowIsSmall (r : EntryRow) : Type 0 where
+  pub name : r .name .start + r .name .len ≤ limit
+  pub entry : r .entry .start + r .entry .len ≤ limit

@@ -8,6 +8,7 @@ use Rattle.sartrogheo.specs.Calls.{reply, sghDecoderNew, sghPushByte, sg
 use Rattle.sartrogheo.specs.Streams.{sghEncoderNew, sghEncoderNext, sghNextEvent}
 use Rattle.sartrogheo.specs.Writes.{sghWriteEvent}
 use Rattle.sartrogheo.specs.Wholes.{sghReadMessage}
+use Rattle.sartrogheo.specs.Indexes.{sghBuildIndex, sghLookUp}
 
 -- every public function: over its parameters, what its `ensures` allows. What is lent stands for what it holds at the call; each thing that may be written stands beside the number, the last one outermost
 pub record Decided : Type 0 where
@@ -27,3 +28,5 @@ pub record Decided : Type 0 where
   pub sgh-next-event : (input reader event : List ℕ) → One (λ (r : Beside (Beside ℕ (List ℕ)) (List ℕ)). reply (r .answer .answer) (r .answer .lent ∷ r .lent ∷ []) ≡ sghNextEvent input reader)
   pub sgh-write-event : (out strings event writer : List ℕ) → One (λ (r : Beside (Beside ℕ (List ℕ)) (List ℕ)). reply (r .answer .answer) (r .answer .lent ∷ r .lent ∷ []) ≡ sghWriteEvent out strings event writer)
   pub sgh-read-message : (input : List ℕ) (at : ℕ) (table message : List ℕ) → One (λ (r : Beside (Beside ℕ (List ℕ)) (List ℕ)). reply (r .answer .answer) (r .answer .lent ∷ r .lent ∷ []) ≡ sghReadMessage input at table)
+  pub sgh-build-index : (input : List ℕ) (at : ℕ) (table index : List ℕ) → One (λ (r : Beside (Beside ℕ (List ℕ)) (List ℕ)). reply (r .answer .answer) (r .answer .lent ∷ r .lent ∷ []) ≡ sghBuildIndex input at table)
+  pub sgh-look-up : (input table name row : List ℕ) → One (λ (r : Beside ℕ (List ℕ)). reply (r .answer) (r .lent ∷ []) ≡ sghLookUp input table name row)

@@ -2,5 +2,6 @@ pub mod Calls
 pub mod Streams
 pub mod Writes
 pub mod Wholes
+pub mod Indexes
 pub mod Cut
 pub mod Decided

@@ -14,12 +14,15 @@ ghost use Rattle.message.specs.Answers.{messageBody, messageStart};
 ghost use Rattle.streaming.specs.Answers.{said, parseEvent};
 ghost use Rattle.writer.specs.Answers.{errorNumber, placeWritten, listWritten, afterWrite};
 ghost use Rattle.words.specs.Words.{eventWords};
+ghost use Rattle.whole.specs.Whole.{flat};
 ghost use Rattle.whole.specs.Answers.{optListEnd, wholeRead};
+ghost use Rattle.index.specs.Answers.{entryRow, indexed};
 ghost use Rattle.sartrogheo.specs.Calls.{reply, answerNo, sghDecoderNew, sghPushByte, sghPushSlice, sghPayload, sghFinalize, sghReset, encodeNo, encodeLen, sghEncode};
 ghost use Rattle.sartrogheo.specs.Streams.{encoderKind, endCount, encoderCount, encoderWords, stateOfKind, encoderOf, sghEncoderNew, sghEncoderNext, readerNo, sghNextEvent};
 ghost use Rattle.sartrogheo.specs.Writes.{writerWords, writerOf, endedBehind, headFields, messageTo, eventTo, sghWriteEvent};
 ghost use Rattle.sartrogheo.specs.Wholes.{startSaid, listEndSaid, endSaid, rowsSaid, nextSaid, messageWords, sghReadMessage};
-ghost use Rattle.sartrogheo.specs.Cut.{eventNo, eventValues, fillIn, optWriter};
+ghost use Rattle.sartrogheo.specs.Indexes.{indexNo, indexWords, sghBuildIndex, sghLookUp};
+ghost use Rattle.sartrogheo.specs.Cut.{eventNo, eventValues, fillIn, optWriter, RowIsSmall};
 use decoder::Asked;
 use decoder::Decoder;
 use decoder::Event;
@@ -27,6 +30,9 @@ use encoder::Encoded;
 use encoder::Encoder;
 use encoder::EncoderState;
 use encoder::Item;
+use index::Found;
+use index::Indexed;
+use index::Row;
 use message::MessageBody;
 use message::MessageStart;
 use packed::Packing;
@@ -51,6 +57,8 @@ pub const GOOD: u32 = 0;
 pub const PAYLOAD: u32 = 100;
 
 pub const FINISHED: u32 = 101;
+
+pub const NOT_FOUND: u32 = 102;
 
 // ---- what a decoder says
 
@@ -745,4 +753,81 @@ pub extern "C" fn sgh_read_message(
     let w = whole::read_message(input, at, table);
     *message = message_words(w);
     whole_no(w)
+}
+
+// ---- an index
+
+// The number of what building says.
+fn index_no(x: Indexed) -> u32
+    ensures { λ r. ⌜ r ≡ indexNo (indexed x) ⌝ }
+{
+    match x {
+        Indexed::Is { rows: _, next: _ } => GOOD,
+        Indexed::Refused(f) => fault_no(f),
+        Indexed::InputTooLong => 9,
+        Indexed::BadState => 4,
+        Indexed::TooManyEntries => 20,
+    }
+}
+
+// Its five words: rows and next place; number, kind and place of a refusal, which the event reader's words have too.
+fn index_words(x: Indexed) -> [u64; 5]
+    ensures { λ r. ⌜ r ≡ indexWords (indexed x) ⌝ }
+{
+    match x {
+        Indexed::Is { rows, next } => [rows as u64, next as u64, 0, 0, 0],
+        Indexed::Refused(f) => {
+            let w = words::event_words(Answer::Refused(f));
+            [0, 0, w[1], w[2], w[3]]
+        }
+        Indexed::InputTooLong => [0, 0, 9, 0, 0],
+        Indexed::BadState => [0, 0, 4, 0, 0],
+        Indexed::TooManyEntries => [0, 0, 20, 0, 0],
+    }
+}
+
+// The rows of the message at a place, sorted in the table.
+#[no_mangle]
+pub extern "C" fn sgh_build_index(
+    input: &[u8],
+    at: usize,
+    table: &mut [u32],
+    index: &mut [u64; 5],
+) -> u32
+    ensures { λ r. ⌜ reply r (now (table .exit) ∷ now (index .exit) ∷ []) ≡ sghBuildIndex (now (input .entry)) at (now (table .entry)) ⌝ }
+{
+    let x = index::build_index(input, at, table);
+    *index = index_words(x);
+    index_no(x)
+}
+
+// A row as it stands in a table.
+fn row_numbers(r: Row) -> [u32; 4]
+    requires { ⌜ RowIsSmall (entryRow r) ⌝ }
+    ensures { λ u. ⌜ u ≡ flat (entryRow r ∷ []) ⌝ }
+{
+    let name = r.name;
+    let entry = r.entry;
+    [
+        name.start as u32,
+        name.len as u32,
+        entry.start as u32,
+        entry.len as u32,
+    ]
+}
+
+// The first row with exactly that name, in any table; else the row stays as it was.
+#[no_mangle]
+pub extern "C" fn sgh_look_up(input: &[u8], table: &[u32], name: &[u8], row: &mut [u32; 4]) -> u32
+    ensures { λ r. ⌜ reply r (now (row .exit) ∷ []) ≡ sghLookUp (now (input .entry)) (now (table .entry)) (now (name .entry)) (now (row .entry)) ⌝ }
+{
+    match index::look_up(input, table, name) {
+        Found::Entry(r) => {
+            *row = row_numbers(r);
+            GOOD
+        }
+        Found::Nothing => NOT_FOUND,
+        Found::InputTooLong => 9,
+        Found::BadSpan => 16,
+    }
 }

@@ -2,3 +2,4 @@ pub mod Rows
 pub mod Passes
 pub mod Loops
 pub mod Decided
+pub mod Outcomes

@@ -1,9 +1,9 @@
 -- rule: a whole message in one call, by document 02's Q-13: its start, the rows of its entries, its end; what the call answers, and what it leaves in the table.
-use Prim.Native.Nat.{ℕ, _-_, _*_, _/_}
+use Prim.Native.Nat.{ℕ, zero, suc, _-_, _*_, _/_, _≤_}
 use mathlib.Core.List.{List, [], _∷_, _++_}
 use mathlib.Core.Bool.{cond}
 use mathlib.Core.Option.{Option, some, none}
-use lib.ListN.{length, drop}
+use lib.ListN.{length, getD, drop}
 use lib.Dec.{ltb}
 use Rattle.refusals.specs.Numbers.{badStateNo, inputTooLongNo, tooManyEntriesNo, limit}
 use Rattle.refusals.specs.Read.{Read, got, refused, Refusal, then, many}
@@ -53,6 +53,14 @@ unfoldable pub flat : List EntryRow → List ℕ
 flat [] = []
 flat (r ∷ rs) = r .name .start ∷ r .name .len ∷ r .entry .start ∷ r .entry .len ∷ flat rs
 
+-- a table's first row, and its first n rows
+abbrev pub firstRow : List ℕ → EntryRow
+firstRow t = record { name = record { start = getD t 0 0; len = getD t 1 0 }; entry = record { start = getD t 2 0; len = getD t 3 0 } }
+
+abbrev pub rowsOf : ℕ → List ℕ → List EntryRow
+rowsOf zero t = []
+rowsOf (suc n) t = firstRow t ∷ rowsOf n (drop 4 t)
+
 -- what a call says: the start, of a list the end, how many rows stand in the table and the place behind the message; a refusal at a place of the input; or one at none
 pub data WholeSaid : Type 0 where
   wholeIs : MessageStart Span → Option (ListEnd Span) → ℕ → ℕ → WholeSaid
@@ -77,3 +85,8 @@ readTo s at t =
     cond (ltb limit (length s)) (record { answer = refusedAlone inputTooLongNo; table = t })
     (cond (ltb (length s) at) (record { answer = refusedAlone badStateNo; table = t })
     (fillTo (wholeAt s at) t))
+
+-- an input and a place that are refused neither with 9 nor with 4. (A short message runs to its end in a longer input too, and the answer is 9.)
+pub record Fair (s : List ℕ) (at : ℕ) : Type 0 where
+  pub short : length s ≤ limit
+  pub inside : at ≤ length s

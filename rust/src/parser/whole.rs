@@ -71,7 +71,7 @@ impl Row {
         input.get(self.name_start as usize..)?.get(..self.name_len as usize)
     }
 
-    /// The entry, in the input that it was read from. Of a row that [`read_message`] made, over the same input, it is always `Some`; of one that no call has made it is what begins at its place, if that is an entry.
+    /// The entry, in the input that it was read from. Of a row that [`read_message`] or [`build_index`](super::index::build_index) made, over the same input, it is always `Some`; of one that no call has made it is what begins at its place, if that is an entry.
     pub fn entry<'i>(&self, input: &'i [u8]) -> Option<ListEntry<'i>> {
         let (place, mut words) = (self.entry_start.into(), [0; ffi::EVENT_WORDS]);
         ffi::next_event(input, &mut [place, place, ENTRY_IS_DUE], &mut words);

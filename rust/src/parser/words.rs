@@ -133,14 +133,8 @@ fn tlf(kind: u64) -> TlfParseError {
     }
 }
 
-/// The refusal, if the words are one.
-pub fn refusal(words: &ffi::Event) -> Option<ParseError> {
-    let [event, number, kind, place, ..] = *words;
-    let place = match event {
-        ffi::REFUSED => Some(place as usize),
-        ffi::REFUSED_ALONE => None,
-        _ => return None,
-    };
+/// The refusal of this number, kind and place, if it is one of the reader of messages: 9, which alone has no place, to 15.
+pub fn fault([number, kind, place]: [u64; 3]) -> Option<ParseError> {
     let kind = match number {
         ffi::INPUT_TOO_LONG => ParseErrorKind::InputTooLong,
         ffi::UNEXPECTED_EOF => ParseErrorKind::UnexpectedEOF,
@@ -151,7 +145,15 @@ pub fn refusal(words: &ffi::Event) -> Option<ParseError> {
         ffi::MSG_END_MISMATCH => ParseErrorKind::MsgEndMismatch,
         _ => return None,
     };
-    Some(ParseError { kind, place })
+    Some(ParseError { kind, place: (number != ffi::INPUT_TOO_LONG).then_some(place as usize) })
+}
+
+/// The refusal, if the words are one.
+pub fn refusal(words: &ffi::Event) -> Option<ParseError> {
+    match *words {
+        [ffi::REFUSED | ffi::REFUSED_ALONE, number, kind, place, ..] => fault([number, kind, place]),
+        _ => None,
+    }
 }
 
 /// The words that are not yet put down. What finds no room, which no event asks for, is left out.

@@ -1,0 +1,1 @@
+// Claims over any indexer and any lookup; there is no code here.

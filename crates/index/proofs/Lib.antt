@@ -1,0 +1,12 @@
+pub mod Order
+pub mod Swap
+pub mod Heap
+pub mod Unique
+pub mod Rows
+pub mod Steps
+pub mod Few
+pub mod Finds
+pub mod Built
+pub mod Sought
+pub mod Tables
+pub mod Decided
