@@ -271,9 +271,9 @@ uint32_t sgh_build_index(const uint8_t *input, size_t len, size_t at, uint32_t *
 /* The first row with exactly this name, which may be empty: of a table that was built the first entry of its message. Lend the same input, and the rows alone,
    SGH_ROW_NUMBERS * index.rows numbers: all that is lent is judged as rows, in one pass, also what stands behind the row that is found. Any table may be lent, an empty
    one too, and one that no call has built: the answer speaks of its rows then. No message is read.
-   Gives 0 and the row, whose entry is read as that of a row of sgh_read_message; SGH_NOT_FOUND exactly if no row has the name; 9 for all `len` bytes, first; 16 for a part
-   of a row, a row whose name or entry isn't within the input, or one that isn't strictly before the next (of one name and one start neither is). SGH_NOT_FOUND, 9 and
-   16 leave the row as it was. */
+   Gives 0 and the row, whose entry is read as that of a row of sgh_read_message; SGH_NOT_FOUND exactly if no row has the name; 9, before all else, for an input that
+   is too long; 16 for a part of a row, a row whose name or entry isn't within the input, or one that isn't strictly before the next (of two rows with one name and one
+   entry start neither is before the other). SGH_NOT_FOUND, 9 and 16 leave the row as it was. */
 uint32_t sgh_look_up(const uint8_t *input, size_t len, const uint32_t *table, size_t table_len, const uint8_t *name, size_t name_len, sgh_row *row);
 
 /* ---- messages that are written, so that a bench can pose as a meter */

@@ -10,7 +10,7 @@ use Rattle.index.specs.Index.{indexIs, indexBroken, indexRefused, FoundSaid, fo
 use Rattle.index.specs.Answers.{afterIndex}
 use Rattle.by_name.specs.Indexes.{Indexer, Finder}
 
--- six entries, their names b, none, ab, 80, a and b; all but the end byte
+-- six entries, their names b, the empty one, ab, 80, a and b; all but the end byte
 abbrev pub sixBegin : List ℕ
 sixBegin = 0x76 ∷ 0x03 ∷ 0xdd ∷ 0x43 ∷ 0x62 ∷ 0x00 ∷ 0x62 ∷ 0x00 ∷ 0x72 ∷ 0x63 ∷ 0x07 ∷ 0x01 ∷ 0x77 ∷ 0x01 ∷ 0x02 ∷ 0x73 ∷ 0x01 ∷ 0x01 ∷ 0x76
     ∷ 0x77 ∷ 0x02 ∷ 0x62 ∷ 0x01 ∷ 0x01 ∷ 0x01 ∷ 0x01 ∷ 0x62 ∷ 0x00 ∷ 0x01

@@ -1,4 +1,4 @@
-// An index of a message's entries, for who asks for names many times: Q-13's rows sorted by name in the lent table, and a lookup in any table. The crate has none.
+// An index of a message's entries, for who asks for names many times: Q-13's rows sorted by name in the lent table, and a lookup in any table. sml-rs has none.
 // The rows are sorted by a heap in their own place: n rows, n below 2 to the l, take at most 3 * l * n + n comparisons.
 ghost use mathlib.Core.Path.{_≡_};
 ghost use mathlib.Core.Bool.{true};
@@ -24,7 +24,7 @@ pub struct Row {
     pub entry: Span,
 }
 
-// `rows` is how many rows stand in the table, `next` the place behind the message. A place beyond the input is BadState, as with every reader.
+// `rows` is how many rows stand in the table, `next` the place behind the message. A place beyond the input is BadState, as with read_message.
 pub enum Indexed {
     Is { rows: usize, next: usize },
     Refused(Fault),
@@ -131,7 +131,7 @@ fn comes_before(input: &[u8], p: Row, q: Row) -> bool
 
 // ---- sorting
 
-// Whether row i comes before row j. Sorting compares here and nowhere else, and this line alone changes what is spent.
+// Whether row i comes before row j. Sorting compares here and nowhere else, and `*spent += 1` alone changes what is spent.
 fn is_before(input: &[u8], table: &[u32], i: usize, j: usize, spent: &mut usize) -> bool
     requires { ⌜ (4 * i + 3 < length (now table)) × (4 * j + 3 < length (now table)) × (now spent < 2 ^ 63) ⌝ }
     ensures { λ r. ⌜ (r ≡ before (now (input .entry)) (nthRow (now (table .entry)) i) (nthRow (now (table .entry)) j)) × (now (spent .exit) ≡ now (spent .entry) + 1) ⌝ }
@@ -212,7 +212,7 @@ fn settle(input: &[u8], table: &mut [u32], n: usize, spent: &mut usize)
     }
 }
 
-// Each row is before the next.
+// Whether each row is before the next.
 fn in_order(input: &[u8], table: &[u32], n: usize, spent: &mut usize) -> bool
     requires { ⌜ (n < 2 ^ 32) × (4 * n ≤ length (now table)) × (now spent < 2 ^ 60) ⌝ }
     ensures { λ r. ⌜ (r ≡ true → Done (before (now (input .entry))) 1 n (nthRow (now (table .entry)))) × (now (spent .exit) ≤ now (spent .entry) + n) ⌝ }

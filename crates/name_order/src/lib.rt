@@ -1,8 +1,8 @@
-// The order of names, for an index; the crate has none.
+// The order of names, for an index; sml-rs has none.
 ghost use mathlib.Core.Path.{_≡_};
 ghost use Rattle.name_order.specs.Order.{compared};
 
-// Rust's own: the first name is less, equal or greater.
+// As Rust's own: the first name is less, equal or greater.
 pub enum Ordering {
     Less,
     Equal,

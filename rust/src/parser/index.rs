@@ -79,7 +79,7 @@ pub fn build_index<'t>(input: &[u8], at: usize, table: &'t mut [u32]) -> Result<
 
 /// The first row with exactly this name, or `None` exactly if no row has it. Of the rows of an [`Index`], over the same input, that is the first entry of the message with the name: [`Row::entry`] gives it.
 ///
-/// Any table may be lent, and the answer speaks of its rows: all numbers are judged as rows, in one pass, those behind the row that is found too. No message is read.
+/// Any table may be lent, and the answer speaks of its rows: all numbers are judged as rows, in one pass with up to two comparisons of names a row, those behind the row that is found too. No message is read.
 /// A table with a part of a row, with a row outside the input, or with one that isn't strictly before the next is [`LookErr::BadSpan`]; an empty one has no row of any name.
 ///
 /// ```
