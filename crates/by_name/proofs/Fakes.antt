@@ -1,6 +1,6 @@
 -- Each fake falls. Who keeps a claim does as ours do, so one input at which it doesn't is enough.
 use mathlib.Core.Path.{_≡_, refl, sym, ap, _∙_, subst}
-use mathlib.Core.Bool.{Bool, true, false, cond}
+use mathlib.Core.Bool.{Bool, true, false, cond, true≢false}
 use mathlib.Core.List.{List, [], _∷_, _++_, List·Memᴰ, List·Memᴰ·head, List·Memᴰ·tail}
 use mathlib.Core.Option.{Option, some, none}
 use Prim.Native.Nat.{ℕ, _+_, _*_, _≤_, _<_}
@@ -30,10 +30,10 @@ use Rattle.index.specs.Index.{before, insert, sorted, sortedTo, IndexSaid, inde
 use Rattle.index.specs.Answers.{afterIndex}
 use Rattle.index.proofs.Finds.{sorted-length}
 use Rattle.index.proofs.Tables.{look-outcome}
-use Rattle.by_name.specs.Indexes.{Indexer, Finder, ourIndexer, ourFinder, GoodIndexer, JudgesTables, FirstNamed, firstNamed, noneNamed, entryName, FindsFirst}
+use Rattle.by_name.specs.Indexes.{Indexer, Finder, ourIndexer, ourFinder, GoodIndexer, JudgesTables, FirstNamed, firstNamed, noneNamed, entryName, FindsFirst, BuildsTables}
 use Rattle.by_name.specs.Bench.{sixInput, sixTable, small}
 use Rattle.by_name.specs.Fakes.{rowsBy, signedBytes, otherSide, indexBy, inMessageOrder, greatestFirst, shorterFirst, lastOfANameFirst, byPlaceAlone, aRowForEachName, allRowsSorted, overReader, indexAsFarAsItGoes, lookBy, isSoundTable, firstByName, judgeBy, lastOfEqualNames, prefixIsTheName, nameIsAPrefix, equalRowsInOrder, orderByNameAlone, oneRowAName, orderNotJudged, entryNotJudged, nameNotJudged, startPlusLengthWraps, partOfARowIgnored, judgedUpToTheName, emptyTableRefused, rowsMustBeEntries, unsoundIsNone, tableBeforeLength, lookInFirstPart, emptyInputIsTen, SameIndexer, SameFinder, FallIndexes}
-use Rattle.by_name.proofs.Rows.{rows-length}
+use Rattle.by_name.proofs.Rows.{rows-length, is-sound}
 use Rattle.by_name.proofs.Indexes.{looked-in, ours-find}
 use Rattle.by_name.proofs.Unique.{only-our-indexer, only-our-finder}
 
@@ -257,6 +257,14 @@ module _ {s name : List ℕ} {l : List (ListEntry Span)} where
   never-both : {r : EntryRow} → FirstNamed (entryName s) (RowIs s) name l (foundRow r) → FirstNamed (entryName s) (RowIs s) name l foundNone → ⊥
   never-both (firstNamed r a k m e p f u) (noneNamed n) = n a (subst (λ (x : List (ListEntry Span)). List·Memᴰ a x) (sym e) (in-middle k a m)) p
 
+six-no-table : isTable sixInput (take 24 (inMessageOrder sixInput 0 (old 24) .table)) ≡ false
+unfolding then guard need many byteAt spanAt tlfAt lengthFrom lessOwn listOfAt number bytesAt rawFrom rawAt unsignedAt signedOf signedAt boolFrom boolAt octetsAt absentAt optional timeAt statusOf statusAt signedValue unsignedValue listTypeAt valueOf valueAt openAt closeAt entryAt messageEndAt listStartAt listEndAt contentAt bodyAt startAt reflect polynomial bitStep bitSteps byteStep register finalXor crcOf crcFrom trailerAt rowAt insideAt wholeAt flat fillTo readTo same lower isWithin partOf before insert sorted sortedTo indexOf indexTo rowWithin every rising isTable firstWith hasName lookUp
+six-no-table = refl
+
+falls-message-order-no-table : BuildsTables inMessageOrder → ⊥
+unfolding then guard need many byteAt spanAt tlfAt lengthFrom lessOwn listOfAt number bytesAt rawFrom rawAt unsignedAt signedOf signedAt boolFrom boolAt octetsAt absentAt optional timeAt statusOf statusAt signedValue unsignedValue listTypeAt valueOf valueAt openAt closeAt entryAt messageEndAt listStartAt listEndAt contentAt bodyAt startAt reflect polynomial bitStep bitSteps byteStep register finalXor crcOf crcFrom trailerAt rowAt insideAt wholeAt flat fillTo readTo same lower isWithin partOf before insert sorted sortedTo indexOf indexTo rowWithin every rising isTable firstWith hasName lookUp
+falls-message-order-no-table h = true≢false (sym (is-sound sixInput (take 24 (inMessageOrder sixInput 0 (old 24) .table)) (h sixInput 0 (old 24) 6 85 six-fair refl)) ∙ six-no-table)
+
 falls-message-order-found : FindsFirst inMessageOrder ourFinder → ⊥
 unfolding then guard need many byteAt spanAt tlfAt lengthFrom lessOwn listOfAt number bytesAt rawFrom rawAt unsignedAt signedOf signedAt boolFrom boolAt octetsAt absentAt optional timeAt statusOf statusAt signedValue unsignedValue listTypeAt valueOf valueAt openAt closeAt entryAt messageEndAt listStartAt listEndAt contentAt bodyAt startAt reflect polynomial bitStep bitSteps byteStep register finalXor crcOf crcFrom trailerAt rowAt insideAt wholeAt flat fillTo readTo same lower isWithin partOf before insert sorted sortedTo indexOf indexTo rowWithin every rising isTable firstWith hasName lookUp
 falls-message-order-found h = refused-not {n = 16} (six-found inMessageOrder ourFinder h refl (0x62 ∷ []) (lookRefused 16) refl)
@@ -310,6 +318,7 @@ fall-indexes =
       sixteen-first = falls-sixteen-first;
       long-cut = falls-long-cut;
       ten = falls-ten;
+      message-order-no-table = falls-message-order-no-table;
       message-order-found = falls-message-order-found;
       last-found-in-index = falls-last-found-in-index;
       prefix-found-in-index = falls-prefix-found-in-index;

@@ -30,7 +30,7 @@ use Rattle.index.proofs.Unique.{Ordered, sorted-in, in-sorted}
 use Rattle.index.proofs.Finds.{startsBefore, sorted-length, sorted-table, finds-first}
 use Rattle.index.proofs.Built.{TableFilled, message-filled}
 use Rattle.index.proofs.Tables.{LookOutcome, longInput, noTable, lookedIn, look-outcome}
-use Rattle.by_name.specs.Indexes.{ourIndexer, ourFinder, InOrder, SameRows, SortedFrom, Indexes, GoodIndexer, FirstNamed, firstNamed, noneNamed, RowInside, SoundTable, rowName, JudgesTables, entryName, FindsFirst}
+use Rattle.by_name.specs.Indexes.{ourIndexer, ourFinder, InOrder, SameRows, SortedFrom, Indexes, GoodIndexer, FirstNamed, firstNamed, noneNamed, RowInside, SoundTable, rowName, JudgesTables, entryName, FindsFirst, BuildsTables}
 use Rattle.by_name.proofs.Rows.{in-order, order-in, rows-length, rows-again, rest-again, length-again, front-again, all-rows, whole-rows, table-sound, is-sound, named-is, is-named, not-named, one-more-named, first-of-rows}
 
 -- ---- building, after what the reader of whole messages says
@@ -144,23 +144,31 @@ first-entry s name (r ∷ l) [] h = absurd h
 one-name : (s name : List ℕ) (a b : EntryRow) → hasName s name a ≡ true → hasName s name b ≡ true → partOf s (a .name) ≡ partOf s (b .name)
 one-name s name a b e f = named-is s name a e ∙ sym (named-is s name b f)
 
--- a table with the sorted rows of a message is sound, and what is found there is what its rows in their order have first
-pub found-in : (s : List ℕ) (rows : ℕ) (u : List ℕ) → length s ≤ limit → TableFilled u rows → ((r : EntryRow) → List·Memᴰ r (rowsOf rows u) → RowInside s r) → (name : List ℕ)
-    → lookUp s (take (4 * rows) (sortedTo s rows u)) name ≡ foundSaid (firstWith (hasName s name) (rowsOf rows u))
-unfolding sortedTo
-found-in s rows u short h inside name =
+-- the sorted rows of a message are a sound table
+sorted-sound : (s : List ℕ) (rows : ℕ) (u : List ℕ) → TableFilled u rows → ((r : EntryRow) → List·Memᴰ r (rowsOf rows u) → RowInside s r) → SoundTable s (flat (sorted (before s) (rowsOf rows u)))
+sorted-sound s rows u h inside =
     let l : List EntryRow = rowsOf rows u in
     let k : List EntryRow = sorted (before s) l in
-    let n : length k ≡ rows = sorted-length (before s) l ∙ rows-length rows u in
     let a : allRows (flat k) ≡ k = all-rows k in
-    let w : SoundTable s (flat k) = record {
+    record {
       whole-rows = whole-rows k;
       inside = λ r m. inside r (sorted-in (before s) (before-order s) r l (subst (λ (x : List EntryRow). List·Memᴰ r x) a m));
       in-order = subst (InOrder s) (sym a) (in-order s k (sorted-table s l (h .rise)));
-    } in
-    ap (λ (x : List ℕ). lookUp s x name) (front-again rows k n u)
-    ∙ looked-in s (flat k) name (lookUp s (flat k) name) (look-outcome s (flat k) name) short (is-sound s (flat k) w)
-    ∙ ap (λ (x : List EntryRow). foundSaid (firstWith (hasName s name) x)) a
+    }
+
+rows-front : (s : List ℕ) (rows : ℕ) (u : List ℕ) → take (4 * rows) (sortedTo s rows u) ≡ flat (sorted (before s) (rowsOf rows u))
+unfolding sortedTo
+rows-front s rows u = front-again rows (sorted (before s) (rowsOf rows u)) (sorted-length (before s) (rowsOf rows u) ∙ rows-length rows u) u
+
+-- what is found there is what the rows in their order have first
+pub found-in : (s : List ℕ) (rows : ℕ) (u : List ℕ) → length s ≤ limit → TableFilled u rows → ((r : EntryRow) → List·Memᴰ r (rowsOf rows u) → RowInside s r) → (name : List ℕ)
+    → lookUp s (take (4 * rows) (sortedTo s rows u)) name ≡ foundSaid (firstWith (hasName s name) (rowsOf rows u))
+found-in s rows u short h inside name =
+    let l : List EntryRow = rowsOf rows u in
+    let k : List EntryRow = sorted (before s) l in
+    ap (λ (x : List ℕ). lookUp s x name) (rows-front s rows u)
+    ∙ looked-in s (flat k) name (lookUp s (flat k) name) (look-outcome s (flat k) name) short (is-sound s (flat k) (sorted-sound s rows u h inside))
+    ∙ ap (λ (x : List EntryRow). foundSaid (firstWith (hasName s name) x)) (all-rows k)
     ∙ ap foundSaid (finds-first s (hasName s name) (one-name s name) l (h .rise))
 
 -- ---- what the reader said where building is accepted
@@ -208,3 +216,12 @@ ours-find s at t next m h run rows p e name =
     let found = found-in s rows u (h .short) (table-filled s at t (f .start) (f .end) rows p (f .is)) (rows-inside s (rowsOf rows u) (r .whole .content .entries) (r .rows-are)) name in
     subst (λ (x : Message Span). FirstNamed (entryName s) (RowIs s) name (x .content .entries) (lookUp s (take (4 * rows) (indexTo s at t .table)) name)) same
     (subst (FirstNamed (entryName s) (RowIs s) name (r .whole .content .entries)) (sym (ap (λ (x : List ℕ). lookUp s (take (4 * rows) x) name) v ∙ found)) (first-entry s name (rowsOf rows u) (r .whole .content .entries) (r .rows-are)))
+
+pub ours-tables : BuildsTables ourIndexer
+ours-tables s at t rows p h e =
+    let f = read-first s at t rows p e in
+    let r = ours-good .accepts .only-if s at t (f .start) (f .end) rows p h (f .is) in
+    let u : List ℕ = readTo s at t .table in
+    let v : indexTo s at t .table ≡ sortedTo s rows u = ap (λ (a : AfterIndex). a .table) (index-built s at t (f .start) (f .end) rows p (f .is)) in
+    subst (SoundTable s) (sym (ap (take (4 * rows)) v ∙ rows-front s rows u))
+    (sorted-sound s rows u (table-filled s at t (f .start) (f .end) rows p (f .is)) (rows-inside s (rowsOf rows u) (r .whole .content .entries) (r .rows-are)))

@@ -17,9 +17,9 @@ use Rattle.index.proofs.Unique.{unique}
 use Rattle.index.proofs.Finds.{rising-ordered}
 use Rattle.index.proofs.Built.{TableFilled}
 use Rattle.index.proofs.Tables.{look-outcome}
-use Rattle.by_name.specs.Indexes.{Indexer, Finder, ourIndexer, ourFinder, SortedFrom, Indexes, GoodIndexer, JudgesTables, SoundTable, FindsFirst, AlwaysFindsFirst, OnlyOurIndexer, OnlyOurFinder}
+use Rattle.by_name.specs.Indexes.{Indexer, Finder, ourIndexer, ourFinder, SortedFrom, Indexes, GoodIndexer, JudgesTables, SoundTable, FindsFirst, AlwaysFindsFirst, BuildsTables, AlwaysTables, OnlyOurIndexer, OnlyOurFinder}
 use Rattle.by_name.proofs.Rows.{order-in, table-parts, table-sound, is-sound, first-is-ours}
-use Rattle.by_name.proofs.Indexes.{table-filled, ours-indexes, looked-in, ours-judges, ours-find}
+use Rattle.by_name.proofs.Indexes.{table-filled, ours-indexes, looked-in, ours-judges, ours-find, ours-tables}
 
 -- strictly in order, and the same rows
 same-sorted : (s : List ℕ) (rows : ℕ) (u v v′ : List ℕ) → 4 * rows ≤ length u → SortedFrom s rows u v → SortedFrom s rows u v′ → v ≡ v′
@@ -64,3 +64,8 @@ always-finds B L b l =
     let e : B ≡ ourIndexer = λ i s at t. only-our-indexer B b s at t i in
     let f : L ≡ ourFinder = λ i s t name. only-our-finder L l s t name i in
     subst (λ (C : Indexer). FindsFirst C L) (sym e) (subst (λ (F : Finder). FindsFirst ourIndexer F) (sym f) ours-find)
+
+pub always-tables : AlwaysTables
+always-tables B good =
+    let e : B ≡ ourIndexer = λ i s at t. only-our-indexer B good s at t i in
+    subst (λ (C : Indexer). BuildsTables C) (sym e) ours-tables

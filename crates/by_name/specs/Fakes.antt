@@ -18,7 +18,7 @@ use Rattle.one_call.specs.Readers.{WholeReader}
 use Rattle.one_call.specs.Fakes.{filledAsFarAsItGoes}
 use Rattle.index.specs.Index.{before, sorted, indexIs, indexBroken, indexRefused, AfterIndex, indexOf, indexTo, rowWithin, every, rising, allRows, isTable, firstWith, hasName, FoundSaid, foundNone, lookRefused, foundSaid, lookUp}
 use Rattle.index.specs.Answers.{afterIndex}
-use Rattle.by_name.specs.Indexes.{Indexer, Finder, ourFinder, ourIndexer, GoodIndexer, JudgesTables, FindsFirst}
+use Rattle.by_name.specs.Indexes.{Indexer, Finder, ourFinder, ourIndexer, GoodIndexer, JudgesTables, FindsFirst, BuildsTables}
 
 -- ---- building
 
@@ -229,6 +229,7 @@ pub record FallIndexes : Type 0 where
   pub long-cut : JudgesTables lookInFirstPart → ⊥
   pub ten : JudgesTables emptyInputIsTen → ⊥
   -- both together
+  pub message-order-no-table : BuildsTables inMessageOrder → ⊥
   pub message-order-found : FindsFirst inMessageOrder ourFinder → ⊥
   pub last-found-in-index : FindsFirst ourIndexer lastOfEqualNames → ⊥
   pub prefix-found-in-index : FindsFirst ourIndexer prefixIsTheName → ⊥

@@ -118,7 +118,14 @@ abbrev pub FindsFirst : Indexer → Finder → Type 0
 FindsFirst B L = (s : List ℕ) (at : ℕ) (t : List ℕ) (next : ℕ) (m : Message Span) → Fair s at → RunsTo s at next m → (rows p : ℕ) → B s at t .answer ≡ indexIs rows p
     → (name : List ℕ) → FirstNamed (entryName s) (RowIs s) name (m .content .entries) (L s (take (4 * rows) (B s at t .table)) name)
 
--- whoever keeps both claims finds the first
+-- the rows that were built are a table that a lookup takes
+abbrev pub BuildsTables : Indexer → Type 0
+BuildsTables B = (s : List ℕ) (at : ℕ) (t : List ℕ) (rows next : ℕ) → Fair s at → B s at t .answer ≡ indexIs rows next → SoundTable s (take (4 * rows) (B s at t .table))
+
+-- whoever builds a good index builds such a table, and whoever keeps both claims finds the first
+abbrev pub AlwaysTables : Type 0
+AlwaysTables = (B : Indexer) → GoodIndexer B → BuildsTables B
+
 abbrev pub AlwaysFindsFirst : Type 0
 AlwaysFindsFirst = (B : Indexer) (L : Finder) → GoodIndexer B → JudgesTables L → FindsFirst B L
 

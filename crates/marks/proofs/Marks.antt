@@ -7,7 +7,7 @@ use Rattle.one_call.proofs.Unique.{only-ours}
 use Rattle.one_call.proofs.Bench.{whole-bench}
 use Rattle.one_call.proofs.Fakes.{fall-whole-readers}
 use Rattle.by_name.proofs.Indexes.{ours-good-index, ours-judges}
-use Rattle.by_name.proofs.Unique.{only-our-indexer, only-our-finder, always-finds}
+use Rattle.by_name.proofs.Unique.{only-our-indexer, only-our-finder, always-finds, always-tables}
 use Rattle.by_name.proofs.Rest.{never-reads-on}
 use Rattle.by_name.proofs.Bench.{index-bench, lookup-bench}
 use Rattle.by_name.proofs.Fakes.{fall-indexes}
@@ -102,6 +102,7 @@ marks =
       index-reads-on = never-reads-on;
       lookup = ours-judges;
       only-lookup = only-our-finder;
+      index-tables = always-tables;
       finds-first = always-finds;
       index-bench = index-bench;
       lookup-bench = lookup-bench;

@@ -20,7 +20,7 @@ use Rattle.written.specs.Fakes.{FallWriters}
 use Rattle.one_call.specs.Readers.{ourWholeReader, GoodWholeReader, OnlyOurs}
 use Rattle.one_call.specs.Bench.{WholeBench}
 use Rattle.one_call.specs.Fakes.{FallWholeReaders}
-use Rattle.by_name.specs.Indexes.{ourIndexer, ourFinder, GoodIndexer, JudgesTables, AlwaysFindsFirst, OnlyOurIndexer, OnlyOurFinder, NeverReadsOn}
+use Rattle.by_name.specs.Indexes.{ourIndexer, ourFinder, GoodIndexer, JudgesTables, AlwaysTables, AlwaysFindsFirst, OnlyOurIndexer, OnlyOurFinder, NeverReadsOn}
 use Rattle.by_name.specs.Bench.{IndexBench, LookupBench}
 use Rattle.by_name.specs.Fakes.{FallIndexes}
 use Rattle.places.specs.Readers.{Readers}
@@ -131,6 +131,7 @@ pub record Marks : Type 0 where
   pub index-reads-on : NeverReadsOn
   pub lookup : JudgesTables ourFinder
   pub only-lookup : OnlyOurFinder
+  pub index-tables : AlwaysTables
   pub finds-first : AlwaysFindsFirst
   pub index-bench : IndexBench ourIndexer
   pub lookup-bench : LookupBench ourFinder
