@@ -1,8 +1,8 @@
 -- Each fake falls. Who keeps a claim does as ours do, so one input at which it doesn't is enough.
 use mathlib.Core.Path.{_≡_, refl, sym, ap, _∙_, subst}
-use mathlib.Core.Bool.{Bool, true, false, cond, true≢false}
+use mathlib.Core.Bool.{true, false, true≢false}
 use mathlib.Core.List.{List, [], _∷_, _++_, List·Memᴰ, List·Memᴰ·head, List·Memᴰ·tail}
-use mathlib.Core.Option.{Option, some, none}
+use mathlib.Core.Option.{some, none}
 use Prim.Native.Nat.{ℕ, _+_, _*_, _≤_, _<_}
 use native.Mathlib.Omega.{arith}
 use lib.ListN.{length, getD, take, drop, replicate, length-replicate}
@@ -20,19 +20,18 @@ use Rattle.value.specs.Values.{timeAt, statusOf, statusAt, signedValue, unsigne
 use Rattle.common.specs.Fields.{ListEntry, openAt, closeAt, entryAt}
 use Rattle.message.specs.Messages.{MessageStart, listBody, listStartAt, listEndAt, contentAt, bodyAt, startAt}
 use Rattle.trailer.specs.Trailer.{messageEndAt, crcFrom, trailerAt}
-use Rattle.whole.specs.Whole.{EntryRow, rowAt, insideAt, wholeAt, flat, rowsOf, WholeSaid, wholeIs, broken, refusedAlone, AfterWhole, fillTo, readTo, Fair}
+use Rattle.whole.specs.Whole.{EntryRow, rowAt, insideAt, wholeAt, flat, rowsOf, WholeSaid, wholeIs, broken, refusedAlone, fillTo, readTo, Fair}
 use Rattle.name_order.specs.Order.{lower}
-use Rattle.one_call.specs.Readers.{RunsTo, RowIs, ReadAs}
+use Rattle.one_call.specs.Readers.{RowIs}
 use Rattle.one_call.specs.Bench.{old, spanOf, bodyWithId, noEnd}
-use Rattle.one_call.specs.Fakes.{filledAsFarAsItGoes}
 use Rattle.one_call.proofs.Readers.{ours-good}
-use Rattle.index.specs.Index.{before, insert, sorted, sortedTo, IndexSaid, indexIs, indexBroken, indexRefused, AfterIndex, indexOf, indexTo, rowWithin, every, rising, isTable, firstWith, hasName, FoundSaid, foundRow, foundNone, lookRefused, foundSaid, lookUp}
+use Rattle.index.specs.Index.{before, insert, sorted, sortedTo, indexIs, AfterIndex, indexOf, indexTo, rowWithin, every, rising, isTable, firstWith, hasName, FoundSaid, foundRow, foundNone, lookRefused, lookUp}
 use Rattle.index.specs.Answers.{afterIndex}
 use Rattle.index.proofs.Finds.{sorted-length}
 use Rattle.index.proofs.Tables.{look-outcome}
 use Rattle.by_name.specs.Indexes.{Indexer, Finder, ourIndexer, ourFinder, GoodIndexer, JudgesTables, FirstNamed, firstNamed, noneNamed, entryName, FindsFirst, BuildsTables}
 use Rattle.by_name.specs.Bench.{sixInput, sixTable, small}
-use Rattle.by_name.specs.Fakes.{rowsBy, signedBytes, otherSide, indexBy, inMessageOrder, greatestFirst, shorterFirst, lastOfANameFirst, byPlaceAlone, aRowForEachName, allRowsSorted, overReader, indexAsFarAsItGoes, lookBy, isSoundTable, firstByName, judgeBy, lastOfEqualNames, prefixIsTheName, nameIsAPrefix, equalRowsInOrder, orderByNameAlone, oneRowAName, orderNotJudged, entryNotJudged, nameNotJudged, startPlusLengthWraps, partOfARowIgnored, judgedUpToTheName, emptyTableRefused, rowsMustBeEntries, unsoundIsNone, tableBeforeLength, lookInFirstPart, emptyInputIsTen, SameIndexer, SameFinder, FallIndexes}
+use Rattle.by_name.specs.Fakes.{rowsBy, signedBytes, indexBy, inMessageOrder, greatestFirst, shorterFirst, lastOfANameFirst, byPlaceAlone, aRowForEachName, allRowsSorted, overReader, indexAsFarAsItGoes, lookBy, isSoundTable, firstByName, judgeBy, lastOfEqualNames, prefixIsTheName, nameIsAPrefix, equalRowsInOrder, orderByNameAlone, oneRowAName, orderNotJudged, entryNotJudged, nameNotJudged, startPlusLengthWraps, partOfARowIgnored, judgedUpToTheName, emptyTableRefused, rowsMustBeEntries, unsoundIsNone, tableBeforeLength, lookInFirstPart, emptyInputIsTen, SameIndexer, SameFinder, FallIndexes}
 use Rattle.by_name.proofs.Rows.{rows-length, is-sound}
 use Rattle.by_name.proofs.Indexes.{looked-in, ours-find}
 use Rattle.by_name.proofs.Unique.{only-our-indexer, only-our-finder}

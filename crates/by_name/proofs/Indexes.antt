@@ -1,37 +1,36 @@
 -- Ours is a good index: what is built, what a lookup says, and what it finds in what was built.
-use Prim.Native.Nat.{ℕ, _+_, _*_, _≤_, _<_}
+use Prim.Native.Nat.{ℕ, _*_, _≤_, _<_}
 use mathlib.Core.Path.{_≡_, refl, sym, ap, _∙_, subst}
-use mathlib.Core.Bool.{Bool, true, false, true≢false}
-use mathlib.Core.List.{List, [], _∷_, _++_, List·Memᴰ, List·Memᴰ·head, List·Memᴰ·tail, List·Memᴰ·not-nil, List·Memᴰ·cases-cons}
+use mathlib.Core.Bool.{true, true≢false}
+use mathlib.Core.List.{List, [], _∷_, _++_, List·Memᴰ, List·Memᴰ·not-nil, List·Memᴰ·cases-cons}
 use mathlib.Core.Option.{Option, some}
 use mathlib.Core.Logic.{⊎-elim}
 use native.Mathlib.Omega.{arith}
 use lib.ListN.{length, take, drop}
 use Rattle.refusals.specs.Numbers.{inputTooLongNo, badSpanNo, limit}
-use Rattle.refusals.specs.Read.{Read, got, Refusal}
+use Rattle.refusals.specs.Read.{got, Refusal}
 use Rattle.refusals.specs.declared.Span.{Span}
 use Rattle.frame.proofs.Cases.{by-test}
 use Rattle.common.specs.Fields.{ListEntry}
 use Rattle.octet_string.specs.Strings.{partOf}
 use Rattle.message.specs.Messages.{MessageStart, ListEnd}
-use Rattle.events.specs.Message.{Message, messageAt}
-use Rattle.whole.specs.Whole.{EntryRow, flat, rowsOf, WholeSaid, wholeIs, broken, refusedAlone, AfterWhole, readTo, Fair}
-use Rattle.whole.specs.Answers.{afterWhole}
+use Rattle.events.specs.Message.{Message}
+use Rattle.whole.specs.Whole.{EntryRow, flat, rowsOf, WholeSaid, wholeIs, broken, refusedAlone, AfterWhole, readTo}
 use Rattle.whole.proofs.Outcomes.{not-broken, not-refused-alone}
-use Rattle.one_call.specs.Readers.{WholeReader, ourWholeReader, RunsTo, RowIs, RowsAre, ReadAs, AcceptedWhole, GoodWholeReader}
+use Rattle.one_call.specs.Readers.{ourWholeReader, RowIs, RowsAre}
 use Rattle.one_call.proofs.Runs.{run-found}
 use Rattle.one_call.proofs.Outcomes.{gotOr}
 use Rattle.one_call.proofs.Readers.{ours-good}
 use Rattle.one_call.proofs.Unique.{only-ours}
-use Rattle.index.specs.Index.{before, sorted, sortedTo, IndexSaid, indexIs, indexBroken, indexRefused, AfterIndex, indexOf, indexTo, allRows, isTable, firstWith, hasName, FoundSaid, foundRow, foundNone, lookRefused, foundSaid, lookUp}
+use Rattle.index.specs.Index.{before, sorted, sortedTo, IndexSaid, indexIs, indexBroken, indexRefused, AfterIndex, indexOf, indexTo, allRows, isTable, firstWith, hasName, FoundSaid, lookRefused, foundSaid, lookUp}
 use Rattle.index.specs.Answers.{afterIndex}
 use Rattle.index.proofs.Rows.{before-order}
-use Rattle.index.proofs.Unique.{Ordered, sorted-in, in-sorted}
-use Rattle.index.proofs.Finds.{startsBefore, sorted-length, sorted-table, finds-first}
+use Rattle.index.proofs.Unique.{sorted-in, in-sorted}
+use Rattle.index.proofs.Finds.{sorted-length, sorted-table, finds-first}
 use Rattle.index.proofs.Built.{TableFilled, message-filled}
 use Rattle.index.proofs.Tables.{LookOutcome, longInput, noTable, lookedIn, look-outcome}
 use Rattle.by_name.specs.Indexes.{ourIndexer, ourFinder, InOrder, SameRows, SortedFrom, Indexes, GoodIndexer, FirstNamed, firstNamed, noneNamed, RowInside, SoundTable, rowName, JudgesTables, entryName, FindsFirst, BuildsTables}
-use Rattle.by_name.proofs.Rows.{in-order, order-in, rows-length, rows-again, rest-again, length-again, front-again, all-rows, whole-rows, table-sound, is-sound, named-is, is-named, not-named, one-more-named, first-of-rows}
+use Rattle.by_name.proofs.Rows.{in-order, rows-length, rows-again, rest-again, length-again, front-again, all-rows, whole-rows, table-sound, is-sound, named-is, not-named, one-more-named, first-of-rows}
 
 -- ---- building, after what the reader of whole messages says
 

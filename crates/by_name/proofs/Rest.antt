@@ -1,42 +1,32 @@
 -- What follows the message is not read: the names stand before its end, so other bytes behind it leave the order as it is.
 use Prim.Native.Nat.{ℕ, zero, suc, _+_, _*_, _≤_, _<_}
 use mathlib.Core.Path.{_≡_, refl, sym, ap, _∙_, subst}
-use mathlib.Core.Bool.{Bool, true, false, cond}
+use mathlib.Core.Bool.{Bool, cond}
 use mathlib.Core.List.{List, [], _∷_, _++_, List·Memᴰ, List·Memᴰ·head, List·Memᴰ·tail}
 use mathlib.Core.Option.{Option}
 use native.Mathlib.Omega.{arith}
 use lib.ListN.{length, take, drop, length-append}
-use lib.Seq.{length-take-le, take-at}
-use lib.Dec.{ltb}
-use Rattle.refusals.specs.Numbers.{limit}
+use lib.Seq.{length-take-le, take-at, take-take}
 use Rattle.refusals.specs.declared.Span.{Span}
 use Rattle.octet_string.specs.Strings.{partOf}
 use Rattle.octet_string.proofs.Strings.{part-is}
-use Rattle.name_order.specs.Order.{lower}
 use Rattle.whole.specs.Whole.{EntryRow, flat, rowsOf, wholeIs, AfterWhole, readTo, Fair}
 use Rattle.message.specs.Messages.{MessageStart, ListEnd}
 use Rattle.whole.proofs.Outcomes.{WholeOutcome, tooLong, placeBeyond, brokenAt, tableFull, takenWhole, whole-outcome, not-broken, not-refused-alone, says-so}
 use Rattle.one_call.proofs.Messages.{held-whole}
-use Rattle.one_call.specs.Readers.{RunsTo, ReadAs}
 use Rattle.one_call.proofs.Readers.{ours-good}
-use Rattle.index.specs.Index.{before, insert, sorted, sortedTo, indexIs, AfterIndex, indexTo}
+use Rattle.index.specs.Index.{before, insert, sorted, sortedTo, indexIs}
 use Rattle.index.specs.Answers.{afterIndex}
 use Rattle.index.proofs.Rows.{before-order}
 use Rattle.index.proofs.Unique.{sorted-in}
-use Rattle.by_name.specs.Indexes.{Indexer, ourIndexer, RowInside, GoodIndexer, RestNotIndexed, NeverReadsOn}
+use Rattle.by_name.specs.Indexes.{Indexer, ourIndexer, RowInside, RestNotIndexed, NeverReadsOn}
 use Rattle.by_name.proofs.Indexes.{index-built, rows-inside, read-first}
-use Rattle.by_name.proofs.Unique.{only-our-indexer}
+use Rattle.by_name.proofs.Unique.{indexer-is}
 
 -- ---- a part that ends before the bytes do that stay
 
-front-take : (b n : ℕ) (s : List ℕ) → b ≤ n → take b (take n s) ≡ take b s
-front-take zero n s h = refl
-front-take (suc b) zero s h = absurd (omega arith)
-front-take (suc b) (suc n) [] h = refl
-front-take (suc b) (suc n) (x ∷ s) h = ap (λ (l : List ℕ). x ∷ l) (front-take b n s (omega arith))
-
 part-front : (a b n : ℕ) (s : List ℕ) → a + b ≤ n → take b (drop a (take n s)) ≡ take b (drop a s)
-part-front zero b n s h = front-take b n s (omega arith)
+part-front zero b n s h = take-take b n s (omega arith)
 part-front (suc a) b zero s h = absurd (omega arith)
 part-front (suc a) b (suc n) [] h = refl
 part-front (suc a) b (suc n) (x ∷ s) h = part-front a b n s (omega arith)
@@ -110,6 +100,4 @@ not-indexed s at t rows next fair e l short =
     ∙ sym (index-built s at t (f .start) (f .end) rows next (f .is))
 
 pub never-reads-on : NeverReadsOn
-never-reads-on B good =
-    let e : B ≡ ourIndexer = λ i s at t. only-our-indexer B good s at t i in
-    subst (λ (C : Indexer). RestNotIndexed C) (sym e) not-indexed
+never-reads-on B good = subst (λ (C : Indexer). RestNotIndexed C) (sym (indexer-is B good)) not-indexed

@@ -1,18 +1,15 @@
 -- Rows in a table, and the first of them with a name.
-use Prim.Native.Nat.{ℕ, zero, suc, _+_, _*_, _/_, _%_, _≤_, _<_}
+use Prim.Native.Nat.{ℕ, zero, suc, _*_, _/_, _%_, _≤_}
 use mathlib.Core.Path.{_≡_, refl, sym, ap, _∙_, subst}
-use mathlib.Core.Bool.{Bool, true, false, cond, true≢false, _&&_}
+use mathlib.Core.Bool.{Bool, true, false, true≢false}
 use mathlib.Core.List.{List, [], _∷_, _++_, List·Memᴰ, List·Memᴰ·head, List·Memᴰ·tail, List·Memᴰ·not-nil, List·Memᴰ·cases-cons}
 use mathlib.Core.Option.{Option, some, none}
 use mathlib.Core.Logic.{⊎-elim}
 use native.Mathlib.Omega.{arith}
-use lib.ListN.{length, take, drop, take-append-drop, length-append, length-drop}
+use lib.ListN.{length, take, drop, take-append-drop}
 use lib.Seq.{take-at}
-use lib.Dec.{eqb}
 use borrow.Author.Tests.{eq-eqb, lt-ltb, ltb-true}
-use Rattle.refusals.specs.declared.Span.{Span}
 use Rattle.refusals.proofs.Read.{and-left, and-right}
-use Rattle.frame.specs.Frame.{same}
 use Rattle.frame.proofs.Cases.{by-test}
 use Rattle.frame.proofs.Same.{same-true, same-self}
 use Rattle.octet_string.specs.Strings.{isWithin, partOf}
@@ -23,12 +20,11 @@ use Rattle.name_order.proofs.Compared.{is-less, is-greater}
 use Rattle.whole.specs.Whole.{EntryRow, flat, rowsOf}
 use Rattle.whole.proofs.Rows.{flat-length}
 use Rattle.whole.proofs.Outcomes.{rows-back, rest-stays, length-stays}
-use Rattle.index.specs.Index.{before, sorted, sortedTo, rowWithin, every, rising, allRows, isTable, firstWith, hasName, FoundSaid, foundRow, foundNone, foundSaid}
+use Rattle.index.specs.Index.{before, rowWithin, every, rising, allRows, isTable, firstWith, hasName, FoundSaid, foundSaid}
 use Rattle.index.proofs.Order.{place-before, before-less, before-greater}
 use Rattle.index.proofs.Rows.{rows-tab, flat-tab}
-use Rattle.index.proofs.Finds.{sorted-length}
-use Rattle.index.proofs.Tables.{IsTable, is-a-table, every-in}
-use Rattle.by_name.specs.Indexes.{NameBefore, beginning, lessByte, RowBefore, byName, byPlace, InOrder, SameRows, RowInside, SoundTable, FirstNamed, firstNamed, noneNamed, rowName}
+use Rattle.index.proofs.Tables.{is-a-table, every-in}
+use Rattle.by_name.specs.Indexes.{NameBefore, beginning, lessByte, RowBefore, byName, byPlace, InOrder, RowInside, SoundTable, FirstNamed, firstNamed, noneNamed, rowName}
 
 -- ---- in order, by the test and by the claim
 

@@ -1,23 +1,22 @@
 -- Nobody else keeps the claims: who does answers as ours do, on every input, and leaves the same table.
-use Prim.Native.Nat.{ℕ, _*_, _≤_, _<_}
-use mathlib.Core.Path.{_≡_, refl, sym, ap, _∙_, subst}
+use Prim.Native.Nat.{ℕ, _*_, _≤_}
+use mathlib.Core.Path.{_≡_, refl, sym, _∙_, subst}
 use mathlib.Core.Bool.{Bool, true, false, true≢false}
 use mathlib.Core.List.{List, _++_}
 use native.Mathlib.Omega.{arith}
-use lib.ListN.{length, drop}
+use lib.ListN.{length}
 use lib.Dec.{ltb}
 use borrow.Author.Tests.{ltb-true, ltb-false}
 use Rattle.refusals.specs.Numbers.{limit}
-use Rattle.whole.specs.Whole.{EntryRow, flat, rowsOf, WholeSaid, wholeIs, broken, refusedAlone, readTo}
+use Rattle.whole.specs.Whole.{flat, rowsOf, WholeSaid, wholeIs, broken, refusedAlone, readTo}
 use Rattle.one_call.specs.Readers.{ourWholeReader}
 use Rattle.one_call.proofs.Readers.{ours-good}
-use Rattle.index.specs.Index.{before, AfterIndex, indexTo, allRows, isTable, lookUp}
+use Rattle.index.specs.Index.{before, indexTo, allRows, isTable, lookUp}
 use Rattle.index.proofs.Rows.{before-order}
 use Rattle.index.proofs.Unique.{unique}
 use Rattle.index.proofs.Finds.{rising-ordered}
-use Rattle.index.proofs.Built.{TableFilled}
 use Rattle.index.proofs.Tables.{look-outcome}
-use Rattle.by_name.specs.Indexes.{Indexer, Finder, ourIndexer, ourFinder, SortedFrom, Indexes, GoodIndexer, JudgesTables, SoundTable, FindsFirst, AlwaysFindsFirst, BuildsTables, AlwaysTables, OnlyOurIndexer, OnlyOurFinder}
+use Rattle.by_name.specs.Indexes.{Indexer, Finder, ourIndexer, ourFinder, SortedFrom, GoodIndexer, SoundTable, FindsFirst, AlwaysFindsFirst, BuildsTables, AlwaysTables, OnlyOurIndexer, OnlyOurFinder}
 use Rattle.by_name.proofs.Rows.{order-in, table-parts, table-sound, is-sound, first-is-ours}
 use Rattle.by_name.proofs.Indexes.{table-filled, ours-indexes, looked-in, ours-judges, ours-find, ours-tables}
 
@@ -58,14 +57,14 @@ only-our-finder L good s t name = go (ltb limit (length s)) (isTable s t) refl r
         let n : SoundTable s t → ⊥ = λ w. true≢false (sym (is-sound s t w) ∙ f) in
         good .unsound s t name (ltb-false _ _ e) n ∙ sym (ours-judges .unsound s t name (ltb-false _ _ e) n)
 
--- so both together find the first
+-- so what is true of ours is true of whoever keeps them
+pub indexer-is : (B : Indexer) → GoodIndexer B → B ≡ ourIndexer
+indexer-is B good = λ i s at t. only-our-indexer B good s at t i
+
 pub always-finds : AlwaysFindsFirst
 always-finds B L b l =
-    let e : B ≡ ourIndexer = λ i s at t. only-our-indexer B b s at t i in
     let f : L ≡ ourFinder = λ i s t name. only-our-finder L l s t name i in
-    subst (λ (C : Indexer). FindsFirst C L) (sym e) (subst (λ (F : Finder). FindsFirst ourIndexer F) (sym f) ours-find)
+    subst (λ (C : Indexer). FindsFirst C L) (sym (indexer-is B b)) (subst (λ (F : Finder). FindsFirst ourIndexer F) (sym f) ours-find)
 
 pub always-tables : AlwaysTables
-always-tables B good =
-    let e : B ≡ ourIndexer = λ i s at t. only-our-indexer B good s at t i in
-    subst (λ (C : Indexer). BuildsTables C) (sym e) ours-tables
+always-tables B good = subst (λ (C : Indexer). BuildsTables C) (sym (indexer-is B good)) ours-tables

@@ -1,23 +1,22 @@
 -- What sorting may count on: the rows that a whole message leaves in the table are few, and their entries' starts rise.
-use Prim.Native.Nat.{ℕ, zero, suc, _+_, _*_, _-_, _^_, _<_, _≤_}
-use mathlib.Core.Path.{_≡_, refl, sym, ap, _∙_, subst}
+use Prim.Native.Nat.{ℕ, zero, suc, _*_, _-_, _^_, _<_, _≤_}
+use mathlib.Core.Path.{_≡_, refl, sym, ap, subst}
 use mathlib.Core.List.{List, [], _∷_, _++_, List·Memᴰ, List·Memᴰ·not-nil, List·Memᴰ·cases-cons}
 use mathlib.Core.Option.{Option}
 use mathlib.Core.Logic.{⊎-elim}
 use native.Mathlib.Omega.{arith}
 use lib.ListN.{length, drop}
 use borrow.Author.Tests.{lt-ltb}
-use Rattle.refusals.specs.Numbers.{limit}
-use Rattle.refusals.specs.Read.{Read, got, refused, Refusal, then, many}
+use Rattle.refusals.specs.Read.{Refusal, many}
 use Rattle.refusals.specs.declared.Span.{Span}
 use Rattle.refusals.proofs.Read.{Ok, ok-any, ok-got, ok-then, ok-at}
 use Rattle.common.proofs.Fields.{entry-found}
 use Rattle.message.specs.Messages.{MessageStart, ListEnd, Body, openBody, closeBody, listBody, startAt, listEndAt}
 use Rattle.trailer.specs.Trailer.{trailerAt}
-use Rattle.whole.specs.Whole.{EntryRow, rowAt, rowsAt, WholeMessage, insideAt, wholeAt, flat, rowsOf, wholeIs, broken, refusedAlone, AfterWhole, readTo, Fair}
+use Rattle.whole.specs.Whole.{EntryRow, rowAt, rowsAt, WholeMessage, insideAt, wholeAt, flat, rowsOf, wholeIs, broken, refusedAlone, AfterWhole, readTo}
 use Rattle.whole.specs.Answers.{afterWhole}
-use Rattle.whole.proofs.Outcomes.{WholeOutcome, tooLong, placeBeyond, brokenAt, tableFull, takenWhole, whole-outcome, not-broken, not-refused-alone, Says, says-so, rows-back, length-stays}
-use Rattle.index.specs.Index.{indexIs, indexBroken, indexRefused, AfterIndex, sortedTo, indexOf, indexTo}
+use Rattle.whole.proofs.Outcomes.{WholeOutcome, tooLong, placeBeyond, brokenAt, tableFull, takenWhole, whole-outcome, not-broken, not-refused-alone, says-so, rows-back, length-stays}
+use Rattle.index.specs.Index.{indexIs, indexBroken, indexRefused, sortedTo, indexOf, indexTo}
 use Rattle.index.specs.Answers.{afterIndex}
 use Rattle.index.specs.Rows.{Distinct}
 use Rattle.index.proofs.Unique.{Ordered, none, more}

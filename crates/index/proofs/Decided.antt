@@ -1,14 +1,11 @@
 -- The views can be undone, so the contracts allow one outcome for each input.
 use mathlib.Core.Path.{_≡_, refl, ap}
 use mathlib.Core.Bool.{cond}
-use Prim.Native.Nat.{ℕ}
 use lib.Dec.{eqb}
 use Rattle.refusals.specs.Numbers.{badStateNo, inputTooLongNo}
 use Rattle.refusals.proofs.Undone.{faultFrom, fault-back}
-use Rattle.whole.specs.Whole.{EntryRow}
 use Rattle.index.specs.Index.{IndexSaid, indexIs, indexBroken, indexRefused, AfterIndex, FoundSaid, foundRow, foundNone, lookRefused}
 use Rattle.index.specs.Answers.{entryRow, indexed, afterIndex, foundBy}
-use Rattle.index.specs.declared.Row.{Row}
 use Rattle.index.specs.declared.Indexed.{Indexed}
 use Rattle.index.specs.declared.Indexed.the-variants as IndexR
 use Rattle.index.specs.declared.Found.{Found}

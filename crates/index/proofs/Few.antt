@@ -1,10 +1,10 @@
 -- Spending: a row sinks at most as often as the number of rows can be halved.
 use Prim.Native.Nat.{ℕ, zero, suc, _+_, _*_, _-_, _/_, _^_, _<_, _≤_}
-use mathlib.Core.Path.{_≡_, refl, sym, ap, _∙_, subst}
+use mathlib.Core.Path.{_≡_, ap, _∙_, subst}
 use native.Mathlib.Omega.{arith}
 use native.Mathlib.Numerals.{add-one}
 use native.Mathlib.Nat.{two-pow-succ, mul-add, mul-one}
-use lib.Pow.{pow-mono, pow-pos}
+use lib.Pow.{pow-mono}
 use Rattle.frame.proofs.Cases.{by-lt}
 use Rattle.index.specs.Few.{Sunk, Turns, Few}
 

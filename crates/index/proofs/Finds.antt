@@ -1,13 +1,12 @@
 -- What sorting leaves: as many rows, each before the next; and the first row with a name is the first of the message with that name.
-use Prim.Native.Nat.{ℕ, zero, suc, _+_, _*_, _<_, _≤_}
+use Prim.Native.Nat.{ℕ, zero, suc, _<_}
 use mathlib.Core.Path.{_≡_, refl, sym, ap, _∙_, subst}
-use mathlib.Core.List.{List, [], _∷_, _++_, List·Memᴰ, List·Memᴰ·head, List·Memᴰ·tail, List·Memᴰ·not-nil, List·Memᴰ·cases-cons}
-use mathlib.Core.Bool.{Bool, true, false, cond, true≢false, _&&_}
+use mathlib.Core.List.{List, [], _∷_, List·Memᴰ, List·Memᴰ·head, List·Memᴰ·tail, List·Memᴰ·not-nil, List·Memᴰ·cases-cons}
+use mathlib.Core.Bool.{Bool, true, false, true≢false, _&&_}
 use mathlib.Core.Option.{Option, some, none}
 use mathlib.Core.Logic.{_⊎_, inl, inr, ⊎-elim}
 use native.Mathlib.Omega.{arith}
-use lib.ListN.{length, take, drop, length-append}
-use lib.Seq.{take-at, drop-at}
+use lib.ListN.{length}
 use lib.Dec.{ltb}
 use borrow.Author.Tests.{ltb-true, le-ltb}
 use Rattle.refusals.proofs.Read.{and-left, and-right}
@@ -18,7 +17,7 @@ use Rattle.index.specs.Index.{before, insert, sorted, rising, firstWith}
 use Rattle.index.specs.Rows.{nthRow, Distinct}
 use Rattle.index.proofs.Order.{apart-before, place-before}
 use Rattle.index.proofs.Heap.{Order}
-use Rattle.index.proofs.Unique.{tab, Ordered, none, more, Apart, noneApart, joins, Comparable, less-trans, sorted-ordered, sorted-in, in-sorted, found-tab}
+use Rattle.index.proofs.Unique.{tab, Ordered, none, more, Apart, noneApart, joins, less-trans, sorted-ordered, sorted-in, in-sorted, found-tab}
 use Rattle.index.proofs.Rows.{before-order, rows-tab}
 
 -- ---- as many

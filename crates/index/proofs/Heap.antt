@@ -1,10 +1,9 @@
 -- The steps of a heap sort over a sequence: sinking one place, what stands on top, taking the top out.
 use Prim.Native.Nat.{ℕ, zero, suc, _+_, _*_, _-_, _/_, _<_, _≤_}
 use mathlib.Core.Path.{_≡_, refl, sym, ap, _∙_, subst}
-use mathlib.Core.Bool.{Bool, true, false, cond, true≢false}
+use mathlib.Core.Bool.{Bool, true, false}
 use native.Mathlib.Omega.{arith}
-use lib.Dec.{eqb, ltb}
-use Rattle.frame.proofs.Cases.{by-eq, by-lt, either}
+use Rattle.frame.proofs.Cases.{by-lt, either}
 use Rattle.index.specs.Heap.{swap, Shuffle, Upto, Under, Heap, HeapBut, Top, LargerOf, Done}
 use Rattle.index.proofs.Swap.{Swapped, tookFirst, tookSecond, tookNone, swap-view}
 

@@ -1,8 +1,7 @@
 -- Rows in the table: what a store changes, what an exchange is to the sequence of rows, and the sequence as a list.
 use Prim.Native.Nat.{ℕ, zero, suc, _+_, _*_, _-_, _<_, _≤_}
-use mathlib.Core.Path.{_≡_, refl, sym, ap, _∙_, subst}
+use mathlib.Core.Path.{_≡_, refl, sym, ap, _∙_}
 use mathlib.Core.List.{List, [], _∷_, _++_}
-use mathlib.Core.Bool.{Bool, true, false, cond}
 use native.Mathlib.Omega.{arith}
 use lib.ListN.{length, getD, set, take, drop, length-set, take-append-drop}
 use lib.Seq.{getD-set-same, getD-set-other, getD-drop, drop-set-lt, drop-drop}
@@ -10,7 +9,7 @@ use Rattle.whole.specs.Whole.{EntryRow, flat, rowsOf}
 use Rattle.whole.specs.Cut.{putRow}
 use Rattle.index.specs.Index.{before, sorted, sortedTo}
 use Rattle.index.specs.Rows.{rowFrom, nthRow, exchanged, Distinct}
-use Rattle.index.specs.Heap.{swap, Shuffle, Done, RowsKept}
+use Rattle.index.specs.Heap.{swap, Done, RowsKept}
 use Rattle.index.proofs.Order.{before-asym, upto-before, apart-before}
 use Rattle.index.proofs.Swap.{Swapped, tookFirst, tookSecond, tookNone, swap-view, shuffle-swap, shuffle-none, shuffle-then, shuffle-wider}
 use Rattle.index.proofs.Heap.{Order}

@@ -1,9 +1,7 @@
 -- Swapping two places, and shuffles made of such swaps.
-use Prim.Native.Nat.{ℕ, zero, suc, _+_, _*_, _<_, _≤_}
-use mathlib.Core.Path.{_≡_, refl, sym, ap, _∙_, subst}
-use mathlib.Core.Bool.{Bool, true, false, cond}
+use Prim.Native.Nat.{ℕ, _<_, _≤_}
+use mathlib.Core.Path.{_≡_, refl, sym, ap, _∙_}
 use native.Mathlib.Omega.{arith}
-use lib.Dec.{eqb, ltb}
 use Rattle.frame.proofs.Cases.{by-eq, by-lt}
 use Rattle.index.specs.Heap.{swap, Shuffle}
 

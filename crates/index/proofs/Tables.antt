@@ -1,5 +1,5 @@
 -- The outcomes of a lookup, and what is true of a table that it takes.
-use Prim.Native.Nat.{ℕ, _+_, _/_, _%_, _<_, _≤_}
+use Prim.Native.Nat.{ℕ, _+_, _%_, _<_, _≤_}
 use mathlib.Core.Path.{_≡_, refl, sym, ap, _∙_}
 use mathlib.Core.List.{List, [], _∷_, List·Memᴰ, List·Memᴰ·head, List·Memᴰ·tail, List·Memᴰ·not-nil, List·Memᴰ·cases-cons}
 use mathlib.Core.Bool.{Bool, true, false, cond, false≢true, _&&_}
@@ -10,7 +10,6 @@ use lib.ListN.{length}
 use lib.Dec.{ltb, eqb}
 use borrow.Author.Tests.{ltb-true, ltb-false, eqb-true}
 use Rattle.refusals.specs.Numbers.{inputTooLongNo, badSpanNo, limit}
-use Rattle.refusals.specs.declared.Span.{Span}
 use Rattle.refusals.proofs.Read.{and-left, and-right}
 use Rattle.octet_string.specs.Strings.{isWithin}
 use Rattle.octet_string.proofs.Strings.{within-end}

@@ -1,13 +1,13 @@
 -- Any way of sorting gives what inserting one after the other gives: two strictly ordered lists with the same elements are equal.
-use Prim.Native.Nat.{ℕ, zero, suc, _+_, _<_, _≤_}
-use mathlib.Core.Path.{_≡_, refl, sym, ap, _∙_, subst}
+use Prim.Native.Nat.{ℕ, zero, suc, _<_, _≤_}
+use mathlib.Core.Path.{_≡_, refl, sym, _∙_, subst}
 use mathlib.Core.List.{List, [], _∷_, List·Memᴰ, List·Memᴰ·head, List·Memᴰ·tail, List·Memᴰ·not-nil, List·Memᴰ·cases-cons}
-use mathlib.Core.Bool.{Bool, true, false, cond, true≢false}
+use mathlib.Core.Bool.{Bool, true, false, true≢false}
 use mathlib.Core.Logic.{_⊎_, inl, inr, ⊎-elim}
 use native.Mathlib.Omega.{arith}
 use Rattle.frame.proofs.Cases.{by-test, by-lt}
 use Rattle.index.specs.Index.{insert, sorted}
-use Rattle.index.specs.Heap.{Shuffle, Upto, Done}
+use Rattle.index.specs.Heap.{Shuffle, Done}
 use Rattle.index.proofs.Swap.{back-within, back-is, to-apart}
 use Rattle.index.proofs.Heap.{Order}
 

@@ -1,29 +1,26 @@
 -- What a caller of the library hears of an index is what ours says; and so of every library that is heard so.
 use mathlib.Core.Path.{_≡_, refl, sym, ap, _∙_, subst}
-use mathlib.Core.Bool.{Bool, true, false, cond, true≢false, _||_}
+use mathlib.Core.Bool.{true, false, true≢false, _||_}
 use mathlib.Core.Option.{Option, some, none}
 use mathlib.Core.List.{List, [], _∷_}
-use Prim.Native.Nat.{ℕ, _*_, _≤_, _<_}
+use Prim.Native.Nat.{ℕ, _*_, _≤_}
 use native.Mathlib.Omega.{arith}
 use lib.ListN.{length, take}
 use lib.Dec.{eqb}
 use borrow.Author.Tests.{eq-eqb, ne-eqb}
 use Rattle.refusals.specs.Numbers.{badStateNo, inputTooLongNo, tooManyEntriesNo, limit}
-use Rattle.refusals.specs.Read.{Refusal}
 use Rattle.refusals.specs.declared.Span.{Span}
 use Rattle.common.specs.Fields.{ListEntry}
 use Rattle.events.specs.Message.{Message}
-use Rattle.words.specs.Back.{wordAt}
-use Rattle.whole.specs.Whole.{EntryRow, flat, WholeSaid, wholeIs, broken, refusedAlone, AfterWhole, readTo, Fair}
+use Rattle.whole.specs.Whole.{EntryRow, flat, AfterWhole, readTo, Fair}
 use Rattle.whole.proofs.Outcomes.{WholeOutcome, tooLong, placeBeyond, brokenAt, tableFull, takenWhole, whole-outcome}
 use Rattle.one_call.specs.Readers.{RunsTo, RowIs}
 use Rattle.one_call.proofs.Readers.{ours-good}
 use Rattle.index.specs.Index.{IndexSaid, indexIs, indexBroken, indexRefused, AfterIndex, indexOf, indexTo, FoundSaid, foundRow, foundNone, lookRefused, foundSaid, firstWith, hasName, allRows, lookUp}
-use Rattle.index.specs.Answers.{afterIndex}
 use Rattle.index.proofs.Tables.{LookOutcome, longInput, noTable, lookedIn, look-outcome}
 use Rattle.by_name.specs.Indexes.{Indexer, Finder, ourIndexer, ourFinder, GoodIndexer, FirstNamed, firstNamed, noneNamed, JudgesTables, entryName, FindsFirst}
 use Rattle.by_name.proofs.Indexes.{ours-good-index, ours-judges, ours-find}
-use Rattle.sartrogheo.specs.Calls.{goodNo, notFoundNo, Reply, reply}
+use Rattle.sartrogheo.specs.Calls.{goodNo, notFoundNo, reply}
 use Rattle.sartrogheo.specs.Indexes.{indexNo, indexWords, sghBuildIndex, lookTold, sghLookUp}
 use Rattle.marks.specs.Library.{Library, ourLibrary, lentAt, HearsReader, EntriesHeard, indexHeard, indexerBy, rowHeard, foundHeard, finderBy, HearsIndex}
 use Rattle.marks.proofs.HeardEvent.{stands-between}

@@ -1,22 +1,15 @@
 -- What was found, and a call that is accepted.
 use mathlib.Core.Path.{_≡_, refl, ap}
-use mathlib.Core.Bool.{Bool, true, false, cond}
-use mathlib.Core.List.{List, [], _∷_, _++_}
-use mathlib.Core.Option.{Option, none}
-use Prim.Native.Nat.{ℕ, suc, _+_, _*_, _/_, _≤_, _<_}
+use mathlib.Core.List.{List, [], _∷_}
+use Prim.Native.Nat.{ℕ, suc, _*_, _/_, _≤_}
 use native.Mathlib.Omega.{arith}
-use lib.ListN.{length, drop, replicate, length-append, length-drop, length-replicate}
-use lib.Dec.{ltb}
-use lib.Seq.{drop-at}
-use borrow.Author.Tests.{ltb-true, ltb-false, le-ltb}
-use Rattle.refusals.specs.Numbers.{badStateNo, inputTooLongNo, tooManyEntriesNo, limit}
+use lib.ListN.{length, replicate, length-replicate}
+use borrow.Author.Tests.{le-ltb}
+use Rattle.refusals.specs.Numbers.{limit}
 use Rattle.refusals.specs.Read.{Read, got, refused, Refusal}
 use Rattle.refusals.specs.declared.Span.{Span}
 use Rattle.common.specs.Fields.{ListEntry}
-use Rattle.message.specs.Messages.{MessageStart, ListEnd}
-use Rattle.whole.specs.Whole.{EntryRow, WholeMessage, wholeAt, flat, WholeSaid, wholeIs, broken, refusedAlone, AfterWhole, fillTo, readTo, Fair, rowsOf}
-use Rattle.whole.specs.Answers.{afterWhole}
-use Rattle.whole.proofs.Rows.{flat-length}
+use Rattle.whole.specs.Whole.{EntryRow, WholeMessage, wholeAt, wholeIs, fillTo, readTo, Fair}
 use Rattle.events.specs.Message.{Message}
 use Rattle.places.proofs.Seen.{isGot}
 use Rattle.one_call.specs.Readers.{RowsAre, WithRoom, ourWholeReader}

@@ -1,18 +1,17 @@
 -- An index in plain numbers: its words, and a row that a table's numbers hold.
-use mathlib.Core.Path.{_≡_, refl, sym, ap, _∙_}
+use mathlib.Core.Path.{_≡_, sym, ap}
 use mathlib.Core.List.{List, [], _∷_}
-use Prim.Native.Nat.{ℕ, _+_, _≤_}
+use Prim.Native.Nat.{ℕ}
 use native.Mathlib.Omega.{arith}
 use lib.ListN.{getD}
-use Rattle.refusals.specs.Numbers.{limit}
 use Rattle.refusals.specs.Read.{Refusal}
 use Rattle.streaming.specs.Next.{failed}
 use Rattle.words.specs.Words.{withZeros, eventWords}
-use Rattle.whole.specs.Whole.{EntryRow, flat}
-use Rattle.index.specs.Index.{IndexSaid, AfterIndex, indexTo, FoundSaid, foundRow, foundNone, lookRefused, lookUp}
+use Rattle.whole.specs.Whole.{EntryRow}
+use Rattle.index.specs.Index.{IndexSaid, indexTo, FoundSaid, foundRow, lookUp}
 use Rattle.index.specs.Answers.{afterIndex}
-use Rattle.index.proofs.Tables.{LookOutcome, look-outcome, RowLies, found-lies}
-use Rattle.sartrogheo.specs.Calls.{Reply, reply, goodNo, notFoundNo}
+use Rattle.index.proofs.Tables.{look-outcome, found-lies}
+use Rattle.sartrogheo.specs.Calls.{reply}
 use Rattle.sartrogheo.specs.Indexes.{indexNo, indexWords, sghBuildIndex, lookTold, sghLookUp}
 use Rattle.sartrogheo.specs.Cut.{RowIsSmall}
 
