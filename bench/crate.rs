@@ -53,7 +53,7 @@ fn main() {
         "bench_push" | "bench_push_slice" | "bench_push_slice_second" | "bench_packed" | "sgh_push_byte" | "sgh_push_slice" => push(&input),
         "bench_encode" => encode(&input),
         "bench_stream" => stream(&input),
-        "bench_events" | "sgh_next_event" | "sgh_read_message" => events(&input),
+        "bench_events" | "sgh_next_event" | "sgh_read_message" | "sgh_walk" => events(&input),
         "bench_crc_byte" => crc_byte(&input),
         "bench_crc" => util::CRC_X25.checksum(&input).into(),
         _ => std::process::exit(2),

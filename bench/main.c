@@ -27,7 +27,7 @@ extern u64 bench_crc_byte(const u8 *, size_t);
 static u8 in[1 << 20], out[1 << 22];
 static uint32_t rows[1 << 18];
 
-static const char *names[] = {"bench_push", "bench_push_slice", "bench_push_slice_second", "bench_encode", "bench_stream", "bench_events", "bench_crc", "bench_crc_byte", "bench_packed", "sgh_push_byte", "sgh_push_slice", "bench_write", "sgh_next_event", "sgh_read_message"};
+static const char *names[] = {"bench_push", "bench_push_slice", "bench_push_slice_second", "bench_encode", "bench_stream", "bench_events", "bench_crc", "bench_crc_byte", "bench_packed", "sgh_push_byte", "sgh_push_slice", "bench_write", "sgh_next_event", "sgh_read_message", "sgh_walk"};
 
 /* pushes of slices over the 28 bytes of a decoder, a call for each event */
 static u64 packed(size_t n, size_t cap) {
@@ -81,6 +81,17 @@ static u64 library_messages(size_t n) {
     return entries;
 }
 
+/* the leaves, element by element */
+static u64 library_walks(size_t n) {
+    sgh_walked walked;
+    u64 leaves = 0;
+    for (size_t at = 0; at < n; at += walked.bytes) {
+        if (sgh_walk(in, n, at, &walked)) return ~0ul;
+        leaves += walked.leaves;
+    }
+    return leaves;
+}
+
 static u64 call(size_t which, size_t n, size_t cap, size_t step) {
     switch (which) {
     case 0: return bench_push(in, n, out, cap);
@@ -97,6 +108,7 @@ static u64 call(size_t which, size_t n, size_t cap, size_t step) {
     case 11: return bench_write(in, n, out, cap, step) == step ? step : ~0ul;
     case 12: return library_events(n);
     case 13: return library_messages(n);
+    case 14: return library_walks(n);
     }
     return ~0ul;
 }

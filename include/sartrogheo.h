@@ -23,7 +23,7 @@ extern "C" {
 #define SGH_PAYLOAD_TOO_LONG 1u      /* a payload of more than SGH_LIMIT bytes */
 #define SGH_ENCODE_OUT_OF_MEMORY 2u  /* the whole frame doesn't fit in the output */
 #define SGH_DECODER_OUT_OF_MEMORY 3u /* a byte to store doesn't fit in the decoder's buffer */
-#define SGH_BAD_STATE 4u             /* a decoder, Encoder, reader, writer or event that can't be (zeros are no decoder, no Encoder and no event), a place beyond the input, or an unknown way */
+#define SGH_BAD_STATE 4u             /* a decoder, Encoder, reader, writer or event that can't be (zeros are no decoder, no Encoder and no event), a message's place beyond the input, or an unknown way */
 #define SGH_WRONG_BUFFER 5u          /* the lent buffer isn't as long as the capacity, or a capacity over SGH_LIMIT */
 #define SGH_DISCARDED_BYTES 6u       /* bytes before a start, or before finalize, belong to no frame */
 #define SGH_INVALID_ESC 7u           /* an escape with four bytes that mean nothing */
@@ -43,6 +43,7 @@ extern "C" {
 #define SGH_BAD_SPAN 16u           /* no payload stands in the buffer; an event's string is no part of what is lent for it; a table to look up in isn't whole rows within the input, strictly in order */
 #define SGH_WRONG_NUMBER 17u       /* an entry or a list's end is to be written where none is due */
 #define SGH_OUTPUT_TOO_SHORT 18u   /* what is to be written doesn't fit in the output */
+#define SGH_TOO_DEEP 19u           /* a list opens inside sixteen open ones */
 #define SGH_TOO_MANY_ENTRIES 20u   /* a message has more entries than the table has rows */
 
 #define SGH_LIMIT 1048576u /* the longest payload to encode, the longest buffer and message input; a decoder hands out SGH_LIMIT - 4 bytes at most */
@@ -275,6 +276,54 @@ uint32_t sgh_build_index(const uint8_t *input, size_t len, size_t at, uint32_t *
    is too long; 16 for a part of a row, a row whose name or entry isn't within the input, or one that isn't strictly before the next (of two rows with one name and one
    entry start neither is before the other). SGH_NOT_FOUND, 9 and 16 leave the row as it was. */
 uint32_t sgh_look_up(const uint8_t *input, size_t len, const uint32_t *table, size_t table_len, const uint8_t *name, size_t name_len, sgh_row *row);
+
+/* ---- any content: elements, whatever they mean, for who wants to see what the other calls don't read, or refuse */
+
+#define SGH_END_MARK 1u /* the byte 00 on its own, wherever an element may stand */
+#define SGH_LEAF 2u     /* an element that is no list, of any type and length */
+#define SGH_LIST 3u     /* a list of any number of elements, of none too */
+
+/* The types of leaves. */
+#define SGH_TY_OCTET_STRING 0u
+#define SGH_TY_BOOLEAN 4u
+#define SGH_TY_INTEGER 5u
+#define SGH_TY_UNSIGNED 6u
+
+/* What begins at a place. `kind` is one of the three, or 0 where it is refused; `ty` and `content` are a leaf's, `count` is how many elements a list has, and what its kind
+   doesn't use is 0. `next` is the place behind an end mark or a leaf, or behind a list's length bytes: there its first element begins. `refused` is 0 where all is good. */
+typedef struct {
+    uint64_t kind, ty;
+    sgh_span content;
+    uint64_t count, next;
+    sgh_refusal refused;
+} sgh_item;
+
+#define SGH_ITEM_WORDS 9u
+
+/* What begins at `at`, whatever follows it: of a list its length bytes alone. A leaf is told by its length bytes and its content is not judged: a Boolean of no byte is one.
+   Gives 0; 9, before all else, for all `len` bytes, however short the item; 10 where the input ends in the length bytes or in a leaf's content, and at every place at or
+   beyond the input's end, an empty one's too, with the input's length as its place; 11 for wrong length bytes, with its kind, at the first of them.
+   A refusal stands in `item->refused`, of 9 the number alone; all else is 0 then, so that who goes on at `next` begins anew: stop. `item` is written whole each time.
+   All items of an element, in their order: go on at `next` each time. Count down how many elements each open list still wants: behind its last one a list is closed, a
+   list of none at once, and where none is open any more the element ends. sgh_walk judges how deep they are; this call doesn't. */
+uint32_t sgh_read_item(const uint8_t *input, size_t len, size_t at, sgh_item *item);
+
+/* How many bytes an element takes, from its first length byte on, and how many leaves it has; or why there is none. `refused` is 0 where all is good. */
+typedef struct {
+    uint64_t bytes, leaves;
+    sgh_refusal refused;
+} sgh_walked;
+
+#define SGH_WALKED_WORDS 5u
+
+/* Walks over the whole element at `at`, a list with all that is in it. What follows it is not looked at: the next one begins at `at` + `bytes`. An end mark counts as a leaf
+   of one byte; every element that is no list is a leaf, whatever its content; a list of none is its length bytes alone and has no leaf. Sixteen lists may be open at once,
+   the outermost counted. Where sgh_read_message reads a message, the walk over it ends at the same place.
+   Gives 0; 9, before all else, for all `len` bytes, however short the element; 10 and 11, as sgh_read_item gives them, where the walk first meets them; 19 for a list,
+   even of none, inside sixteen open ones: behind its own length bytes, whose 10 and 11 come first, and before its elements, at the first of these length bytes.
+   A refusal stands in `walked->refused`, with number, kind and place, of 9 the number alone; `bytes` and `leaves` are 0 then, so that who goes on by `bytes` stays where
+   it is: stop. `walked` is written whole each time. */
+uint32_t sgh_walk(const uint8_t *input, size_t len, size_t at, sgh_walked *walked);
 
 /* ---- messages that are written, so that a bench can pose as a meter */
 

@@ -154,7 +154,7 @@ struct asked {
     size_t len;      /* how many bytes its hex has */
     size_t strings;  /* how many of them are lent as strings */
     size_t name_len; /* how many the name has that is looked up */
-    uint64_t at;     /* a place in the output, or of `message` and `index` in the input, or beyond it */
+    uint64_t at;     /* a place in the output, or of `message`, `index`, `walk` and `item` in the input, or beyond it */
 };
 
 /* The bytes of a hex word, which is as long as two of them each; gives how many, and none for `-`. */
@@ -285,13 +285,18 @@ static bool takes_rewrite(struct asked *a, struct text rest)
     return are_steps(a->ops);
 }
 
+/* AT HEX. */
+static bool takes_placed(struct asked *a, struct text rest)
+{
+    return takes_place(a, first(rest, ' ')) && takes_bytes(a, behind(rest, ' '));
+}
+
 /* N AT HEX. */
 static bool takes_message(struct asked *a, struct text rest)
 {
-    struct text placed = behind(rest, ' ');
     uint64_t room = number(first(rest, ' '));
 
-    if (room > ROOM || !takes_place(a, first(placed, ' ')) || !takes_bytes(a, behind(placed, ' ')))
+    if (room > ROOM || !takes_placed(a, behind(rest, ' ')))
         return false;
     a->room = room;
     return true;
@@ -1131,6 +1136,155 @@ static bool says_lookup(const struct asked *a)
     return true;
 }
 
+/* ---- any content: a whole element, and what begins at a place */
+
+#define DEEPEST 16u /* so many lists may be open */
+
+static bool same_walk(const sgh_walked *x, const sgh_walked *y)
+{
+    return memcmp(x, y, sizeof *x) == 0;
+}
+
+static bool same_item(const sgh_item *x, const sgh_item *y)
+{
+    return memcmp(x, y, sizeof *x) == 0;
+}
+
+/* Whether a refusal is one of these calls: its number, its kind and where a place can stand. */
+static bool is_content_refusal(const sgh_refusal *r, size_t len)
+{
+    switch (r->number) {
+    case SGH_INPUT_TOO_LONG:
+        return r->kind == 0 && r->place == 0;
+    case SGH_UNEXPECTED_EOF:
+        return r->kind == 0 && r->place == len;
+    case SGH_INVALID_TLF:
+        return r->kind >= SGH_TLF_LENGTH_OVERFLOW && r->kind <= SGH_TLF_INVALID_TY && r->place < len;
+    default:
+        return r->number == SGH_TOO_DEEP && r->kind == 0 && r->place < len;
+    }
+}
+
+/* The walk by items: `wants` is how many elements each open list still wants, the outermost first. */
+static sgh_walked walk_by_items(const struct asked *a)
+{
+    uint64_t wants[DEEPEST], at = a->at, leaves = 0;
+    size_t open = 0;
+    sgh_item item;
+
+    for (;;) {
+        if (sgh_read_item(bytes, a->len, at, &item) != SGH_GOOD)
+            return (sgh_walked){.refused = item.refused};
+        if (item.kind == SGH_LIST && open == DEEPEST)
+            return (sgh_walked){.refused = {SGH_TOO_DEEP, 0, at}};
+        if (item.kind == SGH_LIST)
+            wants[open++] = item.count;
+        else
+            leaves++;
+        at = item.next;
+        while (open > 0 && wants[open - 1] == 0)
+            open--;
+        if (open == 0)
+            return (sgh_walked){.bytes = at - a->at, .leaves = leaves};
+        wants[open - 1]--;
+    }
+}
+
+/* Whether a call's answer is what it wrote, the items say the same, and so does the walk over the element alone. */
+static bool is_walk(const struct asked *a, uint32_t answer, const sgh_walked *w)
+{
+    sgh_walked by_items = walk_by_items(a), alone;
+
+    if (!same_walk(w, &by_items) || answer != w->refused.number)
+        return false;
+    if (answer != SGH_GOOD)
+        return is_content_refusal(&w->refused, a->len);
+    return w->bytes > 0 && a->at < a->len && w->bytes <= a->len - a->at && sgh_walk(bytes, a->at + w->bytes, a->at, &alone) == SGH_GOOD && same_walk(w, &alone);
+}
+
+static void put_content_refusal(const sgh_refusal *r)
+{
+    if (r->number == SGH_INPUT_TOO_LONG)
+        put_counted("err InputTooLong ", r->number);
+    else if (r->number == SGH_TOO_DEEP)
+        put_counted("err TooDeep 19 @", r->place);
+    else
+        put_refusal(r, true);
+}
+
+static bool says_walk(const struct asked *a)
+{
+    sgh_walked w;
+    uint32_t answer = sgh_walk(bytes, a->len, a->at, &w);
+
+    if (!is_walk(a, answer, &w))
+        return false;
+    if (answer == SGH_GOOD) {
+        put_counted("bytes ", w.bytes);
+        put_counted(" leaves ", w.leaves);
+    } else {
+        put_content_refusal(&w.refused);
+    }
+    return true;
+}
+
+static const char *type_name(uint64_t ty)
+{
+    return ty == SGH_TY_OCTET_STRING ? "string" : ty == SGH_TY_BOOLEAN ? "boolean" : ty == SGH_TY_INTEGER ? "integer" : ty == SGH_TY_UNSIGNED ? "unsigned" : NULL;
+}
+
+/* Whether an item that is no list is as long as the walk says, and a leaf has its content before the next place; of a list the walk goes on by items. */
+static bool is_item(const struct asked *a, const sgh_item *item, const sgh_walked *w)
+{
+    uint64_t own = item->next - a->at;
+
+    switch (item->kind) {
+    case SGH_END_MARK:
+        return own == 1 && w->bytes == 1 && w->leaves == 1;
+    case SGH_LEAF:
+        return type_name(item->ty) != NULL && item->content.start + item->content.len == item->next && item->content.start > a->at && w->bytes == own && w->leaves == 1;
+    default:
+        return item->kind == SGH_LIST && own > 0;
+    }
+}
+
+static void put_item(const sgh_item *item)
+{
+    switch (item->kind) {
+    case SGH_END_MARK:
+        put("end mark");
+        break;
+    case SGH_LEAF:
+        put("leaf ");
+        put(type_name(item->ty));
+        put_counted(" ", item->content.start);
+        put_counted(" ", item->content.len);
+        break;
+    default: /* SGH_LIST */
+        put_counted("list ", item->count);
+    }
+    put_counted(" next ", item->next);
+}
+
+/* The walk must agree, and an input that ends behind the item must give the same. */
+static bool says_item(const struct asked *a)
+{
+    sgh_item item, alone;
+    sgh_walked w;
+    uint32_t answer = sgh_read_item(bytes, a->len, a->at, &item);
+
+    if (!is_walk(a, sgh_walk(bytes, a->len, a->at, &w), &w) || answer != item.refused.number)
+        return false;
+    if (answer != SGH_GOOD) {
+        put_content_refusal(&item.refused);
+        return answer != SGH_TOO_DEEP && same_walk(&w, &(sgh_walked){.refused = item.refused}) && same_item(&item, &(sgh_item){.refused = item.refused});
+    }
+    if (!is_item(a, &item, &w) || item.next > a->len || sgh_read_item(bytes, item.next, a->at, &alone) != SGH_GOOD || !same_item(&item, &alone))
+        return false;
+    put_item(&item);
+    return true;
+}
+
 /* ---- the events of a message, written again; their strings are parts of `bytes`, and the output is `frame` */
 
 struct rewriting {
@@ -1221,6 +1375,8 @@ static const struct command {
     {"message", takes_message, says_message},
     {"index", takes_message, says_index},
     {"lookup", takes_lookup, says_lookup},
+    {"walk", takes_placed, says_walk},
+    {"item", takes_placed, says_item},
 };
 
 /* Without a word first, since it is known at the end alone whether all agree. */

@@ -4,7 +4,7 @@ import fcntl, os, platform, shutil, subprocess, sys, time
 ROOT = os.path.dirname(os.path.dirname(os.path.abspath(__file__)))
 # who answers a command of bin/replay, by its first word: the library's calls, through replay/replay.c, or a program in Rattle
 LIBRARY = "library"
-COMMANDS = {LIBRARY: ["encode", "encode_cap", "stream", "crc", "push", "push2", "packed", "events", "places", "rewrite", "message", "index", "lookup"], "replay_parts": ["leaf", "tlf", "unpack", "pack"]}
+COMMANDS = {LIBRARY: ["encode", "encode_cap", "stream", "crc", "push", "push2", "packed", "events", "places", "rewrite", "message", "index", "lookup", "walk", "item"], "replay_parts": ["leaf", "tlf", "unpack", "pack"]}
 ANSWERS = {word: name for name, words in COMMANDS.items() for word in words}
 # where the stored vectors of each stand, stdin and stdout
 VECTORS = {LIBRARY: "replay", "replay_parts": "crates/replay_parts"}

@@ -572,6 +572,131 @@ static void lookups(void)
     HELD(sgh_look_up(bytes, SGH_LIMIT, long_row, 4, bytes, SGH_LIMIT + 1, &row) == SGH_NOT_FOUND && memcmp(&row, &UNFOUND, sizeof row) == 0);
 }
 
+/* ---- any content */
+
+/* Whether a walk writes this, all of it, and gives its refusal's number. */
+static bool walks(const uint8_t *input, size_t len, size_t at, sgh_walked wanted)
+{
+    sgh_walked walked;
+
+    memset(&walked, 0xa5, sizeof walked);
+    return sgh_walk(input, len, at, &walked) == wanted.refused.number && memcmp(&walked, &wanted, sizeof walked) == 0;
+}
+
+static bool begins(const uint8_t *input, size_t len, size_t at, sgh_item wanted)
+{
+    sgh_item item;
+
+    memset(&item, 0xa5, sizeof item);
+    return sgh_read_item(input, len, at, &item) == wanted.refused.number && memcmp(&item, &wanted, sizeof item) == 0;
+}
+
+/* Whether the walk refuses with this. */
+static bool not_walked(const uint8_t *input, size_t len, size_t at, uint64_t number, uint64_t kind, uint64_t place)
+{
+    return walks(input, len, at, (sgh_walked){.refused = {number, kind, place}});
+}
+
+/* Whether both calls do. */
+static bool no_content(const uint8_t *input, size_t len, size_t at, uint64_t number, uint64_t kind, uint64_t place)
+{
+    return not_walked(input, len, at, number, kind, place) && begins(input, len, at, (sgh_item){.refused = {number, kind, place}});
+}
+
+/* The close, item by item. */
+static void items(void)
+{
+    static const sgh_item close[] = {
+        {.kind = SGH_LIST, .count = 6, .next = 1},
+        {.kind = SGH_LEAF, .ty = SGH_TY_OCTET_STRING, .content = {2, 4}, .next = 6},
+        {.kind = SGH_LEAF, .ty = SGH_TY_UNSIGNED, .content = {7, 1}, .next = 8},
+        {.kind = SGH_LEAF, .ty = SGH_TY_UNSIGNED, .content = {9, 1}, .next = 10},
+        {.kind = SGH_LIST, .count = 2, .next = 11},
+        {.kind = SGH_LEAF, .ty = SGH_TY_UNSIGNED, .content = {12, 2}, .next = 14},
+        {.kind = SGH_LIST, .count = 1, .next = 15},
+        {.kind = SGH_LEAF, .ty = SGH_TY_OCTET_STRING, .content = {16, 0}, .next = 16},
+        {.kind = SGH_LEAF, .ty = SGH_TY_UNSIGNED, .content = {17, 2}, .next = 19},
+        {.kind = SGH_END_MARK, .next = 20},
+    };
+    static const uint8_t several[] = {0x41, 0x42, 7, 0x51, 0x53, 0xff, 0x9c, 0x80, 0x02, 0xf0, 0x00, 0xff, 0x8f, 0x8f, 0x8f, 0x8f, 0x8f, 0x8f, 0x0f};
+    uint64_t at = 0;
+
+    HELD(sizeof(sgh_item) == 8 * SGH_ITEM_WORDS && sizeof(sgh_walked) == 8 * SGH_WALKED_WORDS);
+    for (unsigned k = 0; k < sizeof close / sizeof *close; at = close[k++].next) {
+        HELD(begins(CLOSE, sizeof CLOSE, at, close[k]) && begins(CLOSE, close[k].next, at, close[k]));
+        HELD(close[k].kind == SGH_LIST || walks(CLOSE, sizeof CLOSE, at, (sgh_walked){close[k].next - at, 1, {0, 0, 0}}));
+        for (size_t len = at + 1; len < close[k].next; len++)
+            HELD(no_content(CLOSE, len, at, SGH_UNEXPECTED_EOF, 0, len));
+    }
+    HELD(at == sizeof CLOSE && no_content(CLOSE, sizeof CLOSE, at, SGH_UNEXPECTED_EOF, 0, sizeof CLOSE));
+    /* a Boolean of no byte and of one, Integers, an empty string of two length bytes, a list of none and the longest one */
+    HELD(begins(several, sizeof several, 0, (sgh_item){.kind = SGH_LEAF, .ty = SGH_TY_BOOLEAN, .content = {1, 0}, .next = 1}) && begins(several, sizeof several, 1, (sgh_item){.kind = SGH_LEAF, .ty = SGH_TY_BOOLEAN, .content = {2, 1}, .next = 3}));
+    HELD(begins(several, sizeof several, 3, (sgh_item){.kind = SGH_LEAF, .ty = SGH_TY_INTEGER, .content = {4, 0}, .next = 4}) && begins(several, sizeof several, 4, (sgh_item){.kind = SGH_LEAF, .ty = SGH_TY_INTEGER, .content = {5, 2}, .next = 7}));
+    HELD(begins(several, sizeof several, 7, (sgh_item){.kind = SGH_LEAF, .ty = SGH_TY_OCTET_STRING, .content = {9, 0}, .next = 9}) && begins(several, sizeof several, 9, (sgh_item){.kind = SGH_LIST, .next = 11}));
+    HELD(begins(several, sizeof several, 11, (sgh_item){.kind = SGH_LIST, .count = 4294967295, .next = sizeof several}) && not_walked(several, sizeof several, 11, SGH_UNEXPECTED_EOF, 0, sizeof several));
+}
+
+/* The close, cut anywhere and with more behind it; the kinds of 11; places at the input's end and beyond it. */
+static void elements(void)
+{
+    static const struct { uint8_t kind, bytes[9]; } wrong[] = {{SGH_TLF_LENGTH_OVERFLOW, {0x81, 0x80, 0x80, 0x80, 0x80, 0x80, 0x80, 0x80, 0x80}}, {SGH_TLF_RESERVED, {0xc2}}, {SGH_TLF_LENGTH_UNDERFLOW, {0x80}}, {SGH_TLF_LENGTH_UNDERFLOW, {0x40}}, {SGH_TLF_NEXT_BYTE_TYPE_MISMATCH, {0x81, 0x10}}, {SGH_TLF_INVALID_TY, {0x10}}};
+
+    for (size_t len = 0; len <= sizeof CLOSE; len++)
+        HELD(len == sizeof CLOSE ? walks(CLOSE, len, 0, (sgh_walked){sizeof CLOSE, 7, {0, 0, 0}}) : not_walked(CLOSE, len, 0, SGH_UNEXPECTED_EOF, 0, len));
+    HELD(walks(CLOSE, sizeof CLOSE, 10, (sgh_walked){6, 2, {0, 0, 0}}) && walks(CLOSE, sizeof CLOSE, 14, (sgh_walked){2, 1, {0, 0, 0}}));
+    for (unsigned k = 0; k < sizeof wrong / sizeof *wrong; k++) {
+        uint8_t list[10] = {0x71};
+        memcpy(list + 1, wrong[k].bytes, 9);
+        HELD(no_content(list, sizeof list, 1, SGH_INVALID_TLF, wrong[k].kind, 1) && not_walked(list, sizeof list, 0, SGH_INVALID_TLF, wrong[k].kind, 1));
+    }
+    for (size_t len = 0; len <= sizeof CLOSE; len++)
+        HELD(no_content(CLOSE, len, len, SGH_UNEXPECTED_EOF, 0, len) && no_content(CLOSE, len, len + 1, SGH_UNEXPECTED_EOF, 0, len) && no_content(CLOSE, len, SIZE_MAX, SGH_UNEXPECTED_EOF, 0, len));
+}
+
+#define DEEPEST 16u
+
+/* Lists in lists: the last byte of as many as may be open, and of one more, which is read before it is too deep. */
+static void depths(void)
+{
+    static const struct { uint8_t last; uint64_t number, leaves; } sixteen[] = {{0x01, 0, 1}, {0x00, 0, 1}, {0x70, SGH_TOO_DEEP, 0}, {0x71, SGH_TOO_DEEP, 0}, {0x7f, SGH_TOO_DEEP, 0}, {0xf1, SGH_UNEXPECTED_EOF, 0}, {0x02, SGH_UNEXPECTED_EOF, 0}};
+    uint8_t open[DEEPEST + 1];
+
+    memset(open, 0x71, DEEPEST);
+    for (unsigned k = 0; k < sizeof sixteen / sizeof *sixteen; k++) {
+        open[DEEPEST] = sixteen[k].last;
+        if (sixteen[k].number == 0)
+            HELD(walks(open, sizeof open, 0, (sgh_walked){sizeof open, sixteen[k].leaves, {0, 0, 0}}));
+        else
+            HELD(not_walked(open, sizeof open, 0, sixteen[k].number, 0, sixteen[k].number == SGH_TOO_DEEP ? DEEPEST : sizeof open));
+        HELD(begins(open, sizeof open, 0, (sgh_item){.kind = SGH_LIST, .count = 1, .next = 1}));
+    }
+    /* a list of none is the sixteenth; a list that is closed is open no more */
+    open[DEEPEST] = 0x70;
+    HELD(walks(open, sizeof open, 1, (sgh_walked){DEEPEST, 0, {0, 0, 0}}));
+    open[DEEPEST - 2] = 0x72;
+    open[DEEPEST - 1] = 0x70;
+    HELD(walks(open, sizeof open, 0, (sgh_walked){sizeof open, 0, {0, 0, 0}}));
+}
+
+/* 9 first, of all that is lent; the longest input: many end marks, a list of as many as fit, one more, one leaf, one that is longer. */
+static void longest_contents(void)
+{
+    static const uint8_t list[] = {0xff, 0x8f, 0x8f, 0x8f, 0x0b}, string[] = {0x81, 0x80, 0x80, 0x80, 0x80, 0x00};
+
+    HELD(no_content(bytes, SGH_LIMIT + 1, 0, SGH_INPUT_TOO_LONG, 0, 0) && no_content(bytes, SGH_LIMIT + 1, SGH_LIMIT + 1, SGH_INPUT_TOO_LONG, 0, 0) && no_content(bytes, SGH_LIMIT + 1, SIZE_MAX, SGH_INPUT_TOO_LONG, 0, 0));
+    HELD(walks(bytes, SGH_LIMIT, SGH_LIMIT - 1, (sgh_walked){1, 1, {0, 0, 0}}) && begins(bytes, SGH_LIMIT, SGH_LIMIT - 1, (sgh_item){.kind = SGH_END_MARK, .next = SGH_LIMIT}));
+    HELD(no_content(bytes, SGH_LIMIT, SGH_LIMIT, SGH_UNEXPECTED_EOF, 0, SGH_LIMIT) && no_content(bytes, SGH_LIMIT, SIZE_MAX, SGH_UNEXPECTED_EOF, 0, SGH_LIMIT));
+    memcpy(bytes, list, sizeof list);
+    HELD(walks(bytes, SGH_LIMIT, 0, (sgh_walked){SGH_LIMIT, SGH_LIMIT - sizeof list, {0, 0, 0}}) && begins(bytes, SGH_LIMIT, 0, (sgh_item){.kind = SGH_LIST, .count = SGH_LIMIT - sizeof list, .next = sizeof list}));
+    bytes[sizeof list - 1]++;
+    HELD(not_walked(bytes, SGH_LIMIT, 0, SGH_UNEXPECTED_EOF, 0, SGH_LIMIT) && not_walked(bytes, SGH_LIMIT + 1, 0, SGH_INPUT_TOO_LONG, 0, 0));
+    memcpy(bytes, string, sizeof string);
+    HELD(walks(bytes, SGH_LIMIT, 0, (sgh_walked){SGH_LIMIT, 1, {0, 0, 0}}) && begins(bytes, SGH_LIMIT, 0, (sgh_item){.kind = SGH_LEAF, .content = {sizeof string, SGH_LIMIT - sizeof string}, .next = SGH_LIMIT}));
+    bytes[sizeof string - 1]++;
+    HELD(no_content(bytes, SGH_LIMIT, 0, SGH_UNEXPECTED_EOF, 0, SGH_LIMIT));
+    memset(bytes, 0, sizeof string);
+}
+
 /* ---- messages that are written */
 
 /* The strings of the events below: a transaction, a name. */
@@ -718,6 +843,7 @@ static void nulls(void)
     sgh_row row = UNFOUND;
     HELD(sgh_look_up(NULL, 0, NULL, 0, NULL, 0, &row) == SGH_NOT_FOUND && memcmp(&row, &UNFOUND, sizeof row) == 0);
     HELD(sgh_look_up(NULL, 0, (const uint32_t[SGH_ROW_NUMBERS]){0}, SGH_ROW_NUMBERS, NULL, 0, &row) == SGH_GOOD && memcmp(&row, &(sgh_row){0, 0, 0, 0}, sizeof row) == 0);
+    HELD(no_content(NULL, 0, 0, SGH_UNEXPECTED_EOF, 0, 0) && no_content(NULL, 0, 1, SGH_UNEXPECTED_EOF, 0, 0) && no_content(NULL, 0, SIZE_MAX, SGH_UNEXPECTED_EOF, 0, 0));
     HELD(sgh_read_message(TWO, sizeof TWO, 0, NULL, 0, &m) == SGH_TOO_MANY_ENTRIES && refused(&m.start, SGH_REFUSED_ALONE, SGH_TOO_MANY_ENTRIES, 0, 0) && m.next == 0);
     sgh_writer w = {0};
     HELD(sgh_write_event(NULL, 0, NULL, 0, &END, &w) == SGH_WRONG_NUMBER && sgh_write_event(NULL, 0, NULL, 0, &CLOSES, &w) == SGH_BAD_SPAN);
@@ -746,6 +872,10 @@ static int calls(void)
     unread_messages();
     indexes();
     lookups();
+    items();
+    elements();
+    depths();
+    longest_contents();
     writing();
     no_events();
     writers();
@@ -935,6 +1065,25 @@ static void answer_indexes(const uint8_t *s, size_t len)
     fputs(answer == SGH_GOOD ? "none" : "", stdout);
 }
 
+static void put_refused(const sgh_refusal *r)
+{
+    printf(" %" PRIu64 " %" PRIu64 " %" PRIu64, r->number, r->kind, r->place);
+}
+
+/* What begins at a place, and the walk from there: each call's answer and all words. */
+static void answer_content(const uint8_t *s, size_t len, size_t at)
+{
+    sgh_item i;
+    sgh_walked w;
+
+    printf("%" PRIu32, sgh_read_item(s, len, at, &i));
+    printf(" %" PRIu64 " %" PRIu64 " %" PRIu64 " %" PRIu64 " %" PRIu64 " %" PRIu64, i.kind, i.ty, i.content.start, i.content.len, i.count, i.next);
+    put_refused(&i.refused);
+    printf(" | %" PRIu32, sgh_walk(s, len, at, &w));
+    printf(" %" PRIu64 " %" PRIu64, w.bytes, w.leaves);
+    put_refused(&w.refused);
+}
+
 static void put_answer(uint32_t answer, const uint8_t *buf, const uint64_t v[SGH_VALUES])
 {
     if (answer == SGH_PAYLOAD) {
@@ -1018,7 +1167,7 @@ static size_t unhex(const char *text)
     return n;
 }
 
-/* A line is a letter, three numbers (way, capacity and size of a chunk, of `p` alone) and the bytes in hex. */
+/* A line is a letter, three numbers (of `p` way, capacity and size of a chunk, of `x` a place first) and the bytes in hex. */
 static int answers(void)
 {
     static char line[200000];
@@ -1037,6 +1186,8 @@ static int answers(void)
             answer_messages(bytes, len);
         else if (line[0] == 'i')
             answer_indexes(bytes, len);
+        else if (line[0] == 'x')
+            answer_content(bytes, len, n[0]);
         else if (line[0] == 'f')
             answer_encode(bytes, len);
         else if (line[0] == 'w')

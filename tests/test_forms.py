@@ -1,5 +1,5 @@
 """The forms that the library has no call for, by the program of tests/forms, which runs without proof (`rt try`: compiled at -O0, at -O3 and with the compiler's assumptions checked): a decoder by value, in place, by slices and by slices in place, an Encoder by value and in place,
-the reader of messages by value and through Parser; and a whole message by value. Each answers a part of the library's stored vectors as stored, and `limits` every refusal with the record that it leaves. With --all every stored vector, in batches.
+the reader of messages by value and through Parser; and a whole message, an index, a lookup, a walk and what begins at a place by value. Each answers a part of the library's stored vectors as stored, and `limits` every refusal with the record that it leaves. With --all every stored vector, in batches.
 """
 import os, re, subprocess, sys, tempfile, time
 
@@ -8,7 +8,9 @@ os.chdir(os.path.join(os.path.dirname(os.path.abspath(__file__)), ".."))
 sys.path.append("scripts")
 import wrong_answers
 from programs import LIBRARY, VECTORS
+import walk_reading
 from index_reading import VECTORS as INDEX
+from walk_reading import EndMark, Leaf, List
 from whole_reading import MORE, VECTORS as WHOLE
 
 # Of the commands that say the same kinds of things so many short ones are asked in the gate. A run has ten seconds and may write a megabyte, so that a batch has few lines and little to write.
@@ -21,6 +23,7 @@ MUST = {"push": PUSHED, "push2": [*PUSHED[:4], "reset"], "packed": [*PUSHED, "re
 # the words before a command; without one it is asked by value, and `packed` over the packed form
 PUSHES, TWO = ["", "lent ", "slice ", "slice_lent "], ["", "lent "]
 FORMS = {"push": PUSHES, "push2": PUSHES, "packed": ["value ", *PUSHES], "stream": TWO, "events": TWO, "places": TWO}
+TYPES = {walk_reading.STRING: "string", walk_reading.BOOLEAN: "boolean", walk_reading.INTEGER: "integer", walk_reading.UNSIGNED: "unsigned"}
 bad, began = [], time.time()
 
 
@@ -54,6 +57,15 @@ def held(what, copy, pairs):
     return wrote.count("\n")
 
 
+def begun(item):
+    """What begins at a place, in the words of `item`."""
+    if isinstance(item, EndMark):
+        return f"end mark next {item.next}"
+    if isinstance(item, List):
+        return f"list {item.count} next {item.next}"
+    return f"leaf {TYPES[item.kind]} {item.start} {item.len} next {item.next}" if isinstance(item, Leaf) else walk_reading.line(item)
+
+
 def sample(pairs):
     """A few short commands of each kind of answer: which things are said, once or more often."""
     kinds = {}
@@ -75,6 +87,11 @@ chosen += whole
 # an index and a lookup, by value
 index = [(command, answer) for command, answer in INDEX]
 chosen += index
+# a walk, and what begins at each place of its first bytes, by value; places of up to 16 digits
+places = [(at, data, answer) for at, data, answer in walk_reading.VECTORS + walk_reading.MORE if at < 10**16]
+walks = [(walk_reading.command(at, data), answer) for at, data, answer in places]
+items = [(f"item {at} {data.hex() or '-'}", begun(walk_reading.item(data, at))) for first, data, _ in places for at in range(first, first + 3)]
+chosen += walks + items
 with tempfile.TemporaryDirectory() as tmp:
     wrong_answers.copied(tmp)
     layout = subprocess.run(["rt", "fmt", "--check"], cwd=tmp, capture_output=True, text=True)
@@ -90,6 +107,8 @@ if not all(any(what in a for _, a in whole) for what in ("| rows 2 next", "refus
     bad.append("message: an answer of a kind that was to be there is missing")
 if not all(any(a.startswith(what) for _, a in index) for what in ("rows 6 next", "refused 10 @", "refused 15 @", "refused 20 ", "refused 16", "found ", "none")):
     bad.append("index, lookup: an answer of a kind that was to be there is missing")
+if not all(any(a.startswith(what) for _, a in walks + items) for what in ("bytes ", "err UnexpectedEOF 10 @", "err InvalidTlf TlfLengthOverflow 11 @", "err TooDeep 19 @16", "end mark next ", "leaf string ", "leaf boolean ", "leaf integer ", "leaf unsigned ", "list 0 next ")):
+    bad.append("walk, item: an answer of a kind that was to be there is missing")
 print("\n".join(bad))
 print(f"{len(chosen)} answers in {time.time() - began:.0f} s ({', '.join(f'{n} {word}' for word, n in counts.items())}), and those of limits; the first {interpreted} on the interpreter too; {len(bad)} faults")
 sys.exit(1 if bad else 0)

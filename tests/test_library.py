@@ -1,7 +1,7 @@
 """The library as C links it (include/sartrogheo.h, libsartrogheo.a, examples/, scripts/install, docs/LIBRARY.md).
 
 The header says what the crate exports: each constant is the number that the definitions have, each prototype that of one export, each word of an event that of `eventWords`; C++ takes it too. The archive is for x86-64, defines the exports and nothing else, has nothing that can be
-written, and asks for nothing but what a compiler asks for by itself. tests/library.c makes every call with good and bad input, and answers random commands, each as tests/push_rules.py, tests/places_reading.py and oracle/sml.py do, which were written from the documents alone.
+written, and asks for nothing but what a compiler asks for by itself. tests/library.c makes every call with good and bad input, and answers random commands, each as tests/push_rules.py, tests/places_reading.py, tests/walk_reading.py and oracle/sml.py do, which were written from the documents alone.
 The examples are built with the toolchain, and print of the captures and of a recording with noise and damaged frames what is stored in tests/expected, and what those readings say. An installed folder is moved, holds what docs/LIBRARY.md says, and is all that the programs of that page
 are built with; a run of scripts/install that fails leaves a folder as it was.
 
@@ -13,7 +13,7 @@ from decimal import Decimal
 sys.dont_write_bytecode = True
 os.chdir(os.path.join(os.path.dirname(os.path.abspath(__file__)), ".."))
 sys.path += ["scripts", "oracle"]
-import clink, push_rules
+import clink, push_rules, walk_reading
 from messages import ABSENT, BOOL, INT, LIST, OCT, UINT, element, file, length, sealed, unsigned
 from places_reading import NAMES, Reading, crc
 from sml import START, frame
@@ -69,7 +69,7 @@ TAGS = {("startWords", "m"): "MESSAGE_START", ("endWords", "e"): "GET_LIST_RESPO
 PLACED = {("startWords", "m"): "message.", ("bodyWords", "openBody b"): "message.open.", ("bodyWords", "closeBody b"): "message.close.", ("bodyWords", "listBody b"): "message.list.", ("endWords", "e"): "end.", ("entryWords", "e"): "entry.", ("saidWords", "failed f"): "refused."}
 # the type of a parameter, and of an answer
 TYPES = {"&mut [u8; 28]": "sgh_decoder *", "&[u8; 28]": "const sgh_decoder *", "&mut [u64; 3]": "sgh_reader *", "&mut [u64; 24]": "sgh_event *", "&[u64; 24]": "const sgh_event *", "&[u8]": "const uint8_t *, size_t", "&mut [u8]": "uint8_t *, size_t",
-         "&mut [u64; 50]": "sgh_message *", "&mut [u64; 5]": "sgh_index *", "&mut [u32; 4]": "sgh_row *", "&mut [u32]": "uint32_t *, size_t", "&[u32]": "const uint32_t *, size_t", "&mut usize": "size_t *", "&mut u8": "uint8_t *", "u8": "uint8_t", "usize": "size_t", "u16": "uint16_t", "u32": "uint32_t", "": "void"}
+         "&mut [u64; 50]": "sgh_message *", "&mut [u64; 9]": "sgh_item *", "&mut [u32; 4]": "sgh_row *", "&mut [u32]": "uint32_t *, size_t", "&[u32]": "const uint32_t *, size_t", "&mut usize": "size_t *", "&mut u8": "uint8_t *", "u8": "uint8_t", "usize": "size_t", "u16": "uint16_t", "u32": "uint32_t", "": "void"}
 
 
 def upper(name):
@@ -81,8 +81,8 @@ def numbers_of(path, pattern):
     return {name: int(n) for name, n in re.findall(pattern, text(path), re.M)}
 
 
-# document 01's, the writer's two and the table's, by number; the kinds of 11, by name
-NUMBERED = [*range(1, 19), 20]
+# those of the two documents that a call gives, by number; the kinds of 11, by name
+NUMBERED = [*range(1, 21)]
 REFUSALS = {n: upper(name) for name, n in numbers_of("crates/refusals/specs/Numbers.antt", r"^(\w+)No = (\d+)$").items() if n in NUMBERED}
 KINDS = numbers_of("crates/refusals/specs/Answers.antt", r"^kindOf (\w+) = (\d)$")
 
@@ -106,6 +106,26 @@ def index():
     return [other.replace("f .", "refused.") if one == "0" else one for one, other in zip(built, broken)]
 
 
+WALKS = text("crates/sartrogheo/specs/Walks.antt")
+
+
+def item_words(case):
+    """What `itemWords` puts down for a case."""
+    return re.search(rf"^itemWords \({case}\) = (.*) ∷ \[\]$", WALKS, re.M).group(1).split(" ∷ ")
+
+
+def item():
+    """The fields of an item in C: the kind, and by `itemWords` what is a leaf's, a list's or a refusal's."""
+    columns = list(zip(*map(item_words, (r"got \(leaf ty content\) next", r"got \(listItem count\) next", "refused f"))))
+    return ["kind"] + [next(word for word in column if word != "0").replace("tyNumber ", "").replace("f .", "refused.").replace(" .", ".") for column in columns[1:]]
+
+
+def walked():
+    """The fields of a walk in C, by `walkWords`."""
+    done, broken = (re.search(rf"^walkWords \({case} .*\) = (.*) ∷ \[\]$", WALKS, re.M).group(1).split(" ∷ ") for case in ("walkIs", "walkBroken"))
+    return [other.replace("f .", "refused.") if one == "0" else one for one, other in zip(done, broken)]
+
+
 def constants():
     """The header's constants by the definitions and the code that the proofs are about."""
     held("the numbers of refusals", sorted(REFUSALS), NUMBERED)
@@ -118,6 +138,10 @@ def constants():
     wanted["VALUES"] = int(re.search(r"values: &mut \[u64; (\d+)\]", EXPORTS).group(1))
     wanted["MESSAGE_WORDS"] = int(re.search(r"message: &mut \[u64; (\d+)\]", EXPORTS).group(1))
     wanted["INDEX_WORDS"] = int(re.search(r"index: &mut \[u64; (\d+)\]", EXPORTS).group(1))
+    wanted["ITEM_WORDS"] = int(re.search(r"item: &mut \[u64; (\d+)\]", EXPORTS).group(1))
+    wanted["WALKED_WORDS"] = int(re.search(r"element: &mut \[u64; (\d+)\]", EXPORTS).group(1))
+    wanted |= {name: int(item_words(case)[0]) for name, case in (("END_MARK", "got endMark next"), ("LEAF", r"got \(leaf ty content\) next"), ("LIST", r"got \(listItem count\) next"))}
+    wanted |= {"TY_" + upper(name): n for name, n in numbers_of("crates/tlf/specs/Written.antt", r"^tyNumber (\w+) = (\d)$").items() if name != "ListOf"}
     wanted["ROW_NUMBERS"] = len(row())
     wanted["EVENT_WORDS"] = int(re.search(r"^eventWords s = withZeros (\d+)", WORDS, re.M).group(1))
     found = {name: int(n) for name, n in re.findall(r"^#define SGH_(\w+) (\d+)u *$", HEADER, re.M)}
@@ -171,7 +195,10 @@ def structs_are(folder):
     asked += [f"_Static_assert(offsetof(sgh_index, {name}) == {8 * k} && sizeof(((sgh_index *)0)->{name}) == 8, \"{name} of an index\");" for k, name in enumerate(index())]
     held("layout: fields of sgh_row and sgh_message", (list(leaves("sgh_row", structs)), structs["sgh_message"]), (row(), ["sgh_event start, end", "uint64_t rows, next"]))
     held("layout: fields of sgh_index", list(leaves("sgh_index", structs)), index())
-    sizes = {"sgh_row": "4 * SGH_ROW_NUMBERS", "sgh_index": "8 * SGH_INDEX_WORDS", "sgh_message": "8 * SGH_MESSAGE_WORDS", "sgh_decoder": "SGH_DECODER_LEN", "sgh_event": "8 * SGH_EVENT_WORDS", "sgh_encoder": "8 * 4", "sgh_reader": "8 * 3", "sgh_writer": "8 * 4"}
+    for name, fields in (("sgh_item", item()), ("sgh_walked", walked())):
+        asked += [f"_Static_assert(offsetof({name}, {field}) == {8 * k} && sizeof((({name} *)0)->{field}) == 8, \"{field} of {name}\");" for k, field in enumerate(fields)]
+        held(f"layout: fields of {name}", list(leaves(name, structs)), fields)
+    sizes = {"sgh_row": "4 * SGH_ROW_NUMBERS", "sgh_index": "8 * SGH_INDEX_WORDS", "sgh_item": "8 * SGH_ITEM_WORDS", "sgh_walked": "8 * SGH_WALKED_WORDS", "sgh_message": "8 * SGH_MESSAGE_WORDS", "sgh_decoder": "SGH_DECODER_LEN", "sgh_event": "8 * SGH_EVENT_WORDS", "sgh_encoder": "8 * 4", "sgh_reader": "8 * 3", "sgh_writer": "8 * 4"}
     asked += [f"_Static_assert(sizeof({name}) == {size}, \"{name}\");" for name, size in sizes.items()]
     held("layout: Encoder, reader and writer", [list(leaves(name, structs)) for name in ("sgh_encoder", "sgh_reader", "sgh_writer")], [["kind", "count", "place", "crc"], ["place", "start", "pending"], ["place", "state", "left", "crc"]])
     compiles(folder, "layout: as the compiler has it", "\n".join(["#include <stddef.h>", "#include <sartrogheo.h>", *asked, ""]), ["-std=c11"])
@@ -181,13 +208,14 @@ def structs_are(folder):
 
 
 def prototypes():
-    """Each export as C has it. Four numbers are what their name says."""
+    """Each export as C has it. Four and five numbers are what their name says."""
     four = {"values": "uint64_t [SGH_VALUES]", "encoder": "sgh_encoder *", "writer": "sgh_writer *"}
+    named = {"&mut [u64; 4]": four, "&mut [u64; 5]": {"index": "sgh_index *", "element": "sgh_walked *"}}
     wanted = {}
     for name, parameters, answer in re.findall(r'#\[no_mangle\]\s*pub extern "C" fn (\w+)\(([^)]*)\)(?: -> (\w+))?', EXPORTS):
         pairs = [p.strip().split(": ", 1) for p in parameters.replace("\n", " ").split(",") if p.strip()]
-        types = [TYPES.get(t) or four.get(n) for n, t in pairs]
-        held(f"types of {name}", [t for n, t in pairs if t not in TYPES and t != "&mut [u64; 4]"], [])
+        types = [TYPES.get(t) or named.get(t, {}).get(n, "?") for n, t in pairs]
+        held(f"types of {name}", [t for n, t in pairs if t not in TYPES and n not in named.get(t, {})], [])
         wanted[name] = f"{TYPES[answer]} ({', '.join(types)})"
     found = {}
     for answer, name, parameters in re.findall(r"^(\w+) (\w+)\(([^)]*)\);", HEADER, re.M):
@@ -344,6 +372,33 @@ def by_name(found):
     return ended(found, [one for entries in listed for e in sorted(entries, key=name_of) for one in (e, next(f for f in entries if name_of(f) == name_of(e)))])
 
 
+def content(r, around=0):
+    """An element of any kind: lists in lists, leaves of each type and of no byte, end marks, more length bytes than are needed."""
+    if around < 18 and r.random() < (0.95 if around and r.random() < 0.3 else 0.5):
+        n = r.choice((0, 1, 1, 2, 3))
+        return r.choice((bytes([0x70 + n]), bytes([0xF0, n]))) + b"".join(content(r, around + 1) for _ in range(n))
+    return r.choice((b"\0", b"\1", b"\x41", b"\x80\x02", element(r.choice((OCT, INT, UINT)), r.randbytes(r.randrange(20))), element(BOOL, r.randbytes(r.randrange(3)))))
+
+
+def contents_of(r):
+    """Such elements, one behind the other, or messages; whole, bent and cut, at a place of theirs or behind it."""
+    data = r.choice((b"".join(content(r) for _ in range(r.randint(1, 3))), file(r), b"\x71" * r.randint(13, 18) + content(r)))
+    k = r.randrange(len(data) + 1)
+    data = r.choice((data, data, data[:k], data[:k] + bytes([r.randrange(256)]) + data[k + 1 :]))
+    return data, r.choice((0, 0, r.randrange(len(data) + 1), r.choice((len(data), len(data) + 1, 2**32, 2**64 - 1))))
+
+
+def in_words(data, at):
+    """What begins at a place, and the walk from there, by the reading: each answer and all words."""
+    def told(words, said):
+        refused = [said.number, KINDS[said.kind] if said.kind else 0, said.place or 0] if isinstance(said, walk_reading.Refusal) else [0, 0, 0]
+        return " ".join(map(str, [refused[0], *words, *refused]))
+
+    begun, over = walk_reading.item(data, at), walk_reading.walk(data, at)
+    words = {walk_reading.EndMark: lambda i: [1, 0, 0, 0, 0, i.next], walk_reading.Leaf: lambda i: [2, i.kind, i.start, i.len, 0, i.next], walk_reading.List: lambda i: [3, 0, 0, 0, i.count, i.next], walk_reading.Refusal: lambda i: [0] * 6}[type(begun)](begun)
+    return told(words, begun) + " | " + told([0, 0] if isinstance(over, walk_reading.Refusal) else over[1:], over)
+
+
 def commands(n):
     """Commands, and what the readings answer."""
     r = random.Random(SEED)
@@ -358,6 +413,8 @@ def commands(n):
         yield f"m 0 0 0 {data.hex()}", by_message(Reading(data))
         yield f"i 0 0 0 {data.hex()}", by_name(Reading(data))
         yield f"w 0 0 0 {data.hex()}", written(Reading(data).events)
+        data, at = contents_of(r)
+        yield f"x {at} 0 0 {data.hex()}", in_words(data, at)
 
 
 def answers(program, n):
@@ -368,7 +425,7 @@ def answers(program, n):
         held(f"library answers: {line[:200]}", one, wanted)
     everything = " ".join(output)
     # a run that reaches too little says little
-    for word in [] if n < GATE else ["payload", "discarded", "memory", "escape", "invalid", "misaligned", "open", "close", "list", "entry", "end", "none", *(f"err {k}" for k in range(10, 16)), *(f"err 11 {k}" for k in range(1, 6)), "bool:", "oct:", "list:sec:", *(f"{s}{w}:" for s in "iu" for w in (8, 16, 32, 64))]:
+    for word in [] if n < GATE else ["payload", "discarded", "memory", "escape", "invalid", "misaligned", "open", "close", "list", "entry", "end", "none", *(f"err {k}" for k in range(10, 16)), *(f"err 11 {k}" for k in range(1, 6)), "bool:", "oct:", "list:sec:", *(f"{s}{w}:" for s in "iu" for w in (8, 16, 32, 64)), "0 1 0 0", "0 2 0 [0-9]+", "0 2 4", "0 2 5", "0 2 6", "0 3 0 0 0 0", "0 3 0 0 0 3", "19 0 0 19 0 16", "10 0 0 10"]:
         held(f"library answers: some say {word}", re.search(rf"\b{word}", everything) is not None, True)
     return len(asked)
 
@@ -712,6 +769,47 @@ def paged(data, whole=False, names=()):
     return "".join(line + "\n" for line in lines)
 
 
+def tag_of(payload, at):
+    """The first leaf of the fourth element of the list at a place, if there is one, with the words before it."""
+    outer = walk_reading.item(payload, at)
+    if not isinstance(outer, walk_reading.List) or outer.count < 4:
+        return ""
+    at = outer.next
+    for _ in range(3):
+        at += walk_reading.walk(payload, at)[1]
+    body = walk_reading.item(payload, at)
+    first = walk_reading.item(payload, body.next) if isinstance(body, walk_reading.List) and body.count else None
+    return f", tag {payload[first.start : first.start + first.len].hex()}" if isinstance(first, walk_reading.Leaf) else ""
+
+
+def of_elements(payload):
+    """What the program that walks prints of a payload, by the reading."""
+    at = 0
+    while at < len(payload):
+        said = walk_reading.walk(payload, at)
+        if isinstance(said, walk_reading.Refusal):
+            yield f"refused {said.number}, at byte {said.place} of the payload"
+            return
+        yield f"{said[1]} bytes, {said[2]} leaves{tag_of(payload, at)}"
+        at += said[1]
+
+
+def walked_over(data):
+    """What it prints of frames."""
+    lines = []
+    for event in push_rules.events(CAPACITY, data, 2):
+        word, _, rest = event.partition(" ")
+        lines += of_elements(bytes.fromhex(rest)) if word == "payload" else [f"lost {rest} bytes" if word == "discarded" else "refused " + REFUSED[word].split(" ")[0]]
+    return "".join(line + "\n" for line in lines)
+
+
+def other():
+    """Payloads of no message that is read: another tag, lists that are too deep, end marks and leaves, and what breaks behind them."""
+    close = bytes.fromhex("7605dd4344006200620072630201710163fd5600")
+    tag = close[:12] + b"\3" + close[13:]
+    return b"".join(map(frame, (tag + close, close[:-1] + tag, b"\0\0\1\x41" + tag, b"\x71" * 15 + b"\x70\x70" + b"\x71" * 16 + b"\x70", b"\x74\1\1\1\x70\x74\1\1\1\x71\0\x74\1\1\1\x71\x70\x74\1\1\1\1\x73\1\1\1", close + b"\x75\1", b"\x10")))
+
+
 def put(path, source):
     open(path, "w").write(source)
     return path
@@ -721,25 +819,30 @@ def page_is(folder, moved, exports):
     """docs/LIBRARY.md: each call, each number, and its programs, built with what is installed alone."""
     page, path = text("docs/LIBRARY.md"), os.path.join(folder, "page.c")
     held("docs/LIBRARY.md: calls", sorted(re.findall(r"^\| `(sgh_\w+)` \|", page, re.M)), sorted(exports))
-    held("docs/LIBRARY.md: numbers", re.findall(r"^\| (\d+)(?: to \d+)? \| `SGH_(\w+)`", page, re.M), [(str(k), REFUSALS[k]) for k in (*range(1, 11), 16, 17, 18, 20)])
-    (source, messages, indexed, writes), (wanted, found, heard) = (re.findall(rf"^```{kind}\n(.*?)^```", page, re.M | re.S) for kind in ("c", "text"))
+    held("docs/LIBRARY.md: numbers", re.findall(r"^\| (\d+)(?: to \d+)? \| `SGH_(\w+)`", page, re.M), [(str(k), REFUSALS[k]) for k in (*range(1, 11), *range(16, 21))])
+    (source, messages, indexed, walks, writes), (wanted, found, over, heard) = (re.findall(rf"^```{kind}\n(.*?)^```", page, re.M | re.S) for kind in ("c", "text"))
     include, library = flags_of(moved)
-    # the second block takes the place of a function of the first, and so does the third
-    own = re.search(r"^static void print_payload\(.*?^\}\n", source, re.M | re.S).group(0)
-    blocks = {"page": source, "messages": source.replace(own, messages), "indexed": source.replace(own, indexed), "writes": writes}
-    program, reader, finder, writer = (clink.built(put(path, code), os.path.join(folder, name), include, library) for name, code in blocks.items())
+    # the second block takes the place of a function of the first, and so does the third; the fourth takes that of two
+    own, both = (re.search(rf"^static void {name}\(.*?^\}}\n$", source, re.M | re.S).group(0) for name in ("print_payload", "print_entry"))
+    both = source[source.index(both) : source.index(own) + len(own)]
+    blocks = {"page": source, "messages": source.replace(own, messages), "indexed": source.replace(own, indexed), "walks": source.replace(both, walks), "writes": writes}
+    program, reader, finder, walker, writer = (clink.built(put(path, code), os.path.join(folder, name), include, library) for name, code in blocks.items())
     sent = subprocess.run(writer, capture_output=True).stdout
     held("what the program of docs/LIBRARY.md that writes has written, heard by the first", ran(program, sent), (0, heard))
     held("that is one frame", sent, frame(bytes.fromhex(push_rules.events(CAPACITY, sent, 2)[0][8:])))
     meter = open("captures/two-byte-length.bin", "rb").read()
     held("the program of docs/LIBRARY.md", ran(program, meter), (0, wanted))
     held("the program of docs/LIBRARY.md with an index", ran(finder, meter), (0, found))
+    held("the program of docs/LIBRARY.md that walks", ran(walker, meter), (0, over))
     for what, data in (("the capture", meter), ("values", frame(values())), ("the recording", recording()), ("a cut frame", meter[:99]), ("nothing", b"")):
         status, output = ran(program, data)
         held(f"the program of docs/LIBRARY.md, {what}: status", status, 0)
         held_lines(f"the program of docs/LIBRARY.md, {what}", output, paged(data))
         held_lines(f"the program of docs/LIBRARY.md by messages, {what}", ran(reader, data)[1], paged(data, True))
         held_lines(f"the program of docs/LIBRARY.md with an index, {what}", ran(finder, data)[1], paged(data, True, ASKED_FOR))
+        held_lines(f"the program of docs/LIBRARY.md that walks, {what}", ran(walker, data)[1], walked_over(data))
+    held_lines("the program of docs/LIBRARY.md that walks, other content", ran(walker, other())[1], walked_over(other()))
+    held("other content: what is told", [word in walked_over(other()) for word in ("tag 0301", "refused 19, at byte 33", "refused 10, at byte 22", "refused 11, at byte 0", "16 bytes, 0 leaves", "1 bytes, 1 leaves")], [True] * 6)
     held("a list that is refused in its second entry", paged(recording(), True).count("\n") + 1, paged(recording()).count("\n"))
     held("the largest number and the lost bytes", [line in paged(recording() + meter[:99]).split("\n") for line in ("0100010800ff 18446744073709551615 e0", "0100010800ff -1 e0", "lost 99 bytes")], [True] * 3)
     return include, library

@@ -37,6 +37,25 @@ pub struct Index {
     pub refused: [u64; 3],
 }
 
+/// `sgh_item`; of a leaf's content start and length.
+#[repr(C)]
+pub struct Item {
+    pub kind: u64,
+    pub ty: u64,
+    pub content: [u64; 2],
+    pub count: u64,
+    pub next: u64,
+    pub refused: [u64; 3],
+}
+
+/// `sgh_walked`.
+#[repr(C)]
+pub struct Walked {
+    pub bytes: u64,
+    pub leaves: u64,
+    pub refused: [u64; 3],
+}
+
 /// `sgh_row`: where an entry of a list stands in the input, from its first length byte on, and where its name does.
 #[repr(C)]
 #[derive(Debug, Clone, Copy, Default, PartialEq, Eq, Hash)]
@@ -64,6 +83,7 @@ pub const BAD_STATE: u32 = 4;
 pub const BAD_SPAN: u32 = 16;
 pub const WRONG_NUMBER: u32 = 17;
 pub const OUTPUT_TOO_SHORT: u32 = 18;
+pub const TOO_DEEP: u32 = 19;
 pub const TOO_MANY_ENTRIES: u32 = 20;
 // of refusals in an event,
 pub const INPUT_TOO_LONG: u64 = 9;
@@ -91,6 +111,12 @@ pub const VALUE_BYTES: u64 = 2;
 pub const VALUE_SIGNED: u64 = 3;
 pub const VALUE_UNSIGNED: u64 = 4;
 pub const VALUE_TIME: u64 = 5;
+pub const END_MARK: u64 = 1;
+pub const LEAF: u64 = 2;
+pub const LIST: u64 = 3;
+pub const TY_BOOLEAN: u64 = 4;
+pub const TY_INTEGER: u64 = 5;
+pub const TY_UNSIGNED: u64 = 6;
 // of ways to search, and of lengths.
 pub const FIRST_WAY: u8 = 1;
 pub const SECOND_WAY: u8 = 2;
@@ -101,13 +127,16 @@ pub const EVENT_WORDS: usize = 24;
 pub const ROW_NUMBERS: usize = 4;
 pub const MESSAGE_WORDS: usize = 50;
 pub const INDEX_WORDS: usize = 5;
+pub const ITEM_WORDS: usize = 9;
+pub const WALKED_WORDS: usize = 5;
 
-// a struct of another size would be no row, no message, or no index
+// a struct of another size would be no row, message, index, item or walk
 const _: () = assert!(size_of::<Row>() == 4 * ROW_NUMBERS);
 const _: () = assert!(size_of::<Message>() == 8 * MESSAGE_WORDS && size_of::<Index>() == 8 * INDEX_WORDS);
+const _: () = assert!(size_of::<Item>() == 8 * ITEM_WORDS && size_of::<Walked>() == 8 * WALKED_WORDS);
 
 mod c {
-    use super::{Encoder, Event, Index, Message, Reader, Row, State, Values, Writer};
+    use super::{Encoder, Event, Index, Item, Message, Reader, Row, State, Values, Walked, Writer};
 
     extern "C" {
         pub fn sgh_decoder_new(d: *mut State, capacity: usize, way: u8) -> u32;
@@ -140,6 +169,8 @@ mod c {
             name_len: usize,
             row: *mut Row,
         ) -> u32;
+        pub fn sgh_read_item(input: *const u8, len: usize, at: usize, item: *mut Item) -> u32;
+        pub fn sgh_walk(input: *const u8, len: usize, at: usize, walked: *mut Walked) -> u32;
         pub fn sgh_write_event(
             out: *mut u8,
             out_len: usize,
@@ -235,6 +266,18 @@ pub fn build_index(input: &[u8], at: usize, table: &mut [u32], index: &mut Index
 pub fn look_up(input: &[u8], table: &[u32], name: &[u8], row: &mut Row) -> u32 {
     // SAFETY: `row` is a `&mut`, and overlaps with none of the others, which are only read; the three slices are good for their length, and `repr(C)` makes a row the struct of the header.
     unsafe { c::sgh_look_up(input.as_ptr(), input.len(), table.as_ptr(), table.len(), name.as_ptr(), name.len(), row) }
+}
+
+#[inline]
+pub fn read_item(input: &[u8], at: usize, item: &mut Item) -> u32 {
+    // SAFETY: `item` is a `&mut`, and doesn't overlap with `input`, which is good for its length; `repr(C)` makes it the struct of the header.
+    unsafe { c::sgh_read_item(input.as_ptr(), input.len(), at, item) }
+}
+
+#[inline]
+pub fn walk(input: &[u8], at: usize, walked: &mut Walked) -> u32 {
+    // SAFETY: `walked` is a `&mut`, and doesn't overlap with `input`, which is good for its length; `repr(C)` makes it the struct of the header.
+    unsafe { c::sgh_walk(input.as_ptr(), input.len(), at, walked) }
 }
 
 #[inline]

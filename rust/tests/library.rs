@@ -2,6 +2,7 @@
 use std::cell::Cell;
 
 use sartrogheo::parser::common::{CloseResponse, ListEntry, ListType, OpenResponse, Status, Time, Value};
+use sartrogheo::parser::content::{read_item, walk, Item, ItemKind, Ty, WalkErr, Walked};
 use sartrogheo::parser::index::{build_index, look_up, Index, LookErr};
 use sartrogheo::parser::streaming::{
     GetListResponseEnd, GetListResponseStart, MessageBody, MessageStart, ParseEvent, Parser, UntilRefused,
@@ -132,6 +133,7 @@ fn decoders_and_readers_can_be_sent_and_shared() {
     both::<UntilRefused>();
     both::<Whole>();
     both::<Index>();
+    both::<Item>();
 }
 
 #[test]
@@ -749,4 +751,128 @@ fn an_index_is_the_message_s_table_sorted() {
     rows.sort_by_key(|row| (row.name(&bytes), row.entry_start));
     assert_eq!(index.rows.chunks(4).map(row).collect::<Vec<_>>(), rows);
     assert_eq!(names.map(|name| look_up(&bytes, index.rows, name).unwrap()).to_vec(), first);
+}
+
+/// The element at a place: bytes and leaves, or number, place and text of a refusal.
+fn walked(bytes: &[u8], at: usize) -> Result<(usize, usize), (u32, Option<usize>, String)> {
+    walk(bytes, at).map(|w| (w.bytes, w.leaves)).map_err(|e| (e.number(), e.place(), e.to_string()))
+}
+
+/// That it is refused so, and what begins there is too.
+fn no_content(bytes: &[u8], at: usize) -> (u32, Option<usize>, String) {
+    let e = read_item(bytes, at).unwrap_err();
+    assert_eq!(walk(bytes, at), Err(WalkErr::Refused(e)));
+    (e.number(), e.place(), e.to_string())
+}
+
+#[test]
+fn elements_have_bytes_and_leaves() {
+    let deep = |last: u8| [&[0x71; 16][..], &[last]].concat();
+    let some: [(&[u8], usize, usize); 12] = [
+        (&[0], 1, 1),
+        (&[0x70], 1, 0),
+        (&[0xf0, 0], 2, 0),
+        (&[0x41], 1, 1),
+        (&[0x80, 2], 2, 1),
+        (&[0x73, 0, 2, 0x41, 1], 5, 3),
+        (&[0x72, 0x71, 0x41, 0x42, 0xff], 5, 2),
+        (&[0x72, 0, 0], 3, 2),
+        (&CLOSE, 20, 7),
+        (&deep(1), 17, 1),
+        (&deep(0), 17, 1),
+        (&deep(0x70)[1..], 16, 0),
+    ];
+    for (bytes, taken, leaves) in some {
+        assert_eq!(walked(bytes, 0), Ok((taken, leaves)));
+        // what stands before and behind it is not looked at; without a byte of it the input ends too soon
+        assert_eq!(walked(&[&[0x10, 0x71], bytes, &[0x10]].concat(), 2), Ok((taken, leaves)));
+        for n in 0..bytes.len() {
+            assert_eq!(walked(&bytes[..n], 0), Err((10, Some(n), format!("UnexpectedEOF at {n}"))));
+        }
+    }
+    for last in [0x70, 0x71, 0x7f] {
+        assert_eq!(walk(&deep(last), 0), Err(WalkErr::TooDeep { place: 16 }));
+    }
+    assert_eq!(walked(&[&[0][..], &deep(0x70)].concat(), 1), Err((19, Some(17), "TooDeep at 17".into())));
+    // its own length bytes come first
+    assert_eq!(walked(&deep(0xf1), 0), Err((10, Some(17), "UnexpectedEOF at 17".into())));
+    assert_eq!(walked(&deep(0x10), 0), Err((11, Some(16), "InvalidTlf(TlfInvalidTy) at 16".into())));
+}
+
+#[test]
+fn items_come_one_behind_the_other() {
+    let leaf = |ty, from: usize, to| (ItemKind::Leaf { ty, content: &CLOSE[from..to] }, to);
+    let list = |count, next| (ItemKind::List { count }, next);
+    let wanted = [
+        list(6, 1),
+        leaf(Ty::OctetString, 2, 6),
+        leaf(Ty::Unsigned, 7, 8),
+        leaf(Ty::Unsigned, 9, 10),
+        list(2, 11),
+        leaf(Ty::Unsigned, 12, 14),
+        list(1, 15),
+        leaf(Ty::OctetString, 16, 16),
+        leaf(Ty::Unsigned, 17, 19),
+        (ItemKind::EndMark, 20),
+    ];
+    let mut at = 0;
+    for (kind, next) in wanted {
+        assert_eq!(read_item(&CLOSE, at), Ok(Item { kind, next }));
+        assert_eq!(read_item(&CLOSE[..next], at), Ok(Item { kind, next }));
+        if !matches!(kind, ItemKind::List { .. }) {
+            assert_eq!(walk(&CLOSE, at), Ok(Walked { bytes: next - at, leaves: 1 }));
+        }
+        at = next;
+    }
+    let kind = |bytes: &'static [u8]| read_item(bytes, 0).map(|item| item.kind);
+    assert_eq!(kind(&[0x42, 7]), Ok(ItemKind::Leaf { ty: Ty::Boolean, content: &[7] }));
+    assert_eq!(kind(&[0x53, 0xff, 0x9c]), Ok(ItemKind::Leaf { ty: Ty::Integer, content: &[0xff, 0x9c] }));
+    assert_eq!(kind(&[0xff, 0x8f, 0x8f, 0x8f, 0x8f, 0x8f, 0x8f, 0x0f]), Ok(ItemKind::List { count: u32::MAX }));
+}
+
+#[test]
+fn content_is_refused_at_its_place() {
+    assert_eq!(no_content(&[], 0), (10, Some(0), "UnexpectedEOF at 0".into()));
+    for at in [20, 21, usize::MAX] {
+        assert_eq!(no_content(&CLOSE, at), (10, Some(20), "UnexpectedEOF at 20".into()));
+    }
+    let wrong: [(&[u8], &str); 6] = [
+        (&[0x81, 0x80, 0x80, 0x80, 0x80, 0x80, 0x80, 0x80, 0x80], "TlfLengthOverflow"),
+        (&[0xc2], "TlfReserved"),
+        (&[0x80, 0], "TlfLengthUnderflow"),
+        (&[0x40], "TlfLengthUnderflow"),
+        (&[0x81, 0x10], "TlfNextByteTypeMismatch"),
+        (&[0x10], "TlfInvalidTy"),
+    ];
+    for (bytes, kind) in wrong {
+        assert_eq!(no_content(bytes, 0), (11, Some(0), format!("InvalidTlf({kind}) at 0")));
+        assert_eq!(walked(&[&[0x72, 0][..], bytes].concat(), 0), Err((11, Some(2), format!("InvalidTlf({kind}) at 2"))));
+    }
+    let mut long = vec![0; LIMIT + 1];
+    for at in [0, LIMIT + 1, usize::MAX] {
+        assert_eq!(no_content(&long, at), (9, None, "InputTooLong".into()));
+    }
+    assert_eq!(walked(&long[1..], LIMIT - 1), Ok((1, 1)));
+    assert_eq!(no_content(&long[1..], LIMIT), (10, Some(LIMIT), format!("UnexpectedEOF at {LIMIT}")));
+    // a list of as many end marks as fit, and of one more
+    long[..5].copy_from_slice(&[0xff, 0x8f, 0x8f, 0x8f, 0x0b]);
+    assert_eq!(walked(&long[..LIMIT], 0), Ok((LIMIT, LIMIT - 5)));
+    long[4] = 0x0c;
+    assert_eq!(walked(&long[..LIMIT], 0).map_err(|e| e.0), Err(10));
+    assert_eq!(walked(&long, 0).map_err(|e| e.0), Err(9));
+}
+
+#[test]
+fn the_walk_over_a_message_ends_where_the_message_does() {
+    let strings = [0xdd, 0x43, 0x44, 0, 1, 0, 1, 8, 0, 0xff];
+    let mut out = [0; 2048];
+    let mut writer = Writer::new(&mut out, &strings);
+    of_every_kind(&strings).iter().for_each(|event| assert_eq!(writer.write(event), Ok(())));
+    let (bytes, mut at, mut table) = (writer.written(), 0, [MARK; 100]);
+    while at < bytes.len() {
+        let next = read_message(bytes, at, &mut table).unwrap().next;
+        assert_eq!(walk(bytes, at).unwrap().bytes, next - at);
+        at = next;
+    }
+    assert!(at > 100);
 }

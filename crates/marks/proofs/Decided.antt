@@ -22,6 +22,7 @@ use Rattle.writer.proofs.Decided as Writer
 use Rattle.whole.proofs.Decided as Whole
 use Rattle.name_order.proofs.Decided as NameOrder
 use Rattle.index.proofs.Decided as Index
+use Rattle.walk.proofs.Decided as Walk
 use Rattle.words.proofs.Decided as Words
 use Rattle.sartrogheo.proofs.Decided as Library
 use Rattle.marks.specs.Decided.{Views, Decided}
@@ -47,6 +48,7 @@ views =
       writer = Writer.views;
       whole = Whole.views;
       index = Index.views;
+      walk = Walk.views;
       words = Words.views;
     }
 
@@ -76,6 +78,7 @@ decided =
       whole = Whole.decided;
       name-order = NameOrder.decided;
       index = Index.decided;
+      walk = Walk.decided;
       words = Words.decided;
       library = Library.decided;
     }

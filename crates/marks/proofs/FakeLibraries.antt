@@ -1,14 +1,16 @@
 -- Each fake of a library falls: one small call, computed, is not what the claim says.
-use mathlib.Core.Path.{_≡_, refl, ap, _∙_}
+use mathlib.Core.Path.{_≡_, refl, sym, ap, _∙_}
 use mathlib.Core.List.{List, [], _∷_}
 use mathlib.Core.Option.{Option, some, none}
-use Prim.Native.Nat.{ℕ}
+use Prim.Native.Nat.{ℕ, _<_}
 use native.Mathlib.Omega.{arith}
 use lib.IntN.{ℤ, pos, negsuc}
-use lib.ListN.{length, getD, replicate}
+use lib.ListN.{length, getD, replicate, length-replicate}
+use borrow.Author.Tests.{lt-ltb}
 use Rattle.crc_x25.specs.Crc.{reflect, polynomial, bitStep, bitSteps, byteStep, register, finalXor, crcOf}
 use Rattle.refusals.specs.declared.Span.{Span}
-use Rattle.refusals.specs.Read.{then, guard, need, many, byteAt, spanAt}
+use Rattle.refusals.specs.Numbers.{limit}
+use Rattle.refusals.specs.Read.{Read, got, refused, then, guard, need, many, byteAt, spanAt}
 use Rattle.frame.specs.Frame.{same, escaped, closed, frameOf}
 use Rattle.encoder.specs.Encode.{EncodeAnswer, length-is, noFrame, AfterEncode, encodeTo}
 use Rattle.encoder.specs.Encoder.{NextAnswer, byte, finished, noByte, freshEncoder, stepFrom, badEncoder, nextStep}
@@ -30,7 +32,7 @@ use Rattle.whole.specs.Whole.{insideAt, wholeAt, flat, WholeSaid, wholeIs, brok
 use Rattle.one_call.specs.Bench.{closeInput}
 use Rattle.streaming.specs.Next.{MessageEvent, startEvent, entryEvent, endEvent, Said, event, noEvent, failed, alone, onward, beginAt, entryNext, stepAt, nextAt}
 use Rattle.byte_count.specs.Count.{firstThat, unsignedCount}
-use Rattle.tlf.specs.Written.{lengthBytes, typed}
+use Rattle.tlf.specs.Written.{tyNumber, lengthBytes, typed}
 use Rattle.writer.specs.Fields.{lengthCount, writeTlf, inBytes, writeUnsigned, writeOctets, writeOptional}
 use Rattle.writer.specs.Messages.{listStartBytes, listEndBytes, writeBody, writeStart, writeTrailer}
 use Rattle.writer.specs.Calls.{writeRefusal, WriteOutcome, to, notWritten, AfterWrite, putOr, allWithin, startTo, endTo}
@@ -44,13 +46,15 @@ use Rattle.sartrogheo.specs.Streams.{encoderIn, sghEncoderNew, sghEncoderNext, 
 use Rattle.sartrogheo.specs.Writes.{writerIn, sghWriteEvent}
 use Rattle.sartrogheo.specs.Wholes.{messageWords, sghReadMessage}
 use Rattle.sartrogheo.specs.Indexes.{sghBuildIndex, sghLookUp}
+use Rattle.sartrogheo.specs.Walks.{sghReadItem, sghWalk}
+use Rattle.walk.specs.Walk.{Item, endMark, leaf, listItem, isEndMark, itemAt, takeItem, walkStep, pass, WalkSaid, walkIs, walkBroken, walkRefused, walkAt}
 use Rattle.name_order.specs.Order.{lower}
 use Rattle.index.specs.Index.{before, IndexSaid, indexIs, indexBroken, indexRefused, AfterIndex, indexOf, indexTo, rowWithin, every, rising, isTable, firstWith, hasName, FoundSaid, foundRow, foundNone, lookRefused, lookUp}
 use Rattle.marks.specs.Encoders.{callsOf}
 use Rattle.marks.specs.Events.{Numbers, saysAt}
 use Rattle.marks.specs.Chunks.{oneOp, slice, HeardUse, heardUse, usesSay, usesLeave}
-use Rattle.marks.specs.Library.{HearsNew, LentByCaller, CallerBegins, HearsDecoder, HearsEncode, HearsEncoder, HearsReader, HearsWriter, lentAt, HearsWhole, HearsIndex}
-use Rattle.marks.specs.FakeLibraries.{leavesNumbers, deniesNew, keepsValues, handsBuffer, paysAlways, leavesLast, forgetsSlice, encodesNothing, forgetsCount, losesPlace, losesSign, losesKind, forgetsPlace, mistakesWords, placesAtZero, nextUntold, endLeft, indexPlaceLost, indexClears, rowsLeft, noneIsZeros, nameLeft, rowCleared, FallLibraries}
+use Rattle.marks.specs.Library.{HearsNew, LentByCaller, CallerBegins, HearsDecoder, HearsEncode, HearsEncoder, HearsReader, HearsWriter, lentAt, HearsWhole, HearsIndex, itemReaderBy, HearsWalk}
+use Rattle.marks.specs.FakeLibraries.{leavesNumbers, deniesNew, keepsValues, handsBuffer, paysAlways, leavesLast, forgetsSlice, encodesNothing, forgetsCount, losesPlace, losesSign, losesKind, forgetsPlace, mistakesWords, placesAtZero, nextUntold, endLeft, indexPlaceLost, indexClears, rowsLeft, noneIsZeros, nameLeft, rowCleared, walkPlaceLost, walkBytesLeft, itemTypeLost, itemOfAnyLength, FallLibraries}
 use Rattle.marks.proofs.Narrow.{zeros-bytes}
 
 abbrev blank : LentByCaller
@@ -247,6 +251,48 @@ row-cleared : HearsIndex rowCleared → ⊥
 unfolding same isWithin partOf lower before rowWithin every rising isTable firstWith hasName lookUp flat sghLookUp
 row-cleared h = let n : _≡_ {A = ℕ} 0 7 = ap (λ (r : Reply). wordAt (lentAt r 0) 0) (h .leaves (7 ∷ 7 ∷ 7 ∷ 7 ∷ []) [] [] [] (λ e. omega (arith, e))) in omega (arith, n)
 
+-- ---- any content
+
+placeWalked : WalkSaid → ℕ
+placeWalked (walkIs bytes leaves) = 0
+placeWalked (walkBroken f) = f .place
+placeWalked (walkRefused n) = 0
+
+walk-place-lost : HearsWalk walkPlaceLost → ⊥
+unfolding placeWalked then guard need byteAt spanAt tlfAt lengthFrom lessOwn isEndMark itemAt takeItem walkStep pass walkAt sghWalk
+walk-place-lost h = let n : _≡_ {A = ℕ} 0 1 = ap placeWalked (h .walks (0x00 ∷ 0x10 ∷ []) 1) in omega (arith, n)
+
+walk-bytes-left : HearsWalk walkBytesLeft → ⊥
+unfolding then guard need byteAt spanAt tlfAt lengthFrom lessOwn isEndMark itemAt takeItem walkStep pass walkAt sghWalk
+walk-bytes-left h = let n : _≡_ {A = ℕ} 1 0 = ap (λ (l : List ℕ). wordAt l 0) (h .words (0x10 ∷ []) 0) in omega (arith, n)
+
+typeRead : Read Item → ℕ
+typeRead (got endMark n) = 100
+typeRead (got (leaf ty content) n) = tyNumber ty
+typeRead (got (listItem k) n) = 101
+typeRead (refused f) = 102
+
+item-type-lost : HearsWalk itemTypeLost → ⊥
+unfolding typeRead then guard need byteAt spanAt tlfAt lengthFrom lessOwn isEndMark itemAt sghReadItem
+item-type-lost h = let n : _≡_ {A = ℕ} 0 6 = ap typeRead (h .items (0x62 ∷ 0x05 ∷ []) 0 (omega arith)) in omega (arith, n)
+
+marked-item : (l : List ℕ) → itemAt (0x00 ∷ l) 0 ≡ got endMark 1
+unfolding isEndMark itemAt
+marked-item l = rw (lt-ltb 0 (length (0x00 ∷ l)) (omega arith))
+
+mark-heard : (l : List ℕ) → itemReaderBy itemOfAnyLength (0x00 ∷ l) 0 ≡ got endMark 1
+mark-heard l = rw (marked-item l)
+
+long-item : (l : List ℕ) → limit < length (0x00 ∷ l) → HearsWalk itemOfAnyLength → ⊥
+unfolding typeRead
+long-item l k h = let n : _≡_ {A = ℕ} 100 102 = ap typeRead (sym (mark-heard l) ∙ h .long (0x00 ∷ l) 0 k) in omega (arith, n)
+
+item-of-any-length : HearsWalk itemOfAnyLength → ⊥
+item-of-any-length h = by limit refl
+  where
+    by : (n : ℕ) → n ≡ limit → ⊥
+    by n e = long-item (replicate n 0) (omega (arith, length-replicate {A = ℕ} n 0)) h
+
 pub fall-libraries : FallLibraries
 fall-libraries =
     record {
@@ -273,4 +319,8 @@ fall-libraries =
       none-is-zeros = none-is-zeros;
       name-left = name-left;
       row-cleared = row-cleared;
+      walk-place-lost = walk-place-lost;
+      walk-bytes-left = walk-bytes-left;
+      item-type-lost = item-type-lost;
+      item-of-any-length = item-of-any-length;
     }

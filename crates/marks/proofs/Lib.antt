@@ -22,6 +22,7 @@ pub mod HeardEvent
 pub mod HeardWriter
 pub mod HeardWhole
 pub mod HeardIndex
+pub mod HeardWalk
 pub mod Library
 pub mod LibraryMarks
 pub mod Decided

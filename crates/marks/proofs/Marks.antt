@@ -6,6 +6,11 @@ use Rattle.one_call.proofs.Readers.{ours-good}
 use Rattle.one_call.proofs.Unique.{only-ours}
 use Rattle.one_call.proofs.Bench.{whole-bench}
 use Rattle.one_call.proofs.Fakes.{fall-whole-readers}
+use Rattle.elements.proofs.Walkers.{our-walker, only-our-walker, never-looks-further, always-ends-with-messages}
+use Rattle.elements.proofs.ItemReaders.{our-items, only-our-items}
+use Rattle.elements.proofs.Sights.{always-sees-elements}
+use Rattle.elements.proofs.Bench.{walk-bench}
+use Rattle.elements.proofs.Fakes.{fall-walkers}
 use Rattle.by_name.proofs.Indexes.{ours-good-index, ours-judges}
 use Rattle.by_name.proofs.Unique.{only-our-indexer, only-our-finder, always-finds, always-tables}
 use Rattle.by_name.proofs.Rest.{never-reads-on}
@@ -87,6 +92,7 @@ marks =
       library-writer = hears-ours .writer;
       library-whole = hears-ours .whole;
       library-index = hears-ours .index;
+      library-walk = hears-ours .walk;
       library-gives = library-gives;
       library-marks = marks-by;
       words-back = back-claims;
@@ -107,6 +113,15 @@ marks =
       index-bench = index-bench;
       lookup-bench = lookup-bench;
       fall-indexes = fall-indexes;
+      walk = our-walker;
+      only-walk = only-our-walker;
+      walk-looks = never-looks-further;
+      walk-ends = always-ends-with-messages;
+      items = our-items;
+      only-items = only-our-items;
+      sees-elements = always-sees-elements;
+      walk-bench = walk-bench;
+      fall-walkers = fall-walkers;
       overflows = overflows;
       readers = readers;
       reader-says-where = reader-says-where;

@@ -15,8 +15,8 @@ use Rattle.marks.specs.Events.{ReaderGives, GoesOn, readerWith, ListsEnt
 use Rattle.marks.specs.Fakes.{refusesAll, constant, idle, invents, once, stale, hasty, forgiving, firstOnly, countsEight, deaf, forgetsWay, servesAnyWay, swallows, takesNone, withholds, shrugs, forgetful, blamesTheMessage, saysItAgain, writesNothing, finishedAtOnce, withoutEvents, noEntries}
 use Rattle.marks.specs.FakeHosts.{unpacksNothing, packsConstants, packsAny, unpacksAny, onlyAnswers, saysNothingEver, handsNothing, clearsRefused, growsOutput, clearsRest}
 use Rattle.marks.proofs.Fakes.{not-ours, fall}
-use Rattle.marks.specs.Library.{HearsNew, HearsDecoder, HearsEncode, HearsEncoder, HearsReader, HearsWriter, HearsWhole, HearsIndex}
-use Rattle.marks.specs.FakeLibraries.{deniesNew, keepsValues, handsBuffer, paysAlways, leavesLast, forgetsSlice, encodesNothing, forgetsCount, losesPlace, losesSign, losesKind, forgetsPlace, leavesNumbers, mistakesWords, placesAtZero, nextUntold, endLeft, indexPlaceLost, indexClears, rowsLeft, noneIsZeros, nameLeft, rowCleared}
+use Rattle.marks.specs.Library.{HearsNew, HearsDecoder, HearsEncode, HearsEncoder, HearsReader, HearsWriter, HearsWhole, HearsIndex, HearsWalk}
+use Rattle.marks.specs.FakeLibraries.{deniesNew, keepsValues, handsBuffer, paysAlways, leavesLast, forgetsSlice, encodesNothing, forgetsCount, losesPlace, losesSign, losesKind, forgetsPlace, leavesNumbers, mistakesWords, placesAtZero, nextUntold, endLeft, indexPlaceLost, indexClears, rowsLeft, noneIsZeros, nameLeft, rowCleared, walkPlaceLost, walkBytesLeft, itemTypeLost, itemOfAnyLength}
 use Rattle.marks.specs.FakeLarger.{storesLess, secondStoresLess, largerHandsNothing, handsTheBuffer, resetCountsRoom, finalizeCountsRoom, hesitates, looksAhead, deniesLarger, ForAnyTwo, AcrossWays, FullAnswerToo, HearsAsMany}
 use Rattle.marks.proofs.FakeHosts.{fall-hosts}
 use Rattle.marks.proofs.FakeLarger.{fall-larger}
@@ -240,3 +240,15 @@ larger-across-ways = fall-larger .across-ways
 
 larger-hears-as-many-frames : HearsAsMany ours → ⊥
 larger-hears-as-many-frames = fall-larger .hears-as-many
+
+fake-walk-refused-without-a-place : HearsWalk walkPlaceLost → ⊥
+fake-walk-refused-without-a-place = fall-libraries .walk-place-lost
+
+fake-bytes-told-of-a-refused-walk : HearsWalk walkBytesLeft → ⊥
+fake-bytes-told-of-a-refused-walk = fall-libraries .walk-bytes-left
+
+fake-every-leaf-is-a-string : HearsWalk itemTypeLost → ⊥
+fake-every-leaf-is-a-string = fall-libraries .item-type-lost
+
+fake-item-of-a-long-input : HearsWalk itemOfAnyLength → ⊥
+fake-item-of-a-long-input = fall-libraries .item-of-any-length

@@ -9,9 +9,11 @@ use Rattle.sartrogheo.specs.Calls.{Reply, reply, sghDecoderNew, sghPushByte, sg
 use Rattle.sartrogheo.specs.Streams.{sghEncoderNew, sghEncoderNext, sghNextEvent}
 use Rattle.sartrogheo.specs.Writes.{sghWriteEvent}
 use Rattle.sartrogheo.specs.Wholes.{sghReadMessage}
+use Rattle.walk.specs.Walk.{itemAt}
 use Rattle.sartrogheo.specs.Indexes.{sghBuildIndex, sghLookUp}
+use Rattle.sartrogheo.specs.Walks.{itemNo, itemWords, sghReadItem, sghWalk}
 use Rattle.words.specs.Back.{wordAt}
-use Rattle.marks.specs.Library.{Library, lentAt, firstAt, HearsNew, HearsDecoder, HearsEncode, HearsEncoder, HearsReader, HearsWriter, HearsWhole, HearsIndex}
+use Rattle.marks.specs.Library.{Library, lentAt, firstAt, HearsNew, HearsDecoder, HearsEncode, HearsEncoder, HearsReader, HearsWriter, HearsWhole, HearsIndex, HearsWalk}
 
 -- ours, but for the calls that make a decoder, push a slice, ask for the payload and finalize; or for those over frames and messages
 abbrev pub withDecoder : (List ℕ → ℕ → ℕ → Reply) → (List ℕ → List ℕ → List ℕ → List ℕ → Reply) → (List ℕ → List ℕ → Reply) → (List ℕ → List ℕ → Reply) → Library
@@ -32,6 +34,8 @@ withDecoder new slice payload finalize =
       readMessage = sghReadMessage;
       buildIndex = sghBuildIndex;
       findsRow = sghLookUp;
+      readItem = sghReadItem;
+      walksOver = sghWalk;
     }
 
 abbrev pub withMessages : (List ℕ → List ℕ → Reply) → (List ℕ → List ℕ → ℕ → Reply) → (List ℕ → List ℕ → Reply) → (List ℕ → List ℕ → List ℕ → List ℕ → Reply) → Library
@@ -52,6 +56,8 @@ withMessages encode next event write =
       readMessage = sghReadMessage;
       buildIndex = sghBuildIndex;
       findsRow = sghLookUp;
+      readItem = sghReadItem;
+      walksOver = sghWalk;
     }
 
 abbrev pub withFrames : (List ℕ → List ℕ → Reply) → (List ℕ → List ℕ → ℕ → Reply) → (List ℕ → List ℕ → Reply) → Library
@@ -136,6 +142,8 @@ withTables read build find =
       readMessage = read;
       buildIndex = build;
       findsRow = find;
+      readItem = sghReadItem;
+      walksOver = sghWalk;
     }
 
 abbrev pub withWhole : (List ℕ → ℕ → List ℕ → Reply) → Library
@@ -181,6 +189,49 @@ nameLeft = withTables sghReadMessage sghBuildIndex (λ s t name row. let r : Rep
 abbrev pub rowCleared : Library
 rowCleared = withTables sghReadMessage sghBuildIndex (λ s t name row. let r : Reply = sghLookUp s t name row in reply (r .number) (cond (eqb (r .number) 0) (lentAt r 0) (0 ∷ 0 ∷ 0 ∷ 0 ∷ []) ∷ []))
 
+-- ours, but for the calls for any content
+abbrev pub withContent : (List ℕ → ℕ → Reply) → (List ℕ → ℕ → Reply) → Library
+withContent item walk =
+    record {
+      decoderNew = sghDecoderNew;
+      pushByte = sghPushByte;
+      pushSlice = sghPushSlice;
+      payloadLen = sghPayload;
+      finalizes = sghFinalize;
+      resets = sghReset;
+      encodes = sghEncode;
+      encoderNew = sghEncoderNew;
+      encoderNext = sghEncoderNext;
+      crc = crcOf;
+      nextEvent = sghNextEvent;
+      writeEvent = sghWriteEvent;
+      readMessage = sghReadMessage;
+      buildIndex = sghBuildIndex;
+      findsRow = sghLookUp;
+      readItem = item;
+      walksOver = walk;
+    }
+
+-- the words in its reply
+abbrev pub onlyWordsBy : (List ℕ → List ℕ) → Reply → Reply
+onlyWordsBy f r = reply (r .number) (f (lentAt r 0) ∷ [])
+
+-- of a walk's refusal the number is told, and not its place
+abbrev pub walkPlaceLost : Library
+walkPlaceLost = withContent sghReadItem (λ s at. onlyWordsBy (λ w. set w 4 0) (sghWalk s at))
+
+-- behind a refusal the bytes that were left are told
+abbrev pub walkBytesLeft : Library
+walkBytesLeft = withContent sghReadItem (λ s at. onlyWordsBy (λ w. cond (eqb (wordAt w 2) 0) w (set w 0 (length s))) (sghWalk s at))
+
+-- every leaf is a string
+abbrev pub itemTypeLost : Library
+itemTypeLost = withContent (λ s at. onlyWordsBy (λ w. set w 1 0) (sghReadItem s at)) sghWalk
+
+-- an input that is too long is read too
+abbrev pub itemOfAnyLength : Library
+itemOfAnyLength = withContent (λ s at. reply (itemNo (itemAt s at)) (itemWords (itemAt s at) ∷ [])) sghWalk
+
 pub record FallLibraries : Type 0 where
   pub denies-new : HearsNew deniesNew → ⊥
   pub keeps-values : HearsDecoder keepsValues → ⊥
@@ -205,3 +256,7 @@ pub record FallLibraries : Type 0 where
   pub none-is-zeros : HearsIndex noneIsZeros → ⊥
   pub name-left : HearsIndex nameLeft → ⊥
   pub row-cleared : HearsIndex rowCleared → ⊥
+  pub walk-place-lost : HearsWalk walkPlaceLost → ⊥
+  pub walk-bytes-left : HearsWalk walkBytesLeft → ⊥
+  pub item-type-lost : HearsWalk itemTypeLost → ⊥
+  pub item-of-any-length : HearsWalk itemOfAnyLength → ⊥

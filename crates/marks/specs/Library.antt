@@ -1,4 +1,4 @@
--- claim: the library, as a caller in C hears it. What is read out of the numbers that its calls give and leave is what is said of a decoder, an encode, an Encoder, a reader, a writer, a reader of whole messages and an index by value, call by call. So what is claimed of new decoders in use stands for what a collector links.
+-- claim: the library, as a caller in C hears it. What is read out of the numbers that its calls give and leave is what is said of a decoder, an encode, an Encoder, a reader, a writer, a reader of whole messages, an index and a walk by value, call by call. So what is claimed of new decoders in use stands for what a collector links.
 use mathlib.Core.Path.{_≡_}
 use mathlib.Core.Bool.{cond, _||_}
 use mathlib.Core.List.{List, [], _∷_, _++_}
@@ -8,7 +8,10 @@ use lib.IntN.{ℤ, pos, negsuc}
 use lib.ListN.{length, take, drop, getD}
 use lib.Dec.{eqb, ltb}
 use Rattle.refusals.specs.Numbers.{badStateNo, wrongBufferNo, discardedBytesNo, invalidEscNo, invalidMessageNo, inputTooLongNo, tooManyEntriesNo, limit}
+use Rattle.refusals.specs.Read.{Read, got, refused}
 use Rattle.refusals.specs.declared.Span.{Span}
+use Rattle.tlf.specs.declared.Ty.{Ty}
+use Rattle.tlf.specs.declared.Ty.the-variants.{OctetString, Boolean, Integer, Unsigned}
 use Rattle.crc_x25.specs.Crc.{crcOf}
 use Rattle.frame.specs.Frame.{same}
 use Rattle.encoder.specs.Encode.{afterEncode, length-is, noFrame}
@@ -34,6 +37,10 @@ use Rattle.one_call.specs.Readers.{WholeReader, ourWholeReader, RunsTo, RowIs, 
 use Rattle.index.specs.Index.{IndexSaid, indexIs, indexBroken, indexRefused, FoundSaid, foundRow, foundNone, lookRefused}
 use Rattle.index.specs.Answers.{afterIndex}
 use Rattle.by_name.specs.Indexes.{Indexer, Finder, ourIndexer, ourFinder, GoodIndexer, FirstNamed, JudgesTables, entryName}
+use Rattle.walk.specs.Walk.{Item, endMark, leaf, listItem, WalkSaid, walkIs, walkBroken, walkRefused}
+use Rattle.elements.specs.Walkers.{Walker, ourWalker, GoodWalker, LooksNoFurther, EndsWithMessages}
+use Rattle.elements.specs.ItemReaders.{ItemReader, ourItemReader}
+use Rattle.elements.specs.Sights.{SeesIn}
 use Rattle.streaming.specs.Next.{MessageEvent, startEvent, entryEvent, endEvent, Said, event, noEvent, failed, alone}
 use Rattle.words.specs.Words.{eventWords}
 use Rattle.words.specs.Back.{wordAt, spanIn, fieldIn}
@@ -43,6 +50,7 @@ use Rattle.sartrogheo.specs.Streams.{readerNo, sghEncoderNew, sghEncoderNext, s
 use Rattle.sartrogheo.specs.Writes.{writerWords, endedAfter, headFields, sghWriteEvent}
 use Rattle.sartrogheo.specs.Wholes.{messageWords, sghReadMessage}
 use Rattle.sartrogheo.specs.Indexes.{indexWords, sghBuildIndex, sghLookUp}
+use Rattle.sartrogheo.specs.Walks.{itemWords, sghReadItem, walkWords, sghWalk}
 use Rattle.marks.specs.Decoders.{Gave, Machine, ours, LeftBehind}
 use Rattle.marks.specs.Mark2.{PushesBytes, SoundBehind}
 use Rattle.marks.specs.Mark3.{Encode, ourEncode, Job, AllSuit, HeardBehindZeros}
@@ -69,6 +77,8 @@ pub record Library : Type 0 where
   pub readMessage : List ℕ → ℕ → List ℕ → Reply  -- the input, a place, the table
   pub buildIndex : List ℕ → ℕ → List ℕ → Reply  -- the same
   pub findsRow : List ℕ → List ℕ → List ℕ → List ℕ → Reply  -- the input, the table, a name, the row
+  pub readItem : List ℕ → ℕ → Reply  -- the input, a place
+  pub walksOver : List ℕ → ℕ → Reply  -- the same
 
 -- ours, by the definitions that the contracts of the exports cite
 abbrev pub ourLibrary : Library
@@ -89,6 +99,8 @@ ourLibrary =
       readMessage = sghReadMessage;
       buildIndex = sghBuildIndex;
       findsRow = sghLookUp;
+      readItem = sghReadItem;
+      walksOver = sghWalk;
     }
 
 -- what the k-th thing that may be written holds behind a call, counted from 0; the first number in it
@@ -393,6 +405,39 @@ pub record HearsIndex (L : Library) : Type 0 where
   pub numbers : (row s t name : List ℕ) → let r : Reply = L .findsRow s t name row in r .number ≡ goodNo → lentAt r 0 ≡ flat (rowHeard (lentAt r 0) ∷ [])
   pub leaves : (row s t name : List ℕ) → let r : Reply = L .findsRow s t name row in (r .number ≡ goodNo → ⊥) → r ≡ reply (r .number) (row ∷ [])
 
+-- ---- any content
+
+-- what the number and the five words say: 9 stands at no place, every other refusal at one
+abbrev pub walkHeard : ℕ → List ℕ → WalkSaid
+walkHeard number w =
+    cond (eqb number goodNo) (walkIs (wordAt w 0) (wordAt w 1))
+    (cond (eqb number inputTooLongNo) (walkRefused number)
+    (walkBroken (record { number = number; kind = wordAt w 3; place = wordAt w 4 })))
+
+abbrev pub walkerBy : Library → Walker
+walkerBy L s at = let r : Reply = L .walksOver s at in walkHeard (r .number) (lentAt r 0)
+
+-- what the number and the nine words say; a leaf is no list
+abbrev pub tyHeard : ℕ → Ty
+tyHeard n = cond (eqb n 0) OctetString (cond (eqb n 4) Boolean (cond (eqb n 5) Integer Unsigned))
+
+abbrev pub itemIn : List ℕ → Item
+itemIn w = cond (eqb (wordAt w 0) 1) endMark (cond (eqb (wordAt w 0) 2) (leaf (tyHeard (wordAt w 1)) (spanIn w 2)) (listItem (wordAt w 4)))
+
+abbrev pub itemHeard : ℕ → List ℕ → Read Item
+itemHeard number w = cond (eqb number goodNo) (got (itemIn w) (wordAt w 5)) (refused (record { number = number; kind = wordAt w 7; place = wordAt w 8 }))
+
+abbrev pub itemReaderBy : Library → ItemReader
+itemReaderBy L s at = let r : Reply = L .readItem s at in itemHeard (r .number) (lentAt r 0)
+
+-- of any input and place what is heard is what ours says, and all words are those of what is heard; of an input that is too long no item is read, and the answer is 9
+pub record HearsWalk (L : Library) : Type 0 where
+  pub walks : (s : List ℕ) (at : ℕ) → walkerBy L s at ≡ ourWalker s at
+  pub words : (s : List ℕ) (at : ℕ) → lentAt (L .walksOver s at) 0 ≡ walkWords (walkerBy L s at)
+  pub items : (s : List ℕ) (at : ℕ) → length s ≤ limit → itemReaderBy L s at ≡ ourItemReader s at
+  pub long : (s : List ℕ) (at : ℕ) → limit < length s → itemReaderBy L s at ≡ refused (record { number = inputTooLongNo; kind = 0; place = 0 })
+  pub item-words : (s : List ℕ) (at : ℕ) → lentAt (L .readItem s at) 0 ≡ itemWords (itemReaderBy L s at)
+
 pub record HearsOurs (L : Library) : Type 0 where
   pub new : HearsNew L
   pub decoder : HearsDecoder L
@@ -403,6 +448,7 @@ pub record HearsOurs (L : Library) : Type 0 where
   pub writer : HearsWriter L
   pub whole : HearsWhole L
   pub index : HearsIndex L
+  pub walk : HearsWalk L
 
 -- ---- the marks, of what is linked
 
@@ -446,7 +492,7 @@ pub record CallersBegin (C D : Setup) (c c′ : LentByCaller) (m n : List ℕ) :
   pub ways : C .way ≡ D .way
   pub sizes : C .capacity ≤ D .capacity
 
--- mark 2's soundness, and mark 3 with the library's own encode, both by single pushes; what a slice says is what single pushes say (`HearsDecoder`, and `Chunks` of ours). A larger buffer takes nothing away, whatever each caller lends beside it, given the same slices or slices of its own. A whole message is read in one call as a good reader does, and its entries are heard at their rows. An index is built as a good one is, any table is judged, and the first entry with a name is found and heard at its row
+-- mark 2's soundness, and mark 3 with the library's own encode, both by single pushes; what a slice says is what single pushes say (`HearsDecoder`, and `Chunks` of ours). A larger buffer takes nothing away, whatever each caller lends beside it, given the same slices or slices of its own. A whole message is read in one call as a good reader does, and its entries are heard at their rows. An index is built as a good one is, any table is judged, and the first entry with a name is found and heard at its row. A walk over any content is a good one, looks no further than the element and ends where a message does; and who goes from item to item sees every element
 pub record MarksBy (L : Library) : Type 0 where
   pub soundness : (C : Setup) (c : LentByCaller) (m : List ℕ) → CallerBegins C c m
       → (decoderBy L c .payloadOf (decoderBy L c .new C) m ≡ []) × ((os : List Op) (o : Op) → PushesBytes (os ++ o ∷ []) → SoundBehind (decoderBy L c) C m os o)
@@ -462,3 +508,7 @@ pub record MarksBy (L : Library) : Type 0 where
   pub lookup : (row : List ℕ) → JudgesTables (finderBy L row)
   pub finds : (row s : List ℕ) (at : ℕ) (t : List ℕ) (next : ℕ) (m : Message Span) → Fair s at → RunsTo s at next m → (rows p : ℕ) → indexerBy L s at t .answer ≡ indexIs rows p
       → (name : List ℕ) → FirstNamed (entryName s) (λ r e. RowIs s r e × EntriesHeard L s (r ∷ []) (e ∷ [])) name (m .content .entries) (finderBy L row s (take (4 * rows) (indexerBy L s at t .table)) name)
+  pub walk : GoodWalker (walkerBy L)
+  pub walk-looks : LooksNoFurther (walkerBy L)
+  pub walk-ends : EndsWithMessages (walkerBy L)
+  pub sees : (s : List ℕ) → length s ≤ limit → SeesIn (itemReaderBy L) s

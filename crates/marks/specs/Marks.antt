@@ -23,6 +23,11 @@ use Rattle.one_call.specs.Fakes.{FallWholeReaders}
 use Rattle.by_name.specs.Indexes.{ourIndexer, ourFinder, GoodIndexer, JudgesTables, AlwaysTables, AlwaysFindsFirst, OnlyOurIndexer, OnlyOurFinder, NeverReadsOn}
 use Rattle.by_name.specs.Bench.{IndexBench, LookupBench}
 use Rattle.by_name.specs.Fakes.{FallIndexes}
+use Rattle.elements.specs.Walkers.{ourWalker, GoodWalker, OnlyOurWalker, NeverLooksFurther, AlwaysEndsWithMessages}
+use Rattle.elements.specs.ItemReaders.{ourItemReader, ReadsItems, OnlyOurItems}
+use Rattle.elements.specs.Sights.{AlwaysSeesElements}
+use Rattle.elements.specs.Bench.{WalkBench}
+use Rattle.elements.specs.Fakes.{FallWalkers}
 use Rattle.places.specs.Readers.{Readers}
 use Rattle.places.specs.Fakes.{FallReaders}
 use Rattle.marks.specs.Decided.{Views, Decided}
@@ -37,7 +42,7 @@ use Rattle.marks.specs.Ways.{ourWay, KeepsWay, RefusesUnknown}
 use Rattle.marks.specs.Packed.{ourHost, RoundTrip, Exactly, PacksWhatPushes, PacksInOrder, ActsAlike, SlicesAlike, HandsAlike, Serves, LeavesRefused, LeavesTidy, AnswersAlike}
 use Rattle.marks.specs.Encoders.{ourEncoder, SameBytes}
 use Rattle.marks.specs.Events.{ourReader, ourParser, ReaderGives, GoesOn, readerWith, parserWith, ListsEntries, SaysWhere, CallSaysWhere, TenAgain}
-use Rattle.marks.specs.Library.{Library, ourLibrary, HearsNew, HearsDecoder, HearsEncode, HearsEncoder, HearsCrc, readerBy, HearsReader, HearsWriter, HearsWhole, HearsIndex, HearsOurs, MarksBy}
+use Rattle.marks.specs.Library.{Library, ourLibrary, HearsNew, HearsDecoder, HearsEncode, HearsEncoder, HearsCrc, readerBy, HearsReader, HearsWriter, HearsWhole, HearsIndex, HearsWalk, HearsOurs, MarksBy}
 use Rattle.marks.specs.Bench.{b5Second, Holds, Bench}
 use Rattle.marks.specs.Fakes.{NotOurs, Fall}
 use Rattle.marks.specs.FakeHosts.{FallHosts}
@@ -102,7 +107,7 @@ pub record Marks : Type 0 where
   pub parser-goes-on : GoesOn ourParser parserWith
   pub reader-lists : ListsEntries ourReader
   pub parser-lists : ListsEntries ourParser
-  -- the library: what a caller hears of its calls is what ours say; so the reader's events are those of the tables. And of every library of which that is so soundness and mark 3 hold, a larger buffer takes nothing away, a whole message is read in one call, and an index is built and asked
+  -- the library: what a caller hears of its calls is what ours say; so the reader's events are those of the tables. And of every library of which that is so soundness and mark 3 hold, a larger buffer takes nothing away, a whole message is read in one call, an index is built and asked, and any content is walked over
   pub library-new : HearsNew ourLibrary
   pub library-decoder : HearsDecoder ourLibrary
   pub library-encode : HearsEncode ourLibrary
@@ -112,6 +117,7 @@ pub record Marks : Type 0 where
   pub library-writer : HearsWriter ourLibrary
   pub library-whole : HearsWhole ourLibrary
   pub library-index : HearsIndex ourLibrary
+  pub library-walk : HearsWalk ourLibrary
   pub library-gives : ReaderGives (readerBy ourLibrary)
   pub library-marks : (L : Library) → HearsOurs L → MarksBy L
   -- events in words: each is read back, and no other words are taken; and what that is false of
@@ -136,6 +142,16 @@ pub record Marks : Type 0 where
   pub index-bench : IndexBench ourIndexer
   pub lookup-bench : LookupBench ourFinder
   pub fall-indexes : FallIndexes
+  -- a walk over any content: it measures exactly the elements of the grammar, and refuses exactly where one is broken off or wrong, 9 first; what follows isn't looked at; it ends where a message that the event reader accepts does. Who does the first two does as ours, and the others follow. An item is read exactly by the grammar's pieces, and who goes from item to item sees every element once, in order. And what that is false of
+  pub walk : GoodWalker ourWalker
+  pub only-walk : OnlyOurWalker
+  pub walk-looks : NeverLooksFurther
+  pub walk-ends : AlwaysEndsWithMessages
+  pub items : ReadsItems ourItemReader
+  pub only-items : OnlyOurItems
+  pub sees-elements : AlwaysSeesElements
+  pub walk-bench : WalkBench ourWalker
+  pub fall-walkers : FallWalkers
   -- a length that passes 32 bits is refused, and no other is refused so
   pub overflows : Overflows tlfAt
   -- a refusal says where it broke: of every reader, of the calls on an input, of one call from any numbers; and what that is false of

@@ -75,4 +75,6 @@ decided =
       sgh-read-message = λ input at table message. two-lists _;
       sgh-build-index = λ input at table index. two-lists _;
       sgh-look-up = λ input table name row. one-list _;
+      sgh-read-item = λ input at item. one-list _;
+      sgh-walk = λ input at element. one-list _;
     }

@@ -16,7 +16,7 @@ use Rattle.sartrogheo.specs.Indexes.{indexNo, indexWords, sghBuildIndex,
 use Rattle.sartrogheo.specs.Cut.{RowIsSmall}
 
 -- number, kind and place stand behind the first of a refusal's words
-pub refusal-words : (f : Refusal) (w : List ℕ) → w ≡ eventWords (failed f) → _≡_ {A = List ℕ} (0 ∷ 0 ∷ getD w 1 0 ∷ getD w 2 0 ∷ getD w 3 0 ∷ []) (0 ∷ 0 ∷ f .number ∷ f .kind ∷ f .place ∷ [])
+pub refusal-words : (f : Refusal) (w : List ℕ) → w ≡ eventWords (failed f) → _≡_ {A = List ℕ} (getD w 1 0 ∷ getD w 2 0 ∷ getD w 3 0 ∷ []) (f .number ∷ f .kind ∷ f .place ∷ [])
 unfolding withZeros
 refusal-words f w e = rw e
 

@@ -9,6 +9,7 @@ use Rattle.sartrogheo.specs.Streams.{sghEncoderNew, sghEncoderNext, sghN
 use Rattle.sartrogheo.specs.Writes.{sghWriteEvent}
 use Rattle.sartrogheo.specs.Wholes.{sghReadMessage}
 use Rattle.sartrogheo.specs.Indexes.{sghBuildIndex, sghLookUp}
+use Rattle.sartrogheo.specs.Walks.{sghReadItem, sghWalk}
 
 -- every public function: over its parameters, what its `ensures` allows. What is lent stands for what it holds at the call; each thing that may be written stands beside the number, the last one outermost
 pub record Decided : Type 0 where
@@ -30,3 +31,5 @@ pub record Decided : Type 0 where
   pub sgh-read-message : (input : List ℕ) (at : ℕ) (table message : List ℕ) → One (λ (r : Beside (Beside ℕ (List ℕ)) (List ℕ)). reply (r .answer .answer) (r .answer .lent ∷ r .lent ∷ []) ≡ sghReadMessage input at table)
   pub sgh-build-index : (input : List ℕ) (at : ℕ) (table index : List ℕ) → One (λ (r : Beside (Beside ℕ (List ℕ)) (List ℕ)). reply (r .answer .answer) (r .answer .lent ∷ r .lent ∷ []) ≡ sghBuildIndex input at table)
   pub sgh-look-up : (input table name row : List ℕ) → One (λ (r : Beside ℕ (List ℕ)). reply (r .answer) (r .lent ∷ []) ≡ sghLookUp input table name row)
+  pub sgh-read-item : (input : List ℕ) (at : ℕ) (item : List ℕ) → One (λ (r : Beside ℕ (List ℕ)). reply (r .answer) (r .lent ∷ []) ≡ sghReadItem input at)
+  pub sgh-walk : (input : List ℕ) (at : ℕ) (element : List ℕ) → One (λ (r : Beside ℕ (List ℕ)). reply (r .answer) (r .lent ∷ []) ≡ sghWalk input at)

@@ -17,11 +17,14 @@ ghost use Rattle.words.specs.Words.{eventWords};
 ghost use Rattle.whole.specs.Whole.{flat};
 ghost use Rattle.whole.specs.Answers.{optListEnd, wholeRead};
 ghost use Rattle.index.specs.Answers.{entryRow, indexed};
+ghost use Rattle.tlf.specs.Written.{tyNumber};
+ghost use Rattle.walk.specs.Answers.{itemRead, walked};
 ghost use Rattle.sartrogheo.specs.Calls.{reply, answerNo, sghDecoderNew, sghPushByte, sghPushSlice, sghPayload, sghFinalize, sghReset, encodeNo, encodeLen, sghEncode};
 ghost use Rattle.sartrogheo.specs.Streams.{encoderKind, endCount, encoderCount, encoderWords, stateOfKind, encoderOf, sghEncoderNew, sghEncoderNext, readerNo, sghNextEvent};
 ghost use Rattle.sartrogheo.specs.Writes.{writerWords, writerOf, endedBehind, headFields, messageTo, eventTo, sghWriteEvent};
 ghost use Rattle.sartrogheo.specs.Wholes.{startSaid, listEndSaid, endSaid, rowsSaid, nextSaid, messageWords, sghReadMessage};
 ghost use Rattle.sartrogheo.specs.Indexes.{indexNo, indexWords, sghBuildIndex, sghLookUp};
+ghost use Rattle.sartrogheo.specs.Walks.{itemNo, itemWords, sghReadItem, walkNo, walkWords, sghWalk};
 ghost use Rattle.sartrogheo.specs.Cut.{eventNo, eventValues, fillIn, optWriter, RowIsSmall};
 use decoder::Asked;
 use decoder::Decoder;
@@ -41,6 +44,9 @@ use refusals::Fault;
 use refusals::ParseError;
 use streaming::Answer;
 use streaming::ParseEvent;
+use tlf::Ty;
+use walk::ItemRead;
+use walk::Walked;
 use whole::OptListEnd;
 use whole::WholeRead;
 use words::OptEvent;
@@ -830,4 +836,117 @@ pub extern "C" fn sgh_look_up(input: &[u8], table: &[u32], name: &[u8], row: &mu
         Found::InputTooLong => 9,
         Found::BadSpan => 16,
     }
+}
+
+// ---- any content
+
+// The number of a type, as it stands in an element's first byte.
+fn type_number(ty: Ty) -> u64
+    ensures { λ r. ⌜ r ≡ tyNumber ty ⌝ }
+{
+    match ty {
+        Ty::OctetString => 0,
+        Ty::Boolean => 4,
+        Ty::Integer => 5,
+        Ty::Unsigned => 6,
+        Ty::ListOf => 7,
+    }
+}
+
+// The number of what begins at a place.
+fn item_no(x: ItemRead) -> u32
+    ensures { λ r. ⌜ r ≡ itemNo (itemRead x) ⌝ }
+{
+    match x {
+        ItemRead::EndMark { next: _ } => GOOD,
+        ItemRead::Leaf {
+            ty: _,
+            content: _,
+            next: _,
+        } => GOOD,
+        ItemRead::List { count: _, next: _ } => GOOD,
+        ItemRead::Refused(f) => fault_no(f),
+    }
+}
+
+// Its nine words: kind, type, content, count and next place; number, kind and place of a refusal, which the event reader's words have too.
+fn item_words(x: ItemRead) -> [u64; 9]
+    ensures { λ r. ⌜ r ≡ itemWords (itemRead x) ⌝ }
+{
+    match x {
+        ItemRead::EndMark { next } => [1, 0, 0, 0, 0, next as u64, 0, 0, 0],
+        ItemRead::Leaf { ty, content, next } => {
+            let t = type_number(ty);
+            [
+                2,
+                t,
+                content.start as u64,
+                content.len as u64,
+                0,
+                next as u64,
+                0,
+                0,
+                0,
+            ]
+        }
+        ItemRead::List { count, next } => [3, 0, 0, 0, count as u64, next as u64, 0, 0, 0],
+        ItemRead::Refused(f) => {
+            let w = words::event_words(Answer::Refused(f));
+            [0, 0, 0, 0, 0, 0, w[1], w[2], w[3]]
+        }
+    }
+}
+
+// What begins at a place, whatever follows it.
+#[no_mangle]
+pub extern "C" fn sgh_read_item(input: &[u8], at: usize, item: &mut [u64; 9]) -> u32
+    ensures { λ r. ⌜ reply r (now (item .exit) ∷ []) ≡ sghReadItem (now (input .entry)) at ⌝ }
+{
+    if refusals::LIMIT < input.len() {
+        *item = [0, 0, 0, 0, 0, 0, 9, 0, 0];
+        return 9;
+    }
+    let x = walk::parse_item(input, at);
+    *item = item_words(x);
+    item_no(x)
+}
+
+// The number of what the walk says.
+fn walk_no(x: Walked) -> u32
+    ensures { λ r. ⌜ r ≡ walkNo (walked x) ⌝ }
+{
+    match x {
+        Walked::Is {
+            bytes: _,
+            leaves: _,
+        } => GOOD,
+        Walked::Refused(f) => fault_no(f),
+        Walked::TooDeep { place: _ } => 19,
+        Walked::InputTooLong => 9,
+    }
+}
+
+// Its five words: bytes and leaves; number, kind and place of a refusal.
+fn walk_words(x: Walked) -> [u64; 5]
+    ensures { λ r. ⌜ r ≡ walkWords (walked x) ⌝ }
+{
+    match x {
+        Walked::Is { bytes, leaves } => [bytes as u64, leaves as u64, 0, 0, 0],
+        Walked::Refused(f) => {
+            let w = words::event_words(Answer::Refused(f));
+            [0, 0, w[1], w[2], w[3]]
+        }
+        Walked::TooDeep { place } => [0, 0, 19, 0, place as u64],
+        Walked::InputTooLong => [0, 0, 9, 0, 0],
+    }
+}
+
+// How many bytes the whole element at a place takes, and how many leaves it has.
+#[no_mangle]
+pub extern "C" fn sgh_walk(input: &[u8], at: usize, element: &mut [u64; 5]) -> u32
+    ensures { λ r. ⌜ reply r (now (element .exit) ∷ []) ≡ sghWalk (now (input .entry)) at ⌝ }
+{
+    let x = walk::walk(input, at);
+    *element = walk_words(x);
+    walk_no(x)
 }

@@ -1,11 +1,12 @@
 //! Messages, as a payload holds them.
 //!
-//! [`streaming`] reads them event by event, [`whole`] a message in one call, and [`index`] has the entries of one by name; [`common`] has the records that all give.
+//! [`streaming`] reads them event by event, [`whole`] a message in one call, and [`index`] has the entries of one by name; [`common`] has the records that all give. [`content`] goes over elements, whatever they mean.
 use core::fmt;
 
 use crate::ffi;
 
 pub mod common;
+pub mod content;
 pub mod index;
 pub mod streaming;
 pub mod whole;

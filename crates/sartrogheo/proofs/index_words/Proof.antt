@@ -1,3 +1,6 @@
+use mathlib.Core.Path.{ap}
+use mathlib.Core.List.{List, _∷_}
+use Prim.Native.Nat.{ℕ}
 use Rattle.sartrogheo.proofs.Indexes.{refusal-words}
 use borrow.Author.Needs.{needs}
 use Rattle.sartrogheo.proofs.index_words.Statement.{statement}
@@ -34,7 +37,7 @@ returns : tie.Need-returns
 returns c = rw (c .before .x .given .1)
 
 returns-2 : tie.Need-returns-2
-returns-2 c = rw (c .before .before .x2 .given .1) (refusal-words _ _ (c .event-words .ensures))
+returns-2 c = rw (c .before .before .x2 .given .1) (ap (λ (l : List ℕ). 0 ∷ 0 ∷ l) (refusal-words _ _ (c .event-words .ensures)))
 
 returns-3 : tie.Need-returns-3
 returns-3 c = rw (c .enum-told .given .1)

@@ -1,0 +1,16 @@
+pub mod Local
+pub mod Grammar
+pub mod Items
+pub mod Arrives
+pub mod Walked
+pub mod Looks
+pub mod Spans
+pub mod Leaves
+pub mod Fields
+pub mod Messages
+pub mod Walkers
+pub mod ItemReaders
+pub mod Bench
+pub mod Fakes
+pub mod Sights
+pub mod Wrong

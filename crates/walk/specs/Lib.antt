@@ -1,0 +1,4 @@
+pub mod Walk
+pub mod Cut
+pub mod Answers
+pub mod Decided
