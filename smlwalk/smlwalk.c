@@ -217,7 +217,7 @@ static void refuse_payload(uint64_t payload, const sgh_refusal *r)
 {
     any_refused = true;
     flush();
-    fprintf(stderr, "smlwalk: payload %" PRIu64 ": %" PRIu64 " %s%s at byte %" PRIu64 "\n", payload, r->number, names[r->number], kinds[r->kind], r->place);
+    fprintf(stderr, "smlwalk: payload %" PRIu64 ": %" PRIu64 " %s%s at payload byte %" PRIu64 "\n", payload, r->number, names[r->number], kinds[r->kind], r->place);
 }
 
 /* A decoder's refusal, in one write; which values it has, its number says. */

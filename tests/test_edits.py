@@ -81,7 +81,7 @@ claims = {
     "written": set(re.findall(r"^  pub [\w-]+ : ([A-Z]\w*) W$", open("crates/written/specs/Writers.antt", encoding="utf-8").read(), re.M)),
     "one_call": set(re.findall(r"^  pub [\w-]+ : ([A-Z]\w*) R$", open("crates/one_call/specs/Readers.antt", encoding="utf-8").read(), re.M)),
     "by_name": {"GoodIndexer", "JudgesTables", "FindsFirst"},
-    "elements": {"MeasuresExactly", "RefusesExactly", "JudgesPlaces", "EndsWithMessages", "ReadsItems", "SeesElements"},
+    "elements": {"MeasuresExactly", "RefusesExactly", "NineFirst", "EndsWithMessages", "ReadsItems", "SeesElements"},
 }
 # claims that nobody makes, and that a part of a record of Marks says are false of ours
 refused = {said for path in glob.glob("crates/marks/specs/Fake*.antt") for said in re.findall(r"^  pub [\w-]+ : ([A-Z]\w* ours) → ⊥$", open(path, encoding="utf-8").read(), re.M)}

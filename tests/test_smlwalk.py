@@ -104,7 +104,7 @@ def walked(payload, number):
         what = " ".join([str(f.number), NAMES[f.number], *[f.kind] * (f.kind is not None)])
         seen[what] += 1
         lines += [line(depth, place, sized("rest", payload[place:]))] * (place < len(payload))
-        lines.append(f"smlwalk: payload {number}: {what} at byte {f.place}\n")
+        lines.append(f"smlwalk: payload {number}: {what} at payload byte {f.place}\n")
     return lines
 
 
@@ -209,20 +209,20 @@ CONTENTS = {
     "71727001024100": '      0 list of 1\n      1   list of 2\n      2     list of 0\n      3     string of 0\n      4 string of 1: 41 = "A"\n      6 end mark\n',
     "": "",
     # what is refused, and the bytes that are left
-    "8000": "      0 rest of 2: 8000\nsmlwalk: payload 1: 11 InvalidTlf TlfLengthUnderflow at byte 0\n",
-    "0010": "      0 end mark\n      1 rest of 1: 10\nsmlwalk: payload 1: 11 InvalidTlf TlfInvalidTy at byte 1\n",
-    "71c200": "      0 list of 1\n      1   rest of 2: c200\nsmlwalk: payload 1: 11 InvalidTlf TlfReserved at byte 1\n",
-    "8112": "      0 rest of 2: 8112\nsmlwalk: payload 1: 11 InvalidTlf TlfNextByteTypeMismatch at byte 0\n",
-    "81808080808080800a": "      0 rest of 9: 81808080808080800a\nsmlwalk: payload 1: 11 InvalidTlf TlfLengthOverflow at byte 0\n",
-    "7207": "      0 list of 2\n      1   rest of 1: 07\nsmlwalk: payload 1: 10 UnexpectedEOF at byte 2\n",
-    "7201": "      0 list of 2\n      1   string of 0\nsmlwalk: payload 1: 10 UnexpectedEOF at byte 2\n",
-    "ff8f8f8f8f8f8f0f00": "      0 list of 4294967295\n      8   end mark\nsmlwalk: payload 1: 10 UnexpectedEOF at byte 9\n",
-    "f1": "      0 rest of 1: f1\nsmlwalk: payload 1: 10 UnexpectedEOF at byte 1\n",
+    "8000": "      0 rest of 2: 8000\nsmlwalk: payload 1: 11 InvalidTlf TlfLengthUnderflow at payload byte 0\n",
+    "0010": "      0 end mark\n      1 rest of 1: 10\nsmlwalk: payload 1: 11 InvalidTlf TlfInvalidTy at payload byte 1\n",
+    "71c200": "      0 list of 1\n      1   rest of 2: c200\nsmlwalk: payload 1: 11 InvalidTlf TlfReserved at payload byte 1\n",
+    "8112": "      0 rest of 2: 8112\nsmlwalk: payload 1: 11 InvalidTlf TlfNextByteTypeMismatch at payload byte 0\n",
+    "81808080808080800a": "      0 rest of 9: 81808080808080800a\nsmlwalk: payload 1: 11 InvalidTlf TlfLengthOverflow at payload byte 0\n",
+    "7207": "      0 list of 2\n      1   rest of 1: 07\nsmlwalk: payload 1: 10 UnexpectedEOF at payload byte 2\n",
+    "7201": "      0 list of 2\n      1   string of 0\nsmlwalk: payload 1: 10 UnexpectedEOF at payload byte 2\n",
+    "ff8f8f8f8f8f8f0f00": "      0 list of 4294967295\n      8   end mark\nsmlwalk: payload 1: 10 UnexpectedEOF at payload byte 9\n",
+    "f1": "      0 rest of 1: f1\nsmlwalk: payload 1: 10 UnexpectedEOF at payload byte 1\n",
 }
 NESTED = "".join("%7d %slist of 1\n" % (k, "  " * k) for k in range(DEEPEST))
 CONTENTS["71" * 16 + "01"] = NESTED + "     16 " + "  " * 16 + "string of 0\n"
-CONTENTS["71" * 16 + "7001"] = NESTED + "     16 " + "  " * 16 + "rest of 2: 7001\nsmlwalk: payload 1: 19 TooDeep at byte 16\n"
-CONTENTS["71" * 16 + "f1"] = NESTED + "     16 " + "  " * 16 + "rest of 1: f1\nsmlwalk: payload 1: 10 UnexpectedEOF at byte 17\n"
+CONTENTS["71" * 16 + "7001"] = NESTED + "     16 " + "  " * 16 + "rest of 2: 7001\nsmlwalk: payload 1: 19 TooDeep at payload byte 16\n"
+CONTENTS["71" * 16 + "f1"] = NESTED + "     16 " + "  " * 16 + "rest of 1: f1\nsmlwalk: payload 1: 10 UnexpectedEOF at payload byte 17\n"
 
 
 def contents(words):
@@ -253,7 +253,7 @@ def longest(words):
     row = bytes.fromhex("f8868a00") + b"\1" * 0x86A0
     held("smlwalk, a list of many", together([*words, "-p"], row), plain(row))
     last = together([*words, "-p"], string(LIMIT - 2) + b"\0\x10")[1].split("\n")[2:]
-    held("smlwalk -p, places of seven digits", last, ["1048574 end mark", "1048575 rest of 1: 10", "smlwalk: payload 1: 11 InvalidTlf TlfInvalidTy at byte 1048575", ""])
+    held("smlwalk -p, places of seven digits", last, ["1048574 end mark", "1048575 rest of 1: 10", "smlwalk: payload 1: 11 InvalidTlf TlfInvalidTy at payload byte 1048575", ""])
 
 
 # ---- random payloads

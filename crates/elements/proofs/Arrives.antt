@@ -6,7 +6,7 @@ use native.Mathlib.Omega.{arith}
 use Rattle.refusals.specs.Read.{Read, got, refused, Refusal, then, need}
 use Rattle.walk.specs.Walk.{Item, endMark, leaf, listItem, itemAt, tooDeep}
 use Rattle.walk.specs.Cut.{elementsAt, behindItem, elementBy, elementAt}
-use Rattle.elements.proofs.Items.{not-both, refusal-same, WrongItem, refusedItem, deepItem}
+use Rattle.elements.proofs.Items.{not-both, refusal-same, LostItem, refusedItem, deepItem}
 
 -- from the element at p, in which lists may open d deep, its reading comes to q, where one begins in which they may open e deep
 pub data Arrives (s : List ℕ) (e q : ℕ) : ℕ → ℕ → Type 0 where
@@ -19,7 +19,7 @@ pub record Lands (s : List ℕ) (d p : ℕ) (f : Refusal) : Type 0 where
   pub e : ℕ
   pub q : ℕ
   pub arrives : Arrives s e q d p
-  pub wrong : WrongItem s e q f
+  pub wrong : LostItem s e q f
 
 -- of a row that is refused the elements before the first that is
 record BreaksAt (read : ℕ → Read ℕ) (k sum n : ℕ) (f : Refusal) : Type 0 where
@@ -53,7 +53,7 @@ lands zero s p f h = by (itemAt s p) refl
     by (got (leaf ty c) n) e = absurd (not-both {a = 1} {n = n} refl (rw e at h))
     by (got (listItem k) n) e =
         let same : tooDeep p ≡ f = refusal-same {A = ℕ} (rw e at h) in
-        record { e = zero; q = p; arrives = arrived; wrong = subst (λ (g : Refusal). WrongItem s zero p g) same (deepItem k n refl e) }
+        record { e = zero; q = p; arrives = arrived; wrong = subst (λ (g : Refusal). LostItem s zero p g) same (deepItem k n refl e) }
 lands (suc d) s p f h = by (itemAt s p) refl (λ m b. lands d s m f b)
   where
     by : (x : Read Item) → itemAt s p ≡ x → ((m : ℕ) → elementAt d s m ≡ refused f → Lands s d m f) → Lands s (suc d) p f
@@ -81,7 +81,7 @@ row-stops read (suc j) (suc k) sum n a m f h l b = by (read n) refl (λ c i w. r
     by (got c i) e next = rw e (next c i (rw e at h))
     by (refused g) e next = absurd (not-both {f = g} h (rw e))
 
-item-stops : (d : ℕ) (s : List ℕ) (p : ℕ) (f : Refusal) → WrongItem s d p f → elementAt d s p ≡ refused f
+item-stops : (d : ℕ) (s : List ℕ) (p : ℕ) (f : Refusal) → LostItem s d p f → elementAt d s p ≡ refused f
 unfolding elementAt elementBy behindItem then need
 item-stops zero s p f (refusedItem g h) = rw h
 item-stops (suc d) s p f (refusedItem g h) = rw h
@@ -92,6 +92,6 @@ list-stops : (d : ℕ) (s : List ℕ) (p k n : ℕ) (f : Refusal) → itemAt s p
 unfolding elementAt elementBy behindItem then need
 list-stops d s p k n f h r = rw h r
 
-pub refused-there : {s : List ℕ} {e q d p : ℕ} → Arrives s e q d p → (f : Refusal) → WrongItem s e q f → elementAt d s p ≡ refused f
+pub refused-there : {s : List ℕ} {e q d p : ℕ} → Arrives s e q d p → (f : Refusal) → LostItem s e q f → elementAt d s p ≡ refused f
 refused-there {s} {e} {q} arrived f w = item-stops e s q f w
 refused-there {s} (deeper d p k n j a m i l r t) f w = list-stops d s p k n f i (row-stops (elementAt d s) j k 0 n a m f r l (refused-there t f w))

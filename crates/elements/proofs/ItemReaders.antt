@@ -8,7 +8,7 @@ use lib.ListN.{length, drop, length-append, take-append-drop, length-drop}
 use lib.Seq.{drop-drop}
 use lib.Dec.{leb}
 use borrow.Author.Tests.{leb-true, leb-false, lt-ltb}
-use Rattle.refusals.specs.Read.{Read, got, refused, Refusal, then, spanAt}
+use Rattle.refusals.specs.Read.{Read, got, refused, then, spanAt}
 use Rattle.refusals.specs.declared.Span.{Span}
 use Rattle.refusals.proofs.Read.{Ok, ok-got, ok-any, ok-then, ok-cond, ok-at, Ahead, Inside, span-ok, span-room}
 use Rattle.refusals.proofs.Places.{from-place}
@@ -21,7 +21,7 @@ use Rattle.walk.proofs.Items.{mark-room, mark-byte, item-ok, no-mark}
 use Rattle.elements.specs.Grammar.{HeadBytes}
 use Rattle.elements.specs.ItemReaders.{ourItemReader, ItemStands, markStands, leafStands, listStands, ReadsItems, OnlyOurItems}
 use Rattle.elements.proofs.Local.{both-ok, head-gets, read-head, partFrom, part-length}
-use Rattle.elements.proofs.Items.{WrongItem, refusedItem, deepItem, wrong-item, item-wrong}
+use Rattle.elements.proofs.Items.{wrong-read, item-lost}
 
 -- ---- what stands there is read
 
@@ -104,19 +104,15 @@ item-stands s p =
     ok-cond (isList (t .ty)) _ _ (λ f. ok-got _ _ (list-stands s p n t h f))
     (λ f. ok-then _ _ (both-ok (ok-any (spanAt s n (t .len))) (span-ok s n (t .len))) (λ x m i. ok-got _ _ (leaf-spanned s p n t x m h f (i .0) (i .1))))))
 
--- ---- what is refused
-
-broken-item : (s : List ℕ) (p : ℕ) (f : Refusal) (x : WrongItem s 1 p f) → itemAt s p ≡ refused f
-broken-item s p f (refusedItem g h) = h
-broken-item s p f (deepItem k n z h) = absurd (omega (arith, z))
+-- ---- ours
 
 pub our-items : ReadsItems ourItemReader
 our-items =
     record {
       if = stands-read;
       only-if = λ s p i n h e. ok-at (sym e) (item-stands s p);
-      refuses = λ s p f b. broken-item s p f (item-wrong s 1 p f (b .judged-to) (b .wrong));
-      only-refuses = λ s p f e. let w = wrong-item s 1 p f (refusedItem f e) in record { judged-to = w .judged; wrong = w .wrong };
+      refuses = λ s p f b. item-lost s p f (b .judged-to) (b .wrong);
+      only-refuses = λ s p f e. let w = wrong-read s p f e in record { judged-to = w .judged; wrong = w .wrong };
     }
 
 pub only-our-items : OnlyOurItems

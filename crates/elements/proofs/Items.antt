@@ -18,7 +18,7 @@ use Rattle.walk.proofs.Items.{mark-byte, marked-refused, no-mark}
 use Rattle.places.specs.Readers.{LengthRefusal, endOfInput, badLengthBytes}
 use Rattle.places.proofs.Lengths.{length-refusals}
 use Rattle.one_call.proofs.Runs.{no-confusion}
-use Rattle.elements.specs.Walkers.{WrongElement, cutHead, cutContent, wrongHead, sixteenOpen}
+use Rattle.elements.specs.Walkers.{WrongItem, cutHead, cutContent, wrongHead, WrongElement, byItself, sixteenOpen}
 
 -- ---- read
 
@@ -59,11 +59,15 @@ pub refusal-same : {A : Type 0} {f g : Refusal} → _≡_ {A = Read A} (refused 
 refusal-same {f = f} e = ap (refusedOr f) e
 
 -- the item at q is refused, or a list where none may open
-pub data WrongItem (s : List ℕ) (e q : ℕ) : Refusal → Type 0 where
-  refusedItem : (f : Refusal) → itemAt s q ≡ refused f → WrongItem s e q f
-  deepItem : (k n : ℕ) → e ≡ zero → itemAt s q ≡ got (listItem k) n → WrongItem s e q (tooDeep q)
+pub data LostItem (s : List ℕ) (e q : ℕ) : Refusal → Type 0 where
+  refusedItem : (f : Refusal) → itemAt s q ≡ refused f → LostItem s e q f
+  deepItem : (k n : ℕ) → e ≡ zero → itemAt s q ≡ got (listItem k) n → LostItem s e q (tooDeep q)
 
--- a place behind what was judged
+-- a place behind what was judged: of an item, and of an element
+pub record WrongItemTo (s : List ℕ) (q : ℕ) (f : Refusal) : Type 0 where
+  pub judged : ℕ
+  pub wrong : WrongItem s q f judged
+
 pub record WrongTo (s : List ℕ) (e q : ℕ) (f : Refusal) : Type 0 where
   pub judged : ℕ
   pub wrong : WrongElement s e q f judged
@@ -73,9 +77,9 @@ unfolding isEndMark
 no-zero s q h e z = no-confusion (sym (rw (lt-ltb q (length s) h, eq-eqb (getD s q 0) 0 z)) ∙ e)
 
 -- what the length reader refuses
-head-wrong : (s : List ℕ) (e q : ℕ) (f : Refusal) → isEndMark s q ≡ false → tlfAt s q ≡ refused f → LengthRefusal s q f → WrongTo s e q f
-head-wrong s e q f m h endOfInput = record { judged = length s + 1; wrong = cutHead h }
-head-wrong s e q f m h (badLengthBytes kind lt) = record { judged = q + 1; wrong = wrongHead kind (q + 1) h (no-zero s q lt m) }
+head-wrong : (s : List ℕ) (q : ℕ) (f : Refusal) → isEndMark s q ≡ false → tlfAt s q ≡ refused f → LengthRefusal s q f → WrongItemTo s q f
+head-wrong s q f m h endOfInput = record { judged = length s + 1; wrong = cutHead h }
+head-wrong s q f m h (badLengthBytes kind lt) = record { judged = q + 1; wrong = wrongHead kind (q + 1) h (no-zero s q lt m) }
 
 -- a leaf's content that isn't there
 pub span-cut : (s : List ℕ) (n len : ℕ) (f : Refusal) → n ≤ length s → spanAt s n len ≡ refused f → (f ≡ eof (length s)) × (length s < n + len)
@@ -88,38 +92,41 @@ span-cut s n len f h e = by (leb (n + len) (length s)) refl
         let l = leb-false (n + len) (length s) k in
         (sym (refusal-same {A = Span} (sym (rw (le-leb n (length s) h, lt-leb len (length s - n) (omega arith))) ∙ e)), l)
 
-item-refused : (s : List ℕ) (e q : ℕ) (f : Refusal) (b : Bool) → isEndMark s q ≡ b → itemAt s q ≡ refused f → WrongTo s e q f
+item-refused : (s : List ℕ) (q : ℕ) (f : Refusal) (b : Bool) → isEndMark s q ≡ b → itemAt s q ≡ refused f → WrongItemTo s q f
 unfolding itemAt then
-item-refused s e q f true m h = absurd (not-both {a = endMark} {n = q + 1} (rw m) h)
-item-refused s e q f false m h = by (tlfAt s q) refl
+item-refused s q f true m h = absurd (not-both {a = endMark} {n = q + 1} (rw m) h)
+item-refused s q f false m h = by (tlfAt s q) refl
   where
     told : (t : TypeLengthField) (n : ℕ) (g : Refusal) → tlfAt s q ≡ got t n → isList (t .ty) ≡ false → spanAt s n (t .len) ≡ refused g → itemAt s q ≡ refused g
     told t n g i l x = rw (m, i, l, x)
 
-    spanned : (t : TypeLengthField) (n : ℕ) → tlfAt s q ≡ got t n → isList (t .ty) ≡ false → (x : Read Span) → spanAt s n (t .len) ≡ x → WrongTo s e q f
+    spanned : (t : TypeLengthField) (n : ℕ) → tlfAt s q ≡ got t n → isList (t .ty) ≡ false → (x : Read Span) → spanAt s n (t .len) ≡ x → WrongItemTo s q f
     spanned t n i l (got c k) x = absurd (not-both {a = leaf (t .ty) c} {n = k} (rw (m, i, l, x)) h)
     spanned t n i l (refused g) x =
         let a : Ahead s q n = ok-at (sym i) (tlf-ok s q) in
         let same : g ≡ f = refusal-same {A = Item} (sym (told t n g i l x) ∙ h) in
         let w = span-cut s n (t .len) g (a .within) x in
-        subst (λ (r : Refusal). WrongTo s e q r) (sym (w .0) ∙ same) (record { judged = length s + 1; wrong = cutContent t n i l (w .1) })
+        subst (λ (r : Refusal). WrongItemTo s q r) (sym (w .0) ∙ same) (record { judged = length s + 1; wrong = cutContent t n i l (w .1) })
 
-    typed : (t : TypeLengthField) (n : ℕ) → tlfAt s q ≡ got t n → (l : Bool) → isList (t .ty) ≡ l → WrongTo s e q f
+    typed : (t : TypeLengthField) (n : ℕ) → tlfAt s q ≡ got t n → (l : Bool) → isList (t .ty) ≡ l → WrongItemTo s q f
     typed t n i true l = absurd (not-both {a = listItem (t .len)} {n = n} (rw (m, i, l)) h)
     typed t n i false l = spanned t n i l (spanAt s n (t .len)) refl
 
     passes : (g : Refusal) → tlfAt s q ≡ refused g → itemAt s q ≡ refused g
     passes g i = rw (m, i)
 
-    by : (x : Read TypeLengthField) → tlfAt s q ≡ x → WrongTo s e q f
+    by : (x : Read TypeLengthField) → tlfAt s q ≡ x → WrongItemTo s q f
     by (got t n) i = typed t n i (isList (t .ty)) refl
     by (refused g) i =
         let same : g ≡ f = refusal-same {A = Item} (sym (passes g i) ∙ h) in
         let j : tlfAt s q ≡ refused f = i ∙ ap (λ (r : Refusal). refused r) same in
-        head-wrong s e q f m j (length-refusals s q f j)
+        head-wrong s q f m j (length-refusals s q f j)
 
-pub wrong-item : (s : List ℕ) (e q : ℕ) (f : Refusal) → WrongItem s e q f → WrongTo s e q f
-wrong-item s e q f (refusedItem g h) = item-refused s e q g (isEndMark s q) refl h
+pub wrong-read : (s : List ℕ) (q : ℕ) (f : Refusal) → itemAt s q ≡ refused f → WrongItemTo s q f
+wrong-read s q f h = item-refused s q f (isEndMark s q) refl h
+
+pub wrong-item : (s : List ℕ) (e q : ℕ) (f : Refusal) → LostItem s e q f → WrongTo s e q f
+wrong-item s e q f (refusedItem g h) = let w = wrong-read s q g h in record { judged = w .judged; wrong = byItself g (w .judged) (w .wrong) }
 wrong-item s e q f (deepItem k n z h) = by (listItem k) (ok-at (sym h) (item-is s q)) refl
   where
     by : (i : Item) → ItemIs s q n i → i ≡ listItem k → WrongTo s e q (tooDeep q)
@@ -155,9 +162,13 @@ list-told : (s : List ℕ) (q : ℕ) (t : TypeLengthField) (n : ℕ) → tlfAt s
 unfolding itemAt then
 list-told s q t n h l = rw (no-mark s q h, h, l)
 
--- and back: what is wrong with an element is wrong with its item
-pub item-wrong : (s : List ℕ) (e q : ℕ) (f : Refusal) (n : ℕ) → WrongElement s e q f n → WrongItem s e q f
-item-wrong s e q f n (cutHead h) = refusedItem _ (head-told s q _ (unmarked s q (eof (length s)) (λ (k : _≡_ {A = ℕ} 11 10). omega (arith, k)) h) h)
-item-wrong s e q f n (cutContent t m h l c) = refusedItem _ (content-told s q t m h l c)
-item-wrong s e q f n (wrongHead kind k h z) = refusedItem _ (head-told s q _ (no-zero-unmarked s q z) h)
+-- and back
+pub item-lost : (s : List ℕ) (q : ℕ) (f : Refusal) (n : ℕ) → WrongItem s q f n → itemAt s q ≡ refused f
+item-lost s q f n (cutHead h) = head-told s q _ (unmarked s q (eof (length s)) (λ (k : _≡_ {A = ℕ} 11 10). omega (arith, k)) h) h
+item-lost s q f n (cutContent t m h l c) = content-told s q t m h l c
+item-lost s q f n (wrongHead kind k h z) = head-told s q _ (no-zero-unmarked s q z) h
+
+-- what is wrong with an element is wrong with its item, or it is a list too deep
+pub item-wrong : (s : List ℕ) (e q : ℕ) (f : Refusal) (n : ℕ) → WrongElement s e q f n → LostItem s e q f
+item-wrong s e q f n (byItself g k w) = refusedItem _ (item-lost s q g k w)
 item-wrong s e q f n (sixteenOpen t m z h l) = deepItem (t .len) m z (list-told s q t m h l)

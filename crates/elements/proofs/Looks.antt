@@ -23,10 +23,10 @@ use Rattle.places.proofs.Before.{same-less, same-byte, same-long, same-whole, s
 use Rattle.places.proofs.Seen.{Seen, seen-weak, seen-then}
 use Rattle.places.proofs.Lengths.{HeadWrong, noHead, badHead, fixed-got, fixed-refused, tlf-seen}
 use Rattle.places.proofs.Grows.{bytes-seen}
-use Rattle.elements.specs.Walkers.{WrongElement, cutHead, cutContent, wrongHead, sixteenOpen}
+use Rattle.elements.specs.Walkers.{cutHead, cutContent, wrongHead, WrongElement, byItself, sixteenOpen}
 use Rattle.elements.proofs.Items.{no-zero, span-cut, ItemIs, markThere, leafThere, listThere, item-is}
 
--- what is known of a refusal of the element at p: which element is wrong, and how far it was judged
+-- what is known of a refusal of the element at p: what is wrong at some place, if a list is too deep there, and how far it was judged
 pub record JudgedTo (s : List ℕ) (p : ℕ) (f : Refusal) (q : ℕ) : Type 0 where
   pub depth : ℕ
   pub place : ℕ
@@ -45,8 +45,8 @@ seen-told {A} {P} {read} {s} {at} h = by (read s) refl h
 -- ---- an item
 
 head-judged : (s : List ℕ) (p : ℕ) (f : Refusal) (q : ℕ) → p ≤ length s → isEndMark s p ≡ false → HeadWrong s p f q → tlfAt s p ≡ refused f → JudgedTo s p f q
-head-judged s p f q h m noHead e = record { depth = zero; place = p; wrong = cutHead e; begun = h; before = omega arith }
-head-judged s p f q h m (badHead kind k lt l) e = record { depth = zero; place = p; wrong = wrongHead kind k e (no-zero s p lt m); begun = omega arith; before = l }
+head-judged s p f q h m noHead e = record { depth = zero; place = p; wrong = byItself _ _ (cutHead e); begun = h; before = omega arith }
+head-judged s p f q h m (badHead kind k lt l) e = record { depth = zero; place = p; wrong = byItself _ _ (wrongHead kind k e (no-zero s p lt m)); begun = omega arith; before = l }
 
 -- the n bytes at a place, within the input
 SpanOver : List ℕ → Refusal → ℕ → Type 0
@@ -64,7 +64,7 @@ content-judged : (s : List ℕ) (p : ℕ) (t : TypeLengthField) (n : ℕ) (f : R
 unfolding SpanOver
 content-judged s p t n f q e l o x =
     let a : Ahead s p n = ok-at (sym e) (tlf-ok s p) in
-    rw (o .0, o .1) (record { depth = zero; place = p; wrong = cutContent t n e l (span-cut s n (t .len) f (a .within) x .1); begun = omega (arith, a .ahead, a .within); before = omega arith })
+    rw (o .0, o .1) (record { depth = zero; place = p; wrong = byItself _ _ (cutContent t n e l (span-cut s n (t .len) f (a .within) x .1)); begun = omega (arith, a .ahead, a .within); before = omega arith })
 
 -- what follows length bytes
 abbrev behindHead : TypeLengthField → ℕ → Bool → List ℕ → Read Item

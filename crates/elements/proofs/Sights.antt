@@ -32,7 +32,7 @@ sees-one : (I : ItemReader) (many : ℕ) (s : List ℕ) (k : ℕ) (wants : List 
 unfolding seesBy seeStep
 sees-one I many s k wants at n i e = rw e
 
-head-some : (t : TypeLengthField) (b : List ℕ) → HeadBytes t b → 0 < length b
+pub head-some : (t : TypeLengthField) (b : List ℕ) → HeadBytes t b → 0 < length b
 head-some t b h = let a : Ahead b 0 (length b) = ok-at (sym (h .is)) (tlf-ok b 0) in omega (arith, a .ahead)
 
 -- no more is seen than there are bytes

@@ -1,12 +1,15 @@
 -- What the claims rule out: each walk and each reader of items of docs/WRONG-READINGS.md that is told here is wrong in one way, and a claim is false of it.
-use Rattle.elements.specs.Walkers.{MeasuresExactly, RefusesExactly, JudgesPlaces, EndsWithMessages}
+use Rattle.elements.specs.Walkers.{MeasuresExactly, RefusesExactly, NineFirst, EndsWithMessages}
 use Rattle.elements.specs.ItemReaders.{ReadsItems}
 use Rattle.elements.specs.Sights.{SeesElements}
-use Rattle.elements.specs.Fakes.{endMarkIsNoLeaf, listIsALeaf, noneIsALeaf, emptyIsNoLeaf, endMarkIsOne, twoBytesMark, noMarkAlone, seventeenOpen, fifteenOpen, deepBehindItsLength, noneNeverDeep, leavesTooDeep, deepBeforeItsLength, depthNotGivenBack, listOneShort, leafWithoutContent, oneTakenOff, firstElementAgain, contentIsJudged, behindOnly, restRefused, placesFromElement, namesTheElement, limitOneMore, limitOfElement, beyondIsBad, walkRefusesAll, contentWithItsLength, listsPassedOver, markIsAString}
+use Rattle.elements.specs.Fakes.{endMarkIsNoLeaf, markClosesItsList, listIsALeaf, noneIsALeaf, emptyIsNoLeaf, endMarkIsOne, twoBytesMark, noMarkAlone, seventeenOpen, fifteenOpen, deepBehindItsLength, noneNeverDeep, leavesTooDeep, deepBeforeItsLength, deepBehindItsElements, depthNotGivenBack, listOneShort, leafWithoutContent, oneTakenOff, firstElementAgain, leavesOfTheLast, contentIsJudged, behindOnly, restRefused, placesFromElement, namesTheElement, limitOneMore, anyLength, beyondIsBad, noneAtTheEnd, walkRefusesAll, contentWithItsLength, listsPassedOver, contentLeft, markIsAString}
 use Rattle.elements.proofs.Fakes.{fall-walkers}
 
 fake-end-mark-is-no-leaf : MeasuresExactly endMarkIsNoLeaf → ⊥
 fake-end-mark-is-no-leaf = fall-walkers .mark-no-leaf
+
+fake-end-mark-closes-its-list : MeasuresExactly markClosesItsList → ⊥
+fake-end-mark-closes-its-list = fall-walkers .closes-its-list
 
 fake-list-counted-as-a-leaf : MeasuresExactly listIsALeaf → ⊥
 fake-list-counted-as-a-leaf = fall-walkers .list-a-leaf
@@ -44,6 +47,9 @@ fake-leaf-may-be-too-deep = fall-walkers .leaves-deep
 fake-too-deep-before-its-length : RefusesExactly deepBeforeItsLength → ⊥
 fake-too-deep-before-its-length = fall-walkers .deep-before
 
+fake-too-deep-behind-its-elements : RefusesExactly deepBehindItsElements → ⊥
+fake-too-deep-behind-its-elements = fall-walkers .deep-behind-elements
+
 fake-depth-not-given-back : MeasuresExactly depthNotGivenBack → ⊥
 fake-depth-not-given-back = fall-walkers .not-given-back
 
@@ -58,6 +64,9 @@ fake-walk-takes-one-length-byte-off = fall-walkers .one-off
 
 fake-list-reads-its-first-element-again : MeasuresExactly firstElementAgain → ⊥
 fake-list-reads-its-first-element-again = fall-walkers .again
+
+fake-leaves-of-the-last-element : MeasuresExactly leavesOfTheLast → ⊥
+fake-leaves-of-the-last-element = fall-walkers .of-the-last
 
 fake-content-is-judged : MeasuresExactly contentIsJudged → ⊥
 fake-content-is-judged = fall-walkers .judged-content
@@ -74,14 +83,17 @@ fake-walk-places-from-the-element = fall-walkers .from-the-element
 fake-walk-names-the-outermost-element : RefusesExactly namesTheElement → ⊥
 fake-walk-names-the-outermost-element = fall-walkers .the-element
 
-fake-walk-one-byte-too-long : JudgesPlaces limitOneMore → ⊥
+fake-walk-one-byte-too-long : NineFirst limitOneMore → ⊥
 fake-walk-one-byte-too-long = fall-walkers .one-more
 
-fake-limit-of-the-element-alone : JudgesPlaces limitOfElement → ⊥
-fake-limit-of-the-element-alone = fall-walkers .of-the-element
+fake-walk-of-any-length : NineFirst anyLength → ⊥
+fake-walk-of-any-length = fall-walkers .any-length
 
-fake-walk-beyond-is-a-bad-state : JudgesPlaces beyondIsBad → ⊥
+fake-walk-beyond-is-a-bad-state : RefusesExactly beyondIsBad → ⊥
 fake-walk-beyond-is-a-bad-state = fall-walkers .beyond-bad
+
+fake-walk-takes-nothing-at-the-end : RefusesExactly noneAtTheEnd → ⊥
+fake-walk-takes-nothing-at-the-end = fall-walkers .none-at-the-end
 
 fake-walk-refuses-everything : EndsWithMessages walkRefusesAll → ⊥
 fake-walk-refuses-everything = fall-walkers .all-refused
@@ -91,6 +103,9 @@ fake-content-with-its-length-bytes = fall-walkers .with-its-length
 
 fake-item-next-is-behind-the-list : ReadsItems listsPassedOver → ⊥
 fake-item-next-is-behind-the-list = fall-walkers .passed-over
+
+fake-content-that-is-cut-is-the-content : ReadsItems contentLeft → ⊥
+fake-content-that-is-cut-is-the-content = fall-walkers .content-left
 
 fake-end-mark-is-an-empty-string : ReadsItems markIsAString → ⊥
 fake-end-mark-is-an-empty-string = fall-walkers .a-string

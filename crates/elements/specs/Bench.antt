@@ -4,7 +4,7 @@ use mathlib.Core.List.{List, [], _∷_, _++_}
 use Prim.Native.Nat.{ℕ}
 use lib.ListN.{replicate}
 use Rattle.refusals.specs.Read.{eof}
-use Rattle.refusals.specs.Answers.{underflow, reserved}
+use Rattle.refusals.specs.Answers.{underflow, nextType}
 use Rattle.walk.specs.Walk.{tooDeep, walkIs, walkBroken}
 use Rattle.elements.specs.Walkers.{Walker}
 
@@ -29,7 +29,7 @@ pub record WalkBench (W : Walker) : Type 0 where
   pub sixteen : W (inSixteen (0x01 ∷ [])) 0 ≡ walkIs 17 1
   pub seventeenth : W (inSixteen (0x70 ∷ [])) 0 ≡ walkBroken (tooDeep 16)
   pub its-length-first : W (inSixteen (0xf1 ∷ [])) 0 ≡ walkBroken (eof 17)
-  pub its-kind-first : W (inSixteen (0xc1 ∷ [])) 0 ≡ walkBroken (reserved 16)
+  pub its-bytes-first : W (inSixteen (0xf1 ∷ 0x10 ∷ [])) 0 ≡ walkBroken (nextType 16)
   -- sixteen lists side by side are not deep
   pub beside : W (0xf1 ∷ 0x00 ∷ replicate 16 0x70) 0 ≡ walkIs 18 0
   -- a public key: 48 bytes behind the two bytes that say so

@@ -9,7 +9,7 @@ use Rattle.tlf.specs.Lengths.{isList}
 use Rattle.tlf.specs.declared.TypeLengthField.{TypeLengthField}
 use Rattle.walk.specs.Walk.{Item, endMark, leaf, listItem, itemAt}
 use Rattle.elements.specs.Grammar.{HeadBytes}
-use Rattle.elements.specs.Walkers.{WrongElement}
+use Rattle.elements.specs.Walkers.{WrongItem}
 
 -- of an input and a place: what begins there, and the next place
 abbrev pub ItemReader : Type 0
@@ -26,12 +26,12 @@ pub data ItemStands (s : List ℕ) (p : ℕ) : Item → ℕ → Type 0 where
       → ItemStands s p (leaf (t .ty) (record { start = p + length head; len = t .len })) (p + length head + t .len)
   listStands : (t : TypeLengthField) (head rest : List ℕ) → drop p s ≡ head ++ rest → HeadBytes t head → isList (t .ty) ≡ true → ItemStands s p (listItem (t .len)) (p + length head)
 
--- what is wrong with an item, how far it was judged
+-- it is wrong, and was judged so far
 pub record ItemBroken (s : List ℕ) (p : ℕ) (f : Refusal) : Type 0 where
   pub judged-to : ℕ
-  pub wrong : WrongElement s 1 p f judged-to
+  pub wrong : WrongItem s p f judged-to
 
--- read exactly if it stands there, and refused exactly if it is wrong, wherever lists may open; a place beyond the input is 10 too
+-- read exactly if it stands there, and refused exactly if it is wrong; how deep lists are open doesn't matter
 pub record ReadsItems (I : ItemReader) : Type 0 where
   pub if : (s : List ℕ) (p : ℕ) (i : Item) (n : ℕ) → p ≤ length s → ItemStands s p i n → I s p ≡ got i n
   pub only-if : (s : List ℕ) (p : ℕ) (i : Item) (n : ℕ) → p ≤ length s → I s p ≡ got i n → ItemStands s p i n

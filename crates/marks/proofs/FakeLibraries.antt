@@ -264,7 +264,7 @@ walk-place-lost h = let n : _≡_ {A = ℕ} 0 1 = ap placeWalked (h .walks (0x00
 
 walk-bytes-left : HearsWalk walkBytesLeft → ⊥
 unfolding then guard need byteAt spanAt tlfAt lengthFrom lessOwn isEndMark itemAt takeItem walkStep pass walkAt sghWalk
-walk-bytes-left h = let n : _≡_ {A = ℕ} 1 0 = ap (λ (l : List ℕ). wordAt l 0) (h .words (0x10 ∷ []) 0) in omega (arith, n)
+walk-bytes-left h = let n : _≡_ {A = ℕ} 1 0 = ap (λ (r : Reply). wordAt (lentAt r 0) 0) (h .words (0x10 ∷ []) 0) in omega (arith, n)
 
 typeRead : Read Item → ℕ
 typeRead (got endMark n) = 100

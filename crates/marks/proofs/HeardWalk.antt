@@ -16,25 +16,27 @@ use Rattle.tlf.specs.declared.Ty.{Ty}
 use Rattle.tlf.specs.declared.Ty.the-variants.{OctetString, Boolean, Integer, Unsigned, ListOf}
 use Rattle.walk.specs.Walk.{Item, itemAt, WalkSaid, walkIs, walkBroken, walkRefused, deepest, walkAt}
 use Rattle.walk.specs.Cut.{elementAt}
-use Rattle.whole.specs.Whole.{Fair}
-use Rattle.elements.specs.Walkers.{Walker, ourWalker, WrongElement, cutHead, cutContent, wrongHead, sixteenOpen, GoodWalker, LooksNoFurther, EndsWithMessages}
+use Rattle.elements.specs.Walkers.{Walker, ourWalker, WrongItem, cutHead, cutContent, wrongHead, WrongElement, byItself, sixteenOpen, GoodWalker, LooksNoFurther, EndsWithMessages}
 use Rattle.elements.specs.ItemReaders.{ItemReader, ourItemReader}
 use Rattle.elements.specs.Sights.{Sight, seeItem, seeStep, seesBy, SeesIn}
 use Rattle.elements.proofs.Walkers.{walk-short, never-by-number, our-walker, never-looks-further, always-ends-with-messages}
 use Rattle.elements.proofs.Items.{ItemIs, markThere, leafThere, listThere, item-is}
 use Rattle.elements.proofs.ItemReaders.{our-items}
 use Rattle.elements.proofs.Sights.{always-sees-elements}
-use Rattle.sartrogheo.specs.Calls.{goodNo}
+use Rattle.sartrogheo.specs.Calls.{goodNo, Reply, reply}
 use Rattle.sartrogheo.specs.Walks.{itemNo, itemWords, sghReadItem, walkNo, walkWords, sghWalk}
-use Rattle.marks.specs.Library.{Library, ourLibrary, lentAt, walkHeard, walkerBy, tyHeard, itemHeard, itemReaderBy, HearsWalk}
+use Rattle.marks.specs.Library.{Library, ourLibrary, walkHeard, walkerBy, tyHeard, itemHeard, itemReaderBy, HearsWalk}
 
 -- ---- a walk
 
 -- what is wrong with an element is 10, 11 or 19
+lost-number : {s : List ℕ} {p : ℕ} {f : Refusal} {q : ℕ} → WrongItem s p f q → (10 ≤ f .number) × (f .number ≤ 19)
+lost-number (cutHead e) = (omega arith, omega arith)
+lost-number (cutContent t n e l k) = (omega arith, omega arith)
+lost-number (wrongHead kind q e n) = (omega arith, omega arith)
+
 wrong-number : {s : List ℕ} {d p : ℕ} {f : Refusal} {q : ℕ} → WrongElement s d p f q → (10 ≤ f .number) × (f .number ≤ 19)
-wrong-number (cutHead e) = (omega arith, omega arith)
-wrong-number (cutContent t n e l k) = (omega arith, omega arith)
-wrong-number (wrongHead kind q e n) = (omega arith, omega arith)
+wrong-number (byItself f q w) = lost-number w
 wrong-number (sixteenOpen t n z e l) = (omega arith, omega arith)
 
 abbrev WalkSayable : WalkSaid → Type 0
@@ -47,29 +49,28 @@ walk-heard (walkIs bytes leaves) h = refl
 walk-heard (walkBroken f) h = rw (ne-eqb (f .number) 0 (λ e. omega (arith, h, e)), ne-eqb (f .number) 9 (λ e. omega (arith, h, e)))
 walk-heard (walkRefused n) h = rw h
 
-never-nine : (s : List ℕ) (at n : ℕ) → Fair s at → walkAt s at ≡ walkRefused n → ⊥
-never-nine s at n h e = never-by-number (elementAt deepest s at) at n (sym (walk-short s at (h .short)) ∙ e)
+never-nine : (s : List ℕ) (at n : ℕ) → length s ≤ limit → walkAt s at ≡ walkRefused n → ⊥
+never-nine s at n h e = never-by-number (elementAt deepest s at) at n (sym (walk-short s at h) ∙ e)
 
 walk-sayable : (s : List ℕ) (at : ℕ) → WalkSayable (walkAt s at)
-walk-sayable s at = by (leb (length s) limit) refl (leb at (length s)) refl
+walk-sayable s at = by (leb (length s) limit) refl
   where
-    fair : Fair s at → (x : WalkSaid) → walkAt s at ≡ x → WalkSayable x
-    fair h (walkIs bytes leaves) e = tt
-    fair h (walkBroken f) e = wrong-number (our-walker .refuses .only-if s at f h e .wrong)
-    fair h (walkRefused n) e = absurd (never-nine s at n h e)
+    short : length s ≤ limit → (x : WalkSaid) → walkAt s at ≡ x → WalkSayable x
+    short h (walkIs bytes leaves) e = tt
+    short h (walkBroken f) e = wrong-number (our-walker .refuses .only-if s at f h e .wrong)
+    short h (walkRefused n) e = absurd (never-nine s at n h e)
 
-    by : (b : Bool) → leb (length s) limit ≡ b → (c : Bool) → leb at (length s) ≡ c → WalkSayable (walkAt s at)
-    by true e true k = fair (record { short = leb-true (length s) limit e; inside = leb-true at (length s) k }) (walkAt s at) refl
-    by true e false k = rw (our-walker .judges .beyond s at (leb-true (length s) limit e) (leb-false at (length s) k)) (omega arith, omega arith)
-    by false e c k = rw (our-walker .judges .long s at (leb-false (length s) limit e)) refl
+    by : (b : Bool) → leb (length s) limit ≡ b → WalkSayable (walkAt s at)
+    by true e = short (leb-true (length s) limit e) (walkAt s at) refl
+    by false e = rw (our-walker .nine s at (leb-false (length s) limit e)) refl
 
 walks-heard : (s : List ℕ) (at : ℕ) → walkerBy ourLibrary s at ≡ walkAt s at
 unfolding sghWalk
 walks-heard s at = walk-heard (walkAt s at) (walk-sayable s at)
 
-walk-words : (s : List ℕ) (at : ℕ) → lentAt (sghWalk s at) 0 ≡ walkWords (walkerBy ourLibrary s at)
+walk-words : (s : List ℕ) (at : ℕ) → sghWalk s at ≡ reply (sghWalk s at .number) (walkWords (walkerBy ourLibrary s at) ∷ [])
 unfolding sghWalk
-walk-words s at = ap walkWords (sym (walks-heard s at))
+walk-words s at = ap (λ (l : List ℕ). reply (walkNo (walkAt s at)) (l ∷ [])) (ap walkWords (sym (walks-heard s at)))
 
 -- ---- an item
 
@@ -88,7 +89,7 @@ item-got s p n i (listThere t e l) = refl
 item-heard : (s : List ℕ) (p : ℕ) (x : Read Item) → itemAt s p ≡ x → itemHeard (itemNo x) (itemWords x) ≡ x
 item-heard s p (got i n) e = item-got s p n i (ok-at (sym e) (item-is s p))
 item-heard s p (refused f) e =
-    let h = wrong-number (our-items .only-refuses s p f e .wrong) in
+    let h = lost-number (our-items .only-refuses s p f e .wrong) in
     rw (ne-eqb (f .number) 0 (λ k. omega (arith, h, k)))
 
 items-heard : (s : List ℕ) (at : ℕ) → length s ≤ limit → itemReaderBy ourLibrary s at ≡ itemAt s at
@@ -99,20 +100,23 @@ item-long : (s : List ℕ) (at : ℕ) → limit < length s → itemReaderBy ourL
 unfolding sghReadItem
 item-long s at h = rw (lt-ltb limit (length s) h)
 
-short-words : (s : List ℕ) (at : ℕ) → length s ≤ limit → lentAt (sghReadItem s at) 0 ≡ itemWords (itemAt s at)
+short-words : (s : List ℕ) (at : ℕ) → length s ≤ limit → sghReadItem s at ≡ reply (sghReadItem s at .number) (itemWords (itemAt s at) ∷ [])
 unfolding sghReadItem
 short-words s at h = rw (le-ltb limit (length s) h)
 
-long-words : (s : List ℕ) (at : ℕ) → limit < length s → lentAt (sghReadItem s at) 0 ≡ itemWords (refused (record { number = inputTooLongNo; kind = 0; place = 0 }))
+long-words : (s : List ℕ) (at : ℕ) → limit < length s → sghReadItem s at ≡ reply (sghReadItem s at .number) (itemWords (refused (record { number = inputTooLongNo; kind = 0; place = 0 })) ∷ [])
 unfolding sghReadItem
 long-words s at h = rw (lt-ltb limit (length s) h)
 
-item-words : (s : List ℕ) (at : ℕ) → lentAt (sghReadItem s at) 0 ≡ itemWords (itemReaderBy ourLibrary s at)
+item-words : (s : List ℕ) (at : ℕ) → sghReadItem s at ≡ reply (sghReadItem s at .number) (itemWords (itemReaderBy ourLibrary s at) ∷ [])
 item-words s at = by (leb (length s) limit) refl
   where
-    by : (b : Bool) → leb (length s) limit ≡ b → lentAt (sghReadItem s at) 0 ≡ itemWords (itemReaderBy ourLibrary s at)
-    by true e = let h = leb-true (length s) limit e in short-words s at h ∙ ap itemWords (sym (items-heard s at h))
-    by false e = let h = leb-false (length s) limit e in long-words s at h ∙ ap itemWords (sym (item-long s at h))
+    told : Read Item → Reply
+    told x = reply (sghReadItem s at .number) (itemWords x ∷ [])
+
+    by : (b : Bool) → leb (length s) limit ≡ b → sghReadItem s at ≡ told (itemReaderBy ourLibrary s at)
+    by true e = let h = leb-true (length s) limit e in short-words s at h ∙ ap told (sym (items-heard s at h))
+    by false e = let h = leb-false (length s) limit e in long-words s at h ∙ ap told (sym (item-long s at h))
 
 pub hears-walk : HearsWalk ourLibrary
 hears-walk = record { walks = walks-heard; words = walk-words; items = items-heard; long = item-long; item-words = item-words }

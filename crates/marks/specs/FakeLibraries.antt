@@ -220,7 +220,7 @@ onlyWordsBy f r = reply (r .number) (f (lentAt r 0) ∷ [])
 abbrev pub walkPlaceLost : Library
 walkPlaceLost = withContent sghReadItem (λ s at. onlyWordsBy (λ w. set w 4 0) (sghWalk s at))
 
--- behind a refusal the bytes that were left are told
+-- behind a refusal the bytes that were lent are told
 abbrev pub walkBytesLeft : Library
 walkBytesLeft = withContent sghReadItem (λ s at. onlyWordsBy (λ w. cond (eqb (wordAt w 2) 0) w (set w 0 (length s))) (sghWalk s at))
 

@@ -430,13 +430,13 @@ itemHeard number w = cond (eqb number goodNo) (got (itemIn w) (wordAt w 5)) (ref
 abbrev pub itemReaderBy : Library → ItemReader
 itemReaderBy L s at = let r : Reply = L .readItem s at in itemHeard (r .number) (lentAt r 0)
 
--- of any input and place what is heard is what ours says, and all words are those of what is heard; of an input that is too long no item is read, and the answer is 9
+-- of any input and place what is heard is what ours says, and all that is written is the words of what is heard; of an input that is too long no item is read, and the answer is 9
 pub record HearsWalk (L : Library) : Type 0 where
   pub walks : (s : List ℕ) (at : ℕ) → walkerBy L s at ≡ ourWalker s at
-  pub words : (s : List ℕ) (at : ℕ) → lentAt (L .walksOver s at) 0 ≡ walkWords (walkerBy L s at)
+  pub words : (s : List ℕ) (at : ℕ) → let r : Reply = L .walksOver s at in r ≡ reply (r .number) (walkWords (walkerBy L s at) ∷ [])
   pub items : (s : List ℕ) (at : ℕ) → length s ≤ limit → itemReaderBy L s at ≡ ourItemReader s at
   pub long : (s : List ℕ) (at : ℕ) → limit < length s → itemReaderBy L s at ≡ refused (record { number = inputTooLongNo; kind = 0; place = 0 })
-  pub item-words : (s : List ℕ) (at : ℕ) → lentAt (L .readItem s at) 0 ≡ itemWords (itemReaderBy L s at)
+  pub item-words : (s : List ℕ) (at : ℕ) → let r : Reply = L .readItem s at in r ≡ reply (r .number) (itemWords (itemReaderBy L s at) ∷ [])
 
 pub record HearsOurs (L : Library) : Type 0 where
   pub new : HearsNew L

@@ -142,7 +142,7 @@ pub record Marks : Type 0 where
   pub index-bench : IndexBench ourIndexer
   pub lookup-bench : LookupBench ourFinder
   pub fall-indexes : FallIndexes
-  -- a walk over any content: it measures exactly the elements of the grammar, and refuses exactly where one is broken off or wrong, 9 first; what follows isn't looked at; it ends where a message that the event reader accepts does. Who does the first two does as ours, and the others follow. An item is read exactly by the grammar's pieces, and who goes from item to item sees every element once, in order. And what that is false of
+  -- a walk over any content: it measures exactly the elements of the grammar, and refuses exactly where one is broken off or wrong, 9 first. Who does that does as ours; so what follows isn't looked at, and it ends where a message that the event reader accepts does. An item is read exactly by the grammar's pieces, and who goes from item to item sees every element once, in order. And what that is false of
   pub walk : GoodWalker ourWalker
   pub only-walk : OnlyOurWalker
   pub walk-looks : NeverLooksFurther

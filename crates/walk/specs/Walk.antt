@@ -36,7 +36,7 @@ itemAt s at =
     cond (isList (t .ty)) (got (listItem (t .len)) n)
     (then (spanAt s n (t .len)) λ content m. got (leaf (t .ty) content) m))
 
--- `wants`: how many elements each open list still wants, the innermost first; the last number stands for the element itself, which no list wants.
+-- `wants`: how many elements each open list still wants, the innermost first; the last number stands for the element itself, which no list wants, so that there is one number more than lists are open.
 -- An item at `at` is taken: an end mark or a leaf is counted, a list opens, unless sixteen are open
 unfoldable pub takeItem : (List ℕ → ℕ → ℕ → Read ℕ) → List ℕ → ℕ → ℕ → Item → ℕ → Read ℕ
 takeItem on wants leaves at endMark n = on wants (leaves + 1) n
@@ -49,7 +49,7 @@ walkStep on s [] leaves at = got leaves at
 walkStep on s (zero ∷ wants) leaves at = walkStep on s wants leaves at
 walkStep on s (suc k ∷ wants) leaves at = then (itemAt s at) (takeItem on (k ∷ wants) leaves at)
 
--- at most `many` items: an item has at least a byte, so that no input has more items than bytes, and that more were wanted is never reached (`many-enough`)
+-- at most `many` items: an item has at least a byte, so that no input has more items than bytes, and with more than these the number doesn't matter (`many-enough`)
 unfoldable pub pass : ℕ → List ℕ → List ℕ → ℕ → ℕ → Read ℕ
 pass zero s wants leaves at = refused (eof (length s))
 pass (suc many) s wants leaves at = walkStep (pass many s) s wants leaves at

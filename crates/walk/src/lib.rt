@@ -13,6 +13,7 @@ use tlf::TypeLengthField;
 // So many lists may be open, the outermost counted.
 const DEEPEST: u32 = 16;
 
+// What begins at a place.
 pub enum ItemRead {
     EndMark { next: usize },
     Leaf { ty: Ty, content: Span, next: usize },
@@ -20,6 +21,7 @@ pub enum ItemRead {
     Refused(Fault),
 }
 
+// What the walk answers.
 pub enum Walked {
     Is { bytes: usize, leaves: usize },
     Refused(Fault),
@@ -27,6 +29,7 @@ pub enum Walked {
     InputTooLong,
 }
 
+// What both halves of it answer: a place in place of bytes, and no 9, which is judged before them.
 enum Reached {
     Is { leaves: usize, next: usize },
     Refused(Fault),
