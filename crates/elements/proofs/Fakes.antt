@@ -18,7 +18,7 @@ use Rattle.whole.specs.Whole.{Fair, AfterWhole}
 use Rattle.one_call.specs.Bench.{openInput}
 use Rattle.one_call.proofs.Bench.{whole-bench}
 use Rattle.one_call.proofs.Readers.{ours-good}
-use Rattle.elements.specs.Walkers.{Walker, MeasuresExactly, RefusesExactly, NineFirst, EndsWithMessages}
+use Rattle.elements.specs.Walkers.{Walker, MeasuresExactly, RefusesExactly, NineFirst, LooksNoFurther, EndsWithMessages}
 use Rattle.elements.specs.ItemReaders.{ItemReader, ReadsItems}
 use Rattle.elements.specs.Grammar.{HeadBytes, noElement, firstLeaf}
 use Rattle.elements.specs.Sights.{Sight, sights, seeStep, seesBy, SeesElements}
@@ -181,6 +181,14 @@ falls-rest-refused : MeasuresExactly restRefused → ⊥
 unfolding then guard need byteAt spanAt tlfAt lengthFrom lessOwn isEndMark itemAt takeItem walkStep pass walkAt stepBy passBy
 falls-rest-refused = measures-falls restRefused (0x00 ∷ 0xff ∷ []) 0 1 1 (omega arith) refl (λ e. let z : _≡_ {A = ℕ} 1 0 = ap walkKind e in omega (arith, z))
 
+-- 00 is measured, and with a byte behind it refused
+falls-rest-looked-at : LooksNoFurther restRefused → ⊥
+unfolding then guard need byteAt spanAt tlfAt lengthFrom lessOwn isEndMark itemAt takeItem walkStep pass walkAt
+falls-rest-looked-at h =
+    let m = h .found (0x00 ∷ []) 0 1 1 (record { short = omega arith; inside = omega arith }) refl in
+    let z : _≡_ {A = ℕ} 1 0 = ap walkKind (m .looks .alike (0x00 ∷ 0xff ∷ []) (omega arith) (record { bytes = refl })) in
+    omega (arith, z)
+
 falls-from-the-element : RefusesExactly placesFromElement → ⊥
 unfolding then guard need byteAt spanAt tlfAt lengthFrom lessOwn isEndMark itemAt takeItem walkStep pass walkAt stepBy passBy
 falls-from-the-element = refuses-falls placesFromElement (0x00 ∷ 0x10 ∷ []) 1 (invalidTy 1) (omega arith) refl (λ e. let z : _≡_ {A = ℕ} 0 1 = ap secondNo e in omega (arith, z))
@@ -307,6 +315,7 @@ fall-walkers =
       judged-content = falls-judged-content;
       place-for-bytes = falls-place-for-bytes;
       rest-refused = falls-rest-refused;
+      rest-looked-at = falls-rest-looked-at;
       from-the-element = falls-from-the-element;
       the-element = falls-the-element;
       one-more = falls-one-more;

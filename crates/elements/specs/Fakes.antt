@@ -13,7 +13,7 @@ use Rattle.tlf.specs.Lengths.{tlfAt, typeBits, isList, isBoolean}
 use Rattle.tlf.specs.declared.Ty.the-variants.{OctetString}
 use Rattle.walk.specs.Walk.{tooDeep, deepest, isEndMark, Item, endMark, leaf, listItem, itemAt, WalkSaid, walkIs, walkBroken, walkRefused, measured, walkAt}
 use Rattle.walk.specs.Cut.{behindItem}
-use Rattle.elements.specs.Walkers.{Walker, MeasuresExactly, RefusesExactly, NineFirst, EndsWithMessages}
+use Rattle.elements.specs.Walkers.{Walker, MeasuresExactly, RefusesExactly, NineFirst, LooksNoFurther, EndsWithMessages}
 use Rattle.elements.specs.ItemReaders.{ItemReader, ReadsItems}
 use Rattle.elements.specs.Sights.{SeesElements}
 
@@ -398,6 +398,7 @@ pub record FallWalkers : Type 0 where
   pub judged-content : MeasuresExactly contentIsJudged → ⊥
   pub place-for-bytes : MeasuresExactly behindOnly → ⊥
   pub rest-refused : MeasuresExactly restRefused → ⊥
+  pub rest-looked-at : LooksNoFurther restRefused → ⊥
   pub from-the-element : RefusesExactly placesFromElement → ⊥
   pub the-element : RefusesExactly namesTheElement → ⊥
   pub one-more : NineFirst limitOneMore → ⊥
