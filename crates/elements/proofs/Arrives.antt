@@ -4,6 +4,7 @@ use mathlib.Core.List.{List}
 use Prim.Native.Nat.{ℕ, zero, suc, _+_, _<_}
 use native.Mathlib.Omega.{arith}
 use Rattle.refusals.specs.Read.{Read, got, refused, Refusal, then, need}
+use Rattle.refusals.proofs.Codes.{placeBehind}
 use Rattle.walk.specs.Walk.{Item, endMark, leaf, listItem, itemAt, tooDeep}
 use Rattle.walk.specs.Cut.{elementsAt, behindItem, elementBy, elementAt}
 use Rattle.elements.proofs.Items.{not-both, refusal-same, LostItem, refusedItem, deepItem}
@@ -67,14 +68,10 @@ lands (suc d) s p f h = by (itemAt s p) refl (λ m b. lands d s m f b)
 
 -- ---- and what arrives there is refused
 
-place-of : {A : Type 0} → ℕ → Read A → ℕ
-place-of d (got a n) = n
-place-of d (refused f) = d
-
 row-stops : (read : ℕ → Read ℕ) (j k sum n a m : ℕ) (f : Refusal) → elementsAt read j sum n ≡ got a m → j < k → read m ≡ refused f → elementsAt read k sum n ≡ refused f
-unfolding elementsAt then place-of
+unfolding elementsAt then
 row-stops read j zero sum n a m f h l b = absurd (omega arith)
-row-stops read zero (suc k) sum n a m f h l b = let z : n ≡ m = ap (place-of n) h in rw (z, b)
+row-stops read zero (suc k) sum n a m f h l b = let z : n ≡ m = ap placeBehind h in rw (z, b)
 row-stops read (suc j) (suc k) sum n a m f h l b = by (read n) refl (λ c i w. row-stops read j k (sum + c) i a m f w (omega arith) b)
   where
     by : (x : Read ℕ) → read n ≡ x → ((c i : ℕ) → elementsAt read j (sum + c) i ≡ got a m → elementsAt read k (sum + c) i ≡ refused f) → (then (read n) λ c i. elementsAt read k (sum + c) i) ≡ refused f

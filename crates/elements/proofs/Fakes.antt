@@ -14,6 +14,7 @@ use Rattle.tlf.specs.Lengths.{tlfAt, lengthFrom, lessOwn}
 use Rattle.walk.specs.Walk.{tooDeep, isEndMark, Item, endMark, leaf, listItem, itemAt, takeItem, walkStep, pass, WalkSaid, walkIs, walkBroken, walkRefused, measured, walkAt}
 use Rattle.tlf.specs.declared.Ty.the-variants.{OctetString}
 use Rattle.walk.specs.Cut.{behindItem}
+use Rattle.places.proofs.Seen.{isGot}
 use Rattle.whole.specs.Whole.{Fair, AfterWhole}
 use Rattle.one_call.specs.Bench.{openInput}
 use Rattle.one_call.proofs.Bench.{whole-bench}
@@ -25,7 +26,6 @@ use Rattle.elements.specs.Sights.{Sight, sights, seeStep, seesBy, SeesEl
 use Rattle.elements.specs.Bench.{inSixteen}
 use Rattle.elements.specs.Fakes.{ourRules, isListItem, takeBy, stepBy, passBy, walkBy, endMarkIsNoLeaf, listIsALeaf, noneIsALeaf, emptyIsNoLeaf, endMarkIsOne, twoBytesMark, noMarkAlone, seventeenOpen, fifteenOpen, deepBehindItsLength, noneNeverDeep, leavesTooDeep, deepBeforeItsLength, depthNotGivenBack, listOneShort, leafWithoutContent, oneTakenOff, firstElementAgain, contentIsJudged, behindOnly, restRefused, placesFromElement, namesTheElement, limitOneMore, anyLength, beyondIsBad, walkRefusesAll, contentWithItsLength, listsPassedOver, markIsAString, contentLeft, noneAtTheEnd, markClosesItsList, deepBehindItsElements, stepEver, passEver, leavesOfTheLast, elementsBy, recursedAt, FallWalkers}
 use Rattle.elements.proofs.Walkers.{walkKind, never-by-number, our-walker}
-use Rattle.elements.proofs.Items.{gotIt}
 use Rattle.elements.proofs.ItemReaders.{our-items}
 
 -- ---- ours
@@ -265,7 +265,7 @@ falls-content-left : ReadsItems contentLeft → ⊥
 unfolding then guard need byteAt spanAt tlfAt lengthFrom lessOwn isEndMark itemAt takeItem walkStep pass walkAt stepBy passBy
 falls-content-left r =
     let e = r .refuses (0x03 ∷ 0x41 ∷ []) 0 (eof 2) (our-items .only-refuses (0x03 ∷ 0x41 ∷ []) 0 (eof 2) refl) in
-    let z : _≡_ {A = ℕ} 1 0 = ap gotIt e in
+    let z : _≡_ {A = ℕ} 1 0 = ap isGot e in
     omega (arith, z)
 
 falls-a-string : ReadsItems markIsAString → ⊥

@@ -10,7 +10,7 @@ use lib.Dec.{leb}
 use borrow.Author.Tests.{leb-true, leb-false, lt-ltb}
 use Rattle.refusals.specs.Read.{Read, got, refused, then, spanAt}
 use Rattle.refusals.specs.declared.Span.{Span}
-use Rattle.refusals.proofs.Read.{Ok, ok-got, ok-any, ok-then, ok-cond, ok-at, Ahead, Inside, span-ok, span-room}
+use Rattle.refusals.proofs.Read.{Ok, ok-got, ok-any, ok-then, ok-cond, ok-both, ok-at, Ahead, Inside, span-ok, span-room}
 use Rattle.refusals.proofs.Places.{from-place}
 use Rattle.refusals.proofs.Rest.{Rest, rest-length, rest-byte, rest-place}
 use Rattle.tlf.specs.Lengths.{tlfAt, isList}
@@ -20,7 +20,7 @@ use Rattle.walk.specs.Walk.{Item, endMark, leaf, listItem, isEndMark, itemAt}
 use Rattle.walk.proofs.Items.{mark-room, mark-byte, item-ok, no-mark}
 use Rattle.elements.specs.Grammar.{HeadBytes}
 use Rattle.elements.specs.ItemReaders.{ourItemReader, ItemStands, markStands, leafStands, listStands, ReadsItems, OnlyOurItems}
-use Rattle.elements.proofs.Local.{both-ok, head-gets, read-head, partFrom, part-length}
+use Rattle.elements.proofs.Local.{head-gets, read-head, partFrom, part-length}
 use Rattle.elements.proofs.Items.{wrong-read, item-lost}
 
 -- ---- what stands there is read
@@ -102,7 +102,7 @@ item-stands s p =
     ok-cond (isEndMark s p) _ _ (λ e. ok-got _ _ (mark-stands s p e))
     (λ e. ok-then _ _ (ok-any (tlfAt s p)) (λ t n h.
     ok-cond (isList (t .ty)) _ _ (λ f. ok-got _ _ (list-stands s p n t h f))
-    (λ f. ok-then _ _ (both-ok (ok-any (spanAt s n (t .len))) (span-ok s n (t .len))) (λ x m i. ok-got _ _ (leaf-spanned s p n t x m h f (i .0) (i .1))))))
+    (λ f. ok-then _ _ (ok-both (ok-any (spanAt s n (t .len))) (span-ok s n (t .len))) (λ x m i. ok-got _ _ (leaf-spanned s p n t x m h f (i .0) (i .1))))))
 
 -- ---- ours
 

@@ -17,6 +17,7 @@ use Rattle.walk.specs.Walk.{Item, endMark, leaf, listItem, isEndMark, itemAt, t
 use Rattle.walk.proofs.Items.{mark-byte, marked-refused, no-mark}
 use Rattle.places.specs.Readers.{LengthRefusal, endOfInput, badLengthBytes}
 use Rattle.places.proofs.Lengths.{length-refusals}
+use Rattle.one_call.proofs.Outcomes.{never-both}
 use Rattle.one_call.proofs.Runs.{no-confusion}
 use Rattle.elements.specs.Walkers.{WrongItem, cutHead, cutContent, wrongHead, WrongElement, byItself, sixteenOpen}
 
@@ -43,13 +44,8 @@ listNo (listItem k) = 1
 
 -- ---- refused
 
--- whether a reading found something, and the number of its refusal
-abbrev pub gotIt : {A : Type 0} → Read A → ℕ
-gotIt (got a n) = 1
-gotIt (refused f) = 0
-
 pub not-both : {A : Type 0} {r : Read A} {a : A} {n : ℕ} {f : Refusal} → r ≡ got a n → r ≡ refused f → ⊥
-not-both e g = let z : _≡_ {A = ℕ} 1 0 = ap gotIt (sym e ∙ g) in omega (arith, z)
+not-both e g = never-both (sym e ∙ g)
 
 abbrev refusedOr : {A : Type 0} → Refusal → Read A → Refusal
 refusedOr g (got a n) = g

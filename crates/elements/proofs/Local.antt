@@ -2,33 +2,24 @@
 use mathlib.Core.Path.{_≡_, refl, sym, ap}
 use mathlib.Core.List.{List, [], _∷_, _++_}
 use mathlib.Core.Bool.{Bool, true, false, not, _&&_}
-use mathlib.Core.Option.{Option, some, none}
+use mathlib.Core.Option.{some}
 use Prim.Native.Nat.{ℕ, suc, _+_, _-_, _≤_, _<_}
 use native.Mathlib.Omega.{arith}
 use lib.ListN.{length, getD, take, drop, length-drop}
 use lib.Seq.{take-append-seam, take-length, take-take, length-take-le}
 use lib.Dec.{leb, eqb}
 use borrow.Author.Tests.{lt-ltb}
-use Rattle.refusals.specs.Read.{Read, got, refused, Refusal, then, guard, need, byteAt}
+use Rattle.refusals.specs.Read.{got, then, guard, need, byteAt}
 use Rattle.tlf.specs.Lengths.{moreFollow, typeBits, lengthBits, tyOf, longer, longest, isList, isBoolean, lengthFrom, lessOwn, tlfAt}
 use Rattle.tlf.specs.declared.Ty.{Ty}
 use Rattle.tlf.specs.declared.TypeLengthField.{TypeLengthField}
-use Rattle.refusals.proofs.Read.{Ok, ok-got, ok-then, ok-guard, ok-cond, ok-weak, ok-at, Ahead, byte-ok}
+use Rattle.refusals.proofs.Read.{Ok, ok-got, ok-then, ok-guard, ok-cond, ok-some, ok-both, ok-weak, ok-at, Ahead, byte-ok}
 use Rattle.refusals.proofs.Places.{from-place}
 use Rattle.tlf.proofs.Lengths.{length-stop, length-ok, tlf-ok}
 use Rattle.refusals.proofs.Rest.{Rest, Gets, rest-length, rest-byte, rest-next, rest-skip, gets-got}
 use Rattle.elements.specs.Grammar.{HeadBytes}
 
-pub both-ok : {A : Type 0} {P Q : A → ℕ → Type 0} {r : Read A} → Ok P r → Ok Q r → Ok (λ a n. P a n × Q a n) r
-both-ok {r = got a n} h k = record { holds = (h .holds, k .holds) }
-both-ok {r = refused f} h k = record { holds = tt }
-
-ok-some : {A B : Type 0} {P : B → ℕ → Type 0} (m : Option A) (f : Refusal) (k : A → Read B) → ((a : A) → m ≡ some a → Ok P (k a)) → Ok P (need m f k)
-unfolding need
-ok-some (some a) f k h = h a refl
-ok-some none f k h = record { holds = tt }
-
--- what starts-with with b
+-- what begins with b
 record StartsWith (m b : ℕ) (bs ys : List ℕ) : Type 0 where
   tail : List ℕ
   is : ys ≡ b ∷ tail
@@ -66,7 +57,7 @@ len-same end start [] i more len = ok-cond more _ _ (λ e. record { holds = tt }
 len-same end start (b ∷ bs) i more len =
     ok-cond more _ _
     (λ e. ok-guard _ _ _ (λ g. ok-guard _ _ _ (λ o.
-    ok-weak (λ v n h. went-on b bs i more len v n e g o (h .1 .0) (h .0)) (both-ok (len-same end start bs (i + 1) (moreFollow b) (longer len b)) (length-ok end start bs (i + 1) (moreFollow b) (longer len b))))))
+    ok-weak (λ v n h. went-on b bs i more len v n e g o (h .1 .0) (h .0)) (ok-both (len-same end start bs (i + 1) (moreFollow b) (longer len b)) (length-ok end start bs (i + 1) (moreFollow b) (longer len b))))))
     (λ e. ok-got _ _ (length-stopped (b ∷ bs) i more len e))
 
 own-same : (ty : Ty) (own len start next : ℕ) → Ok (λ t n. (n ≡ next) × ((p q : ℕ) → lessOwn ty own len p q ≡ got t q)) (lessOwn ty own len start next)
@@ -104,7 +95,7 @@ unfolding tlfAt
 tlf-same s p =
     ok-then _ _ (byte-ok s p) (λ b next h. ok-some _ _ _ (λ ty e. ok-guard _ _ _ (λ g.
     let a = h .2 in
-    ok-then _ _ (both-ok (len-same (length s) p (drop next s) next (moreFollow b) (lengthBits b)) (length-ok (length s) p (drop next s) next (moreFollow b) (lengthBits b))) (λ len end k.
+    ok-then _ _ (ok-both (len-same (length s) p (drop next s) next (moreFollow b) (lengthBits b)) (length-ok (length s) p (drop next s) next (moreFollow b) (lengthBits b))) (λ len end k.
     ok-weak (λ t n o. rw (o .0) (same-by s p b next end len ty t (omega (arith, a .ahead, a .within)) (h .0) (h .1) (k .1 .0) e g (k .0) (o .1))) (own-same ty (end - p) len p end)))))
 
 -- length bytes, wherever they stand

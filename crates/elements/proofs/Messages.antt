@@ -47,7 +47,7 @@ start-walks d s at =
     ok-then _ _ (ok-any (tlfAt s n₄)) (λ t n₅ e. ok-guard _ _ _ (λ g.
     ok-got _ _ (λ m₁ m₂ m₃ r x y. h (inList d) m₃ (anotherEnds w₁ (anotherEnds w₂ (anotherEnds w₃ (anotherEnds w₄ (anotherEnds (list-of e g r) (anotherEnds x (anotherEnds y noneEnds)))))))))))))))
 
--- behindItem a body, or a list's head in it, the content that follows makes an element of depth D that began at `start`
+-- behind a body, or a list's head in it, the content that follows makes an element of depth D that began at `start`
 pub record OpensElement (d D : ℕ) (s : List ℕ) (start at : ℕ) (b : Body Span) : Type 0 where
   pub whole : Ok (λ c n. EndsHere D s start n) (contentOf b s at)
 

@@ -43,7 +43,7 @@ list-of {d} {s} {at} e f r =
     let (l, w) = run-row r 0 in
     record { leaves = l; walks = rw (element-is (suc d) s at, no-mark s at e, e, f) w }
 
--- behind the head of a list of k, that wait for its elements
+-- behind the head of a list of k: its elements make it whole
 abbrev pub Heads : ℕ → List ℕ → ℕ → ℕ → Type 0
 Heads k s at n = (d m : ℕ) → SeveralEnd d s k n m → EndsHere (suc d) s at m
 

@@ -11,6 +11,7 @@ use borrow.Author.Tests.{lt-ltb, le-ltb, leb-true, leb-false}
 use Rattle.refusals.specs.Numbers.{inputTooLongNo, unexpectedEofNo, tooDeepNo, limit}
 use Rattle.refusals.specs.Read.{Read, got, refused, Refusal, then, eof}
 use Rattle.refusals.proofs.Read.{ok-at}
+use Rattle.refusals.proofs.Codes.{placeBehind}
 use Rattle.refusals.proofs.Rest.{Rest, rest-place}
 use Rattle.tlf.specs.Lengths.{tlfAt}
 use Rattle.tlf.proofs.Ends.{tlf-end}
@@ -230,12 +231,7 @@ ten-to (byItself f q (cutContent t n e l k)) z = refl
 ten-to (byItself f q (wrongHead kind k e n)) z = absurd (omega (arith, z))
 ten-to (sixteenOpen t n o e l) z = absurd (omega (arith, z))
 
-behindRead : {A : Type 0} → Read A → ℕ
-behindRead (got a n) = n
-behindRead (refused f) = 0
-
-deep-to : {s : List ℕ} {d p q : ℕ} {f : Refusal} → WrongElement s d p f q → f .number ≡ tooDeepNo → q ≡ behindRead (tlfAt s (f .place))
-unfolding behindRead
+deep-to : {s : List ℕ} {d p q : ℕ} {f : Refusal} → WrongElement s d p f q → f .number ≡ tooDeepNo → q ≡ placeBehind (tlfAt s (f .place))
 deep-to (byItself f q (cutHead e)) z = absurd (omega (arith, z))
 deep-to (byItself f q (cutContent t n e l k)) z = absurd (omega (arith, z))
 deep-to (byItself f q (wrongHead kind k e n)) z = absurd (omega (arith, z))

@@ -1,14 +1,11 @@
 -- What readings of a message's head and of a list's end find: a place ahead, strings within the input, a count of 32 bits. One line a field.
 use mathlib.Core.List.{List}
-use mathlib.Core.Bool.{Bool}
-use Prim.Native.Nat.{ℕ, _+_, _^_, _≤_, _<_}
+use Prim.Native.Nat.{ℕ, _^_, _<_}
 use native.Mathlib.Omega.{arith}
-use lib.ListN.{length}
 use lib.Dec.{eqb}
-use Rattle.refusals.specs.Read.{Read, got, refused}
 use Rattle.refusals.specs.declared.Span.{Span}
-use Rattle.refusals.proofs.Read.{Ok, ok-guard, ok-cond}
-use Rattle.refusals.proofs.Found.{Found, Any, any, from, on, found, found-on}
+use Rattle.refusals.proofs.Read.{Ok, ok-guard, ok-cond, ok-both}
+use Rattle.refusals.proofs.Found.{Found, any, from, on, found, found-on}
 use Rattle.tlf.specs.Lengths.{tlfAt}
 use Rattle.tlf.specs.declared.TypeLengthField.{TypeLengthField}
 use Rattle.tlf.proofs.Lengths.{tlf-ok, tlf-small, list-of-ok}
@@ -16,10 +13,6 @@ use Rattle.numbers.proofs.Ahead.{unsigned-found}
 use Rattle.octet_string.proofs.Within.{Within, Has, octets-found}
 use Rattle.common.proofs.Fields.{OpenWithin, CloseWithin, opt-octets, opt-time, open-found, close-found}
 use Rattle.message.specs.Messages.{ListStart, ListEnd, Body, openBody, closeBody, listBody, MessageStart, listStartAt, listEndAt, contentAt, bodyAt, startAt}
-
-ok-both : {A : Type 0} {P Q : A → ℕ → Type 0} {r : Read A} → Ok P r → Ok Q r → Ok (λ a n. P a n × Q a n) r
-ok-both {r = got a n} h k = record { holds = (h .holds, k .holds) }
-ok-both {r = refused f} h k = record { holds = tt }
 
 tlf-found : (s : List ℕ) (at : ℕ) → Ok (Found (λ (t : TypeLengthField). t .len < 2 ^ 32) s at) (tlfAt s at)
 tlf-found s at = ok-both (tlf-small s at) (tlf-ok s at)

@@ -12,6 +12,7 @@ use Rattle.refusals.specs.Numbers.{limit}
 use Rattle.refusals.specs.Read.{Read, got, refused, Refusal, eof, mismatch, unexpected, crcMismatch, wrongEnd, then, guard, need, many, byteAt, spanAt}
 use Rattle.refusals.specs.Answers.{invalidTy}
 use Rattle.refusals.specs.declared.Span.{Span}
+use Rattle.refusals.proofs.Read.{then-then}
 use Rattle.crc_x25.specs.Crc.{reflect, polynomial, bitStep, bitSteps, byteStep, register, finalXor, crcOf}
 use Rattle.tlf.specs.Lengths.{tlfAt, lengthFrom, lessOwn, listOfAt}
 use Rattle.numbers.specs.Numbers.{number, bytesAt, rawFrom, rawAt, unsignedAt, signedOf, signedAt, boolFrom, boolAt}
@@ -51,16 +52,11 @@ ours-filled : SameWhole (fillsBy rowsFor answersTwenty) readTo
 unfolding readTo
 ours-filled s at t = ap (λ (a : AfterWhole). onceJudged (λ s at t. a) s at t) (same-fill (wholeAt s at) t)
 
-then-again : {A B C : Type 0} (x : Read A) (f : A → ℕ → Read B) (g : B → ℕ → Read C) → then (then x f) g ≡ then x (λ a n. then (f a n) g)
-unfolding then
-then-again (got a n) f g = refl
-then-again (refused r) f g = refl
-
 ours-closed : SameWhole (trailerBy trailerAt) readTo
 unfolding readTo wholeAt
 ours-closed s at t =
     ap (λ (r : Read WholeMessage). onceJudged (λ s at t. fillTo r t) s at t)
-    (then-again (startAt s at) (λ start n. insideAt start (start .«message_body») s n) (λ w n. then (trailerAt s at n) λ trailer m. got w m))
+    (then-then (startAt s at) (λ start n. insideAt start (start .«message_body») s n) (λ w n. then (trailerAt s at n) λ trailer m. got w m))
 
 -- ---- room
 

@@ -53,6 +53,22 @@ unfolding need
 ok-need (some a) f k h = h a
 ok-need none f k h = record { holds = tt }
 
+-- with what was found
+pub ok-some : {A B : Type 0} {P : B → ℕ → Type 0} (m : Option A) (f : Refusal) (k : A → Read B) → ((a : A) → m ≡ some a → Ok P (k a)) → Ok P (need m f k)
+unfolding need
+ok-some (some a) f k h = h a refl
+ok-some none f k h = record { holds = tt }
+
+pub ok-both : {A : Type 0} {P Q : A → ℕ → Type 0} {r : Read A} → Ok P r → Ok Q r → Ok (λ a n. P a n × Q a n) r
+ok-both {r = got a n} h k = record { holds = (h .holds, k .holds) }
+ok-both {r = refused f} h k = record { holds = tt }
+
+-- readings one behind the other, however they are bracketed
+pub then-then : {A B C : Type 0} (r : Read A) (j : A → ℕ → Read B) (k : B → ℕ → Read C) → then (then r j) k ≡ then r λ a n. then (j a n) k
+unfolding then
+then-then (got a n) j k = refl
+then-then (refused f) j k = refl
+
 pub and-left : (p q : Bool) → (p && q) ≡ true → p ≡ true
 and-left true q e = refl
 and-left false q e = e

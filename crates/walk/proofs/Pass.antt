@@ -16,11 +16,6 @@ unfolding then
 then-same (got a n) j k q h = h a n (q .holds)
 then-same (refused f) j k q h = refl
 
-pub then-then : {A B C : Type 0} (r : Read A) (j : A → ℕ → Read B) (k : B → ℕ → Read C) → then (then r j) k ≡ then r λ a n. then (j a n) k
-unfolding then
-then-then (got a n) j k = refl
-then-then (refused f) j k = refl
-
 guard-same : (p : Bool) (f : Refusal) (x y : Read ℕ) → x ≡ y → guard p f x ≡ guard p f y
 guard-same p f x y e = rw e
 

@@ -10,10 +10,10 @@ use lib.Dec.{ltb}
 use borrow.Author.Tests.{le-leb, lt-leb}
 use Rattle.refusals.specs.Numbers.{inputTooLongNo, limit}
 use Rattle.refusals.specs.Read.{Read, got, refused, then, guard, need}
-use Rattle.refusals.proofs.Read.{ok-any}
+use Rattle.refusals.proofs.Read.{ok-any, then-then}
 use Rattle.walk.specs.Walk.{Item, endMark, leaf, listItem, itemAt, deepest, takeItem, walkStep, pass, walkRefused, measured, walkAt}
 use Rattle.walk.specs.Cut.{elementsAt, behindItem, elementBy, elementAt}
-use Rattle.walk.proofs.Pass.{then-same, then-then, many-enough, passLeft, passed-next}
+use Rattle.walk.proofs.Pass.{then-same, many-enough, passLeft, passed-next}
 
 abbrev pub innerOf : ℕ → List ℕ → Option (ℕ → Read ℕ)
 innerOf zero s = none

@@ -8,13 +8,13 @@ use native.Mathlib.Omega.{arith}
 use lib.ListN.{length, take, drop, length-drop}
 use lib.Seq.{length-take-le}
 use borrow.Author.Tests.{leb-true, leb-false, eqb-true}
-use Rattle.refusals.specs.Read.{Read, got, Refusal, need}
+use Rattle.refusals.specs.Read.{Read, got}
 use Rattle.tlf.specs.Lengths.{tyOf, moreFollow, lengthFrom, lessOwn, tlfAt}
 use Rattle.refusals.specs.declared.Span.{Span}
 use Rattle.tlf.specs.declared.Ty.{Ty}
 use Rattle.tlf.specs.declared.Ty.the-variants.{OctetString, Boolean, Integer, Unsigned, ListOf}
 use Rattle.tlf.specs.declared.TypeLengthField.{TypeLengthField}
-use Rattle.refusals.proofs.Read.{Ok, ok-any, ok-at, ok-got, ok-then, ok-guard, ok-cond, ok-weak, byte-ok, Inside, span-ok}
+use Rattle.refusals.proofs.Read.{Ok, ok-any, ok-at, ok-got, ok-then, ok-guard, ok-cond, ok-some, ok-weak, byte-ok, Inside, span-ok}
 use Rattle.tlf.specs.Written.{tyNumber}
 use Rattle.refusals.proofs.Rest.{Reads, reads-at}
 use Rattle.octet_string.specs.Strings.{isOctets, octetsAt, partOf}
@@ -76,11 +76,6 @@ empty-there pre l = let g = reads-at present-empty pre l in by (pre ++ (0x80 ∷
         let n : length (take (p .len) (drop (p .start) s)) ≡ 0 = ap length (sym (part-is s p w) ∙ nothing) in
         record { found = p; is = e; no-bytes = omega (arith, n, length-take-le (p .len) (drop (p .start) s) (omega (arith, w, length-drop (p .start) s))) }
 
-need-is : {A B : Type 0} {P : B → ℕ → Type 0} (m : Option A) (f : Refusal) (k : A → Read B) → ((a : A) → m ≡ some a → Ok P (k a)) → Ok P (need m f k)
-unfolding need
-need-is (some a) f k h = h a refl
-need-is none f k h = record { holds = tt }
-
 -- two length bytes
 record TwoLengths (x y v : ℕ) : Type 0 where
   follows : 128 ≤ x
@@ -125,7 +120,7 @@ tlf-two : (x y : ℕ) → x < 256 → y < 256 → Ok (λ t n. n ≡ 2 → t ≡ 
 unfolding tlfAt
 tlf-two x y hx hy =
     ok-then _ _ (byte-ok (x ∷ y ∷ []) 0) (λ b next h. rw (h .0, h .1)
-    (need-is _ _ _ (λ ty e. ok-guard _ _ _ (λ e₁.
+    (ok-some _ _ _ (λ ty e. ok-guard _ _ _ (λ e₁.
     ok-then _ _ (length-two x y hy) (λ len end q.
     ok-weak (λ t n k i j.
     let two = q (sym (k .0) ∙ i) in
