@@ -1,4 +1,6 @@
 // For the static library: what bench/run counts the instructions of.
+#![tactic(auto)]
+
 ghost use Rattle.std.specs.Prelude.{◌≡◌, [], ◌<◌, ◌≤◌, length};
 ghost use Rattle.crc_x25.specs.Crc.{crc_of};
 ghost use Rattle.frame.specs.Frame.{frame_of};

@@ -1,4 +1,6 @@
 // How many bytes a number needs; the crate has no writer and no such function.
+#![tactic(auto)]
+
 ghost use Rattle.std.specs.Prelude.{◌≡◌};
 ghost use Rattle.byte_count.specs.Count.{unsigned_count};
 

@@ -17,7 +17,7 @@ use Rattle.common.specs.declared.CloseRead.TheVariants as CloseR
 use Rattle.common.specs.declared.EntryRead.TheVariants as EntryR
 use Rattle.decided.specs.One.{Injective}
 use Rattle.decided.proofs.Laws.{injective}
-use Rattle.refusals.proofs.Undone.{it_is, it_lost, reads, field_from}
+use Rattle.refusals.proofs.Undone.{OneReading, it_is, it_lost, reads, field_from}
 use Rattle.octet_string.proofs.Decided.{field_back}
 use Rattle.value.proofs.Decided.{time_from, time_back, u8_back, i8_back, status_from, opt_status_back, value_from, value_back_lem}
 use Rattle.common.specs.Decided.{Views, Decided}
@@ -78,17 +78,15 @@ entry_back_lem x =
     }
 
 pub open_one : Injective open_read
-open_one = reads open_read OpenR.Is OpenR.Refused open_response open_from open_back_lem (λ r. elim r [ OpenR.Is x next ↦ it_is x next | OpenR.Refused f ↦ it_lost f ])
+open_one = reads open_read OpenR.Is OpenR.Refused open_response open_from open_back_lem (λ r. elim r as (λ k. OneReading OpenR.Is OpenR.Refused open_response k (open_read k)) [ OpenR.Is x next ↦ it_is x next | OpenR.Refused f ↦ it_lost f ])
 
 pub close_one : Injective close_read
 close_one =
-    reads close_read CloseR.Is CloseR.Refused close_response close_from close_back_lem
-    (λ r. elim r [ CloseR.Is x next ↦ it_is x next | CloseR.Refused f ↦ it_lost f ])
+    reads close_read CloseR.Is CloseR.Refused close_response close_from close_back_lem (λ r. elim r as (λ k. OneReading CloseR.Is CloseR.Refused close_response k (close_read k)) [ CloseR.Is x next ↦ it_is x next | CloseR.Refused f ↦ it_lost f ])
 
 pub entry_one : Injective entry_read
 entry_one =
-    reads entry_read EntryR.Is EntryR.Refused list_entry entry_from entry_back_lem
-    (λ r. elim r [ EntryR.Is x next ↦ it_is x next | EntryR.Refused f ↦ it_lost f ])
+    reads entry_read EntryR.Is EntryR.Refused list_entry entry_from entry_back_lem (λ r. elim r as (λ k. OneReading EntryR.Is EntryR.Refused list_entry k (entry_read k)) [ EntryR.Is x next ↦ it_is x next | EntryR.Refused f ↦ it_lost f ])
 
 pub views : Views
 views =

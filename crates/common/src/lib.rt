@@ -1,4 +1,6 @@
 // Ports OpenResponse, CloseResponse and ListEntry of parser/common.rs; Time, Status and Value stand in crate value, EndOfSmlMessage in crate trailer.
+#![tactic(auto)]
+
 ghost use Rattle.std.specs.Prelude.{◌≡◌};
 ghost use Rattle.common.specs.Fields.{open_at, close_at, entry_at};
 ghost use Rattle.common.specs.Cut.{open_rest, entry_rest};
@@ -14,7 +16,7 @@ use value::{
     ValueRead,
 };
 
-#[derive(Drop)]
+#[derive(Clone, Copy)]
 pub struct OpenResponse {
     pub codepage: OptSpan,
     pub client_id: OptSpan,
@@ -24,7 +26,7 @@ pub struct OpenResponse {
     pub sml_version: OptU8,
 }
 
-#[derive(Drop)]
+#[derive(Clone, Copy)]
 pub enum OpenRead {
     Is { response: OpenResponse, next: usize },
     Refused(Fault),
@@ -109,12 +111,12 @@ pub fn parse_open_response(input: &[u8], at: usize) -> OpenRead
     open_rest(input, n, codepage, client_id, req_file_id, server_id)
 }
 
-#[derive(Drop)]
+#[derive(Clone, Copy)]
 pub struct CloseResponse {
     pub global_signature: OptSpan,
 }
 
-#[derive(Drop)]
+#[derive(Clone, Copy)]
 pub enum CloseRead {
     Is {
         response: CloseResponse,
@@ -145,7 +147,7 @@ pub fn parse_close_response(input: &[u8], at: usize) -> CloseRead
     }
 }
 
-#[derive(Drop)]
+#[derive(Clone, Copy)]
 pub struct ListEntry {
     pub obj_name: Span,
     pub status: OptStatus,
@@ -156,7 +158,7 @@ pub struct ListEntry {
     pub value_signature: OptSpan,
 }
 
-#[derive(Drop)]
+#[derive(Clone, Copy)]
 pub enum EntryRead {
     Is { entry: ListEntry, next: usize },
     Refused(Fault),

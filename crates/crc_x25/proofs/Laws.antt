@@ -63,7 +63,7 @@ byte_fits r b h k = bits_fit 8 (bit_xor r b) (xor_lt 16 r b h (omega (arith, k))
 pub register_fits : (r : ℕ) (s : List ℕ) → r < 2 ^ 16 → ((i : ℕ) → get_or s i 0 < 2 ^ 8) → register r s < 2 ^ 16
 unfolding register
 register_fits r [] h k = h
-register_fits r (b ∷ s) h k = register_fits _ s (byte_fits r b h (k 0)) (λ i. k (suc i))
+register_fits r (b ∷ s) h k = register_fits (byte_step r b) s (byte_fits r b h (k 0)) (λ i. k (suc i))
 
 pub crc_fits : (s : List ℕ) → ((i : ℕ) → get_or s i 0 < 2 ^ 8) → crc_of s < 2 ^ 16
 unfolding crc_of final_xor

@@ -1,4 +1,6 @@
 // CRC_X25 of util.rs: the register is a number that callers keep, and `digest` gives the first one. Its bits go out four at a time, by a table of sixteen numbers.
+#![tactic(auto)]
+
 ghost use Rattle.std.specs.Prelude.{◌≡◌, ◌%◌, ◌^◌, ◌<◌, ◌≤◌, length, drop};
 ghost use Rattle.crc_x25.specs.Crc.{start, bit_steps, byte_step, register, final_xor, crc_of};
 ghost use Rattle.crc_x25.specs.Table.{table};

@@ -1,4 +1,6 @@
 // Decoder of transport.rs, by value: a byte a push, into a buffer that is lent at each call.
+#![tactic(auto)]
+
 ghost use Rattle.std.specs.Prelude.{◌≡◌, [], ◌∷◌, ◌++◌, false, suc, ◌+◌, ◌*◌, ◌-◌, ◌^◌, ◌<◌, ◌≤◌, length, replicate};
 ghost use Rattle.std.proofs.lemmas.List.Edits.{sets};
 ghost use Rattle.decided.specs.Part.{handed, part_at};
@@ -7,7 +9,7 @@ ghost use Rattle.decoder.specs.Push.{in_way, sized, stopped, starts, matched_beh
 ghost use Rattle.decoder.specs.Record.{setup, record_with, recounted, record_of, after_push, after_finalize, after_reset, answer_asked, unknown_way, bad_in, bad_decoder, wrong_buffer, new_record, push_record, finalize_record, reset_record, payload_record, ask_record};
 ghost use Rattle.decoder.specs.Cut.{code, cut, stored_on, pushed_on, in_state, quiet, fresh_with, normal_step, escape_at, wait_step, sound, verdict, end_step, other_step, judge_step, escape_step, is_fresh, is_done, is_normal, plain_byte_claim, payload_in};
 
-#[derive(Drop)]
+#[derive(Clone, Copy)]
 pub enum DecodeState {
     LookingForMessageStart {
         num_init_seq_bytes: u8,
@@ -23,13 +25,13 @@ pub enum DecodeState {
 pub const COUNT_STOP: u32 = 4_294_967_295;
 
 // What never changes of a decoder: its capacity, and its way of searching for a start sequence.
-#[derive(Drop)]
+#[derive(Clone, Copy)]
 pub struct Setup {
     pub capacity: usize,
     pub way: u8,
 }
 
-#[derive(Drop)]
+#[derive(Clone, Copy)]
 pub struct Decoder {
     pub capacity: usize,
     pub fill: usize,
@@ -41,7 +43,7 @@ pub struct Decoder {
 }
 
 // What a push or finalize says: the Rust's DecodeErr, and nothing or a payload, and the refusals of a record or buffer that doesn't fit.
-#[derive(Drop)]
+#[derive(Clone, Copy)]
 pub enum Event {
     Nothing,
     Payload,
@@ -58,26 +60,26 @@ pub enum Event {
     WrongBuffer,
 }
 
-#[derive(Drop)]
+#[derive(Clone, Copy)]
 pub struct Pushed {
     pub decoder: Decoder,
     pub event: Event,
 }
 
-#[derive(Drop)]
+#[derive(Clone, Copy)]
 pub struct Finalized {
     pub decoder: Decoder,
     pub event: Event,
 }
 
-#[derive(Drop)]
+#[derive(Clone, Copy)]
 pub struct AfterReset {
     pub decoder: Decoder,
     pub count: u32,
 }
 
 // Whether a payload stands in the buffer.
-#[derive(Drop)]
+#[derive(Clone, Copy)]
 pub enum Asked {
     Good,
     BadSpan,

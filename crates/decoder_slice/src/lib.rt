@@ -1,4 +1,6 @@
 // A push of many bytes at once. Only the bytes that may end a state are pushed one by one; the stretches between them change counts and the buffer alone.
+#![tactic(auto)]
+
 ghost use Rattle.std.specs.Prelude.{◌≡◌, List, [], true, false, ℕ, ◌+◌, ◌-◌, ◌%◌, ◌<◌, ◌≤◌, ◌^◌, length};
 ghost use Rattle.decoder.specs.declared.DecodeState.TheVariants.{LookingForMessageStart, ParsingNormal, ParsingEscChars, ParsingEscPayload};
 ghost use Rattle.refusals.specs.Numbers.{limit};
@@ -12,7 +14,7 @@ ghost use Rattle.decoder_slice.specs.Stretch.{moved_by, Goes, Plain, Escapes};
 use decoder::{DecodeState, Decoder, Event};
 
 // What a push of a slice gives: the first event, and how many bytes were taken up to and with the one that brought it.
-#[derive(Drop)]
+#[derive(Clone, Copy)]
 pub struct Sliced {
     pub decoder: Decoder,
     pub event: Event,
@@ -20,7 +22,7 @@ pub struct Sliced {
 }
 
 // A decoder, and the place in the chunk that it has reached.
-#[derive(Drop)]
+#[derive(Clone, Copy)]
 struct Stretch {
     decoder: Decoder,
     at: usize,

@@ -1,4 +1,6 @@
 // encode and Encoder of transport.rs. The output is lent memory; the iterator became a lent payload and a place in it.
+#![tactic(auto)]
+
 ghost use Rattle.std.specs.Prelude.{◌≡◌, false, [], ◌∷◌, ◌+◌, ◌≤◌, length, drop, pos, neg_ℤ, leb};
 ghost use Rattle.std.proofs.Math.IntN.{suc_ℤ};
 ghost use Rattle.std.specs.Int.Signed.{lt_z};
@@ -10,7 +12,7 @@ ghost use Rattle.encoder.specs.Encoder.{byte, next_answer, step_of, step_to, enc
 ghost use Rattle.encoder.specs.Parts.{Stored, Writes, run_after};
 
 // What encode answers.
-#[derive(Drop)]
+#[derive(Clone, Copy)]
 pub enum Encoded {
     // The frame's length.
     Frame(usize),
@@ -18,7 +20,7 @@ pub enum Encoded {
     OutOfMemory,
 }
 
-#[derive(Drop)]
+#[derive(Clone, Copy)]
 pub enum EncoderState {
     Init(u8),
     LookingForEscape(u8),
@@ -27,7 +29,7 @@ pub enum EncoderState {
 }
 
 // Gives the bytes of a payload's frame, one a call.
-#[derive(Drop)]
+#[derive(Clone, Copy)]
 pub struct Encoder {
     pub state: EncoderState,
     pub place: usize,
@@ -35,7 +37,7 @@ pub struct Encoder {
 }
 
 // What next answers.
-#[derive(Drop)]
+#[derive(Clone, Copy)]
 pub enum Item {
     Byte(u8),
     Finished,
@@ -44,7 +46,7 @@ pub enum Item {
 }
 
 // An answer, and the Encoder for the next call.
-#[derive(Drop)]
+#[derive(Clone, Copy)]
 pub struct Given {
     pub answer: Item,
     pub encoder: Encoder,

@@ -1,6 +1,8 @@
 // The byte strings of SML transport version 1 that encoder and decoder share.
 
 // The byte that escapes are made of.
+#![tactic(auto)]
+
 pub const ESC: u8 = 0x1b;
 
 // The start sequence of a frame.

@@ -1,5 +1,7 @@
 // push, finalize, reset and the push of a slice with the decoder lent to be changed in place, as the collector keeps one (`&mut self` of transport.rs's Decoder), and next with the Encoder lent.
 // Each is thin: the record is read whole, the function by value does the work, and the record that it gives is stored whole.
+#![tactic(auto)]
+
 ghost use Rattle.std.specs.Prelude.{◌≡◌};
 ghost use Rattle.decoder.specs.Record.{after_push, after_finalize, after_reset, push_record, finalize_record, reset_record};
 ghost use Rattle.decoder_slice.specs.Slice.{after_slice, slice_record};
@@ -10,7 +12,7 @@ use decoder_slice::Sliced;
 use encoder::{Encoder, Given, Item};
 
 // The first event, and how many bytes were taken up to and with the one that brought it.
-#[derive(Drop)]
+#[derive(Clone, Copy)]
 pub struct Taken {
     pub event: Event,
     pub taken: usize,

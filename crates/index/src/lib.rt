@@ -1,5 +1,7 @@
 // An index of a message's entries, for who asks for names many times: Q-13's rows sorted by name in the lent table, and a lookup in any table. sml-rs has none.
 // The rows are sorted by a heap in their own place: n rows, n below 2 to the l, take at most 3 * l * n + n comparisons.
+#![tactic(auto)]
+
 ghost use Rattle.std.specs.Prelude.{◌≡◌, true, ◌+◌, ◌*◌, ◌/◌, ◌^◌, ◌<◌, ◌≤◌, length};
 ghost use Rattle.octet_string.specs.Strings.{span_within};
 ghost use Rattle.whole.specs.Cut.{put_row};
@@ -16,14 +18,14 @@ use refusals::{Fault, Span};
 use whole::WholeRead;
 
 // Where an entry's name stands, and where the entry does.
-#[derive(Drop)]
+#[derive(Clone, Copy)]
 pub struct Row {
     pub name: Span,
     pub entry: Span,
 }
 
 // `rows` is how many rows stand in the table, `next` the place behind the message. A place beyond the input is BadState, as with read_message.
-#[derive(Drop)]
+#[derive(Clone, Copy)]
 pub enum Indexed {
     Is { rows: usize, next: usize },
     Refused(Fault),
@@ -33,7 +35,7 @@ pub enum Indexed {
 }
 
 // BadSpan is 16: part of a row, a row outside the input, or one that isn't strictly before the next.
-#[derive(Drop)]
+#[derive(Clone, Copy)]
 pub enum Found {
     Entry(Row),
     Nothing,
@@ -44,7 +46,7 @@ pub enum Found {
 // ---- rows in the table
 
 // A row's numbers as they stand in the table.
-#[derive(Drop)]
+#[derive(Clone, Copy)]
 struct Four {
     a: u32,
     b: u32,

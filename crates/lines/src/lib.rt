@@ -1,4 +1,6 @@
 // The program's line for an event, written into lent memory.
+#![tactic(auto)]
+
 ghost use Rattle.std.specs.Prelude.{◌≡◌, [], ◌∷◌, ◌++◌, ◌+◌, ◌*◌, ◌<◌, ◌≤◌, length};
 ghost use Rattle.decoder.specs.Record.{payload as payloadIs, refusal, flag, answer_of};
 ghost use Rattle.encoder.specs.Parts.{Stored};
@@ -8,7 +10,7 @@ ghost use Rattle.lines.specs.Lines.{digit_of, hex_of, hex_four, decimal, aligned
 use decoder::Event;
 
 // What write_line answers.
-#[derive(Drop)]
+#[derive(Clone, Copy)]
 pub enum Written {
     // The line's, newline and all; 0 where an event has no line.
     Length(usize),

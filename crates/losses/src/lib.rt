@@ -1,4 +1,6 @@
 // Why bytes of a recording were lost (document 02, Q-10): for each refusal of a decoder that gets the recording, then finalize, its piece of the recording and the causes.
+#![tactic(auto)]
+
 ghost use Rattle.std.specs.Prelude.{◌≡◌, false, not, List, [], ℕ, suc, ◌+◌, ◌-◌, ◌≤◌, ◌<◌, ◌^◌, length, eqb};
 ghost use Rattle.decoder.specs.Record.{answer_of};
 ghost use Rattle.decoder_slice.specs.Slice.{says_nothing, took};
@@ -10,7 +12,7 @@ use decoder::{Decoder, Event};
 use decoder_slice::Sliced;
 
 // Why bytes were lost. Several may be true of an end sequence, at least one is.
-#[derive(Drop)]
+#[derive(Clone, Copy)]
 pub enum Cause {
     Noise,
     Unfinished,
@@ -26,7 +28,7 @@ pub enum Cause {
 }
 
 // A piece of the recording, its first and last byte counted from 1.
-#[derive(Drop)]
+#[derive(Clone, Copy)]
 pub struct Loss {
     pub cause: Cause,
     pub first: usize,
@@ -34,7 +36,7 @@ pub struct Loss {
 }
 
 // What next_loss answers. Whole: nothing more is lost.
-#[derive(Drop)]
+#[derive(Clone, Copy)]
 pub enum Told {
     Lost(Loss),
     Whole,
@@ -43,7 +45,7 @@ pub enum Told {
 }
 
 // What is looked for in the bytes of the running search or frame: the first whole start sequence.
-#[derive(Drop)]
+#[derive(Clone, Copy)]
 pub struct Look {
     // So many bytes of a start sequence stand last, while none is found.
     pub matched: u8,
@@ -52,7 +54,7 @@ pub struct Look {
 }
 
 // A decoder whose answers are told as losses: it needs no byte of the recording but those of the next slice.
-#[derive(Drop)]
+#[derive(Clone, Copy)]
 pub struct Watch {
     pub decoder: Decoder,
     // How many bytes were pushed, and how many of them stand before the running search or frame.
@@ -62,7 +64,7 @@ pub struct Watch {
 }
 
 // What a slice brings: a frame whose payload stands in the buffer, from its first to its last byte, or a loss.
-#[derive(Drop)]
+#[derive(Clone, Copy)]
 pub enum Seen {
     Nothing,
     Kept { first: usize, last: usize },
@@ -71,14 +73,14 @@ pub enum Seen {
     WrongBuffer,
 }
 
-#[derive(Drop)]
+#[derive(Clone, Copy)]
 pub struct Watched {
     pub watch: Watch,
     pub seen: Seen,
     pub taken: usize,
 }
 
-#[derive(Drop)]
+#[derive(Clone, Copy)]
 pub struct WatchEnded {
     pub watch: Watch,
     pub told: Told,

@@ -16,7 +16,7 @@ use Rattle.message.specs.declared.BodyRead.TheVariants as BodyR
 use Rattle.message.specs.declared.StartRead.TheVariants as StartR
 use Rattle.decided.specs.One.{Injective}
 use Rattle.decided.proofs.Laws.{injective}
-use Rattle.refusals.proofs.Undone.{it_is, it_lost, reads, field_from}
+use Rattle.refusals.proofs.Undone.{OneReading, it_is, it_lost, reads, field_from}
 use Rattle.octet_string.proofs.Decided.{field_back}
 use Rattle.value.proofs.Decided.{time_from, time_back}
 use Rattle.common.proofs.Decided.{open_from, open_back_lem, close_from, close_back_lem}
@@ -80,21 +80,18 @@ start_back x =
 
 pub list_start_one : Injective list_start_read
 list_start_one =
-    reads list_start_read ListStartR.Is ListStartR.Refused list_start list_start_from list_start_back
-    (λ r. elim r [ ListStartR.Is x next ↦ it_is x next | ListStartR.Refused f ↦ it_lost f ])
+    reads list_start_read ListStartR.Is ListStartR.Refused list_start list_start_from list_start_back (λ r. elim r as (λ k. OneReading ListStartR.Is ListStartR.Refused list_start k (list_start_read k)) [ ListStartR.Is x next ↦ it_is x next | ListStartR.Refused f ↦ it_lost f ])
 
 pub list_end_one : Injective list_end_read
 list_end_one =
-    reads list_end_read ListEndR.Is ListEndR.Refused list_end list_end_from list_end_back
-    (λ r. elim r [ ListEndR.Is x next ↦ it_is x next | ListEndR.Refused f ↦ it_lost f ])
+    reads list_end_read ListEndR.Is ListEndR.Refused list_end list_end_from list_end_back (λ r. elim r as (λ k. OneReading ListEndR.Is ListEndR.Refused list_end k (list_end_read k)) [ ListEndR.Is x next ↦ it_is x next | ListEndR.Refused f ↦ it_lost f ])
 
 pub body_one : Injective body_read
-body_one = reads body_read BodyR.Is BodyR.Refused message_body body_from body_back (λ r. elim r [ BodyR.Is x next ↦ it_is x next | BodyR.Refused f ↦ it_lost f ])
+body_one = reads body_read BodyR.Is BodyR.Refused message_body body_from body_back (λ r. elim r as (λ k. OneReading BodyR.Is BodyR.Refused message_body k (body_read k)) [ BodyR.Is x next ↦ it_is x next | BodyR.Refused f ↦ it_lost f ])
 
 pub start_one : Injective start_read
 start_one =
-    reads start_read StartR.Is StartR.Refused message_start start_from start_back
-    (λ r. elim r [ StartR.Is x next ↦ it_is x next | StartR.Refused f ↦ it_lost f ])
+    reads start_read StartR.Is StartR.Refused message_start start_from start_back (λ r. elim r as (λ k. OneReading StartR.Is StartR.Refused message_start k (start_read k)) [ StartR.Is x next ↦ it_is x next | StartR.Refused f ↦ it_lost f ])
 
 pub views : Views
 views =

@@ -1,4 +1,6 @@
 // Ports MessageStart, MessageBody, GetListResponseStart and GetListResponseEnd of parser/streaming.rs.
+#![tactic(auto)]
+
 ghost use Rattle.std.specs.Prelude.{◌≡◌};
 ghost use Rattle.octet_string.specs.Answers.{opt_span};
 ghost use Rattle.value.specs.Answers.{opt_time};
@@ -13,7 +15,7 @@ use refusals::{Fault, ParseError, Span, SpanRead};
 use tlf::{PlaceRead, TlfRead, TypeLengthField};
 use value::{OptTime, OptTimeRead};
 
-#[derive(Drop)]
+#[derive(Clone, Copy)]
 pub struct GetListResponseStart {
     pub client_id: OptSpan,
     pub server_id: Span,
@@ -22,7 +24,7 @@ pub struct GetListResponseStart {
     pub num_vals: u32,
 }
 
-#[derive(Drop)]
+#[derive(Clone, Copy)]
 pub enum ListStartRead {
     Is {
         response: GetListResponseStart,
@@ -107,13 +109,13 @@ pub fn parse_list_start(input: &[u8], at: usize) -> ListStartRead
     list_start_rest(input, n, client_id, server_id, list_name, act_sensor_time)
 }
 
-#[derive(Drop)]
+#[derive(Clone, Copy)]
 pub struct GetListResponseEnd {
     pub list_signature: OptSpan,
     pub act_gateway_time: OptTime,
 }
 
-#[derive(Drop)]
+#[derive(Clone, Copy)]
 pub enum ListEndRead {
     Is {
         response: GetListResponseEnd,
@@ -150,14 +152,14 @@ pub fn parse_list_end(input: &[u8], at: usize) -> ListEndRead
     }
 }
 
-#[derive(Drop)]
+#[derive(Clone, Copy)]
 pub enum MessageBody {
     OpenResponse(OpenResponse),
     CloseResponse(CloseResponse),
     GetListResponse(GetListResponseStart),
 }
 
-#[derive(Drop)]
+#[derive(Clone, Copy)]
 pub enum BodyRead {
     Is { body: MessageBody, next: usize },
     Refused(Fault),
@@ -215,7 +217,7 @@ pub fn parse_message_body(input: &[u8], at: usize) -> BodyRead
     }
 }
 
-#[derive(Drop)]
+#[derive(Clone, Copy)]
 pub struct MessageStart {
     pub transaction_id: Span,
     pub group_no: u8,
@@ -223,7 +225,7 @@ pub struct MessageStart {
     pub message_body: MessageBody,
 }
 
-#[derive(Drop)]
+#[derive(Clone, Copy)]
 pub enum StartRead {
     Is { message: MessageStart, next: usize },
     Refused(Fault),

@@ -1,9 +1,11 @@
 // The order of names, for an index; sml-rs has none.
+#![tactic(auto)]
+
 ghost use Rattle.std.specs.Prelude.{◌≡◌};
 ghost use Rattle.name_order.specs.Order.{compared};
 
 // As Rust's own: the first name is less, equal or greater.
-#[derive(Drop)]
+#[derive(Clone, Copy)]
 pub enum Ordering {
     Less,
     Equal,

@@ -1,4 +1,6 @@
 // Ports parser/num.rs: eight widths and bool. `impl_num!` becomes eight thin functions over `parse_num`.
+#![tactic(auto)]
+
 ghost use Rattle.std.specs.Prelude.{true, cond, ◌&&◌, ◌≡◌, ◌+◌, ◌*◌, ◌-◌, ◌^◌, ◌≤◌, ◌<◌, eqb, length, get_or, take, drop};
 ghost use Rattle.tlf.specs.Lengths.{is_boolean};
 ghost use Rattle.numbers.specs.Numbers.{number, bytes_at_claim, is_number, fits_width, raw_from, raw_at, unsigned_at, signed_of, signed_at, bool_from, bool_at};
@@ -8,7 +10,7 @@ use refusals::{ByteRead, Fault, ParseError, SpanRead};
 use tlf::{TlfRead, Ty, TypeLengthField};
 
 // The bytes of a number: how many, and the number that they are.
-#[derive(Drop)]
+#[derive(Clone, Copy)]
 enum RawRead {
     Is { len: u32, value: u64, next: usize },
     Refused(Fault),
@@ -156,7 +158,7 @@ fn carry_sign(len: u32, value: u64) -> i64
     }
 }
 
-#[derive(Drop)]
+#[derive(Clone, Copy)]
 pub enum U64Read {
     Is { value: u64, next: usize },
     Refused(Fault),
@@ -177,7 +179,7 @@ fn parse_unsigned(input: &[u8], at: usize, size: u32) -> U64Read
     }
 }
 
-#[derive(Drop)]
+#[derive(Clone, Copy)]
 pub enum I64Read {
     Is { value: i64, next: usize },
     Refused(Fault),
@@ -210,7 +212,7 @@ fn is_short(input: &[u8], at: usize, head: u8) -> bool
     input[at] == head
 }
 
-#[derive(Drop)]
+#[derive(Clone, Copy)]
 pub enum U8Read {
     Is { value: u8, next: usize },
     Refused(Fault),
@@ -235,7 +237,7 @@ pub fn parse_u8(input: &[u8], at: usize) -> U8Read
     }
 }
 
-#[derive(Drop)]
+#[derive(Clone, Copy)]
 pub enum U16Read {
     Is { value: u16, next: usize },
     Refused(Fault),
@@ -254,7 +256,7 @@ pub fn parse_u16(input: &[u8], at: usize) -> U16Read
     }
 }
 
-#[derive(Drop)]
+#[derive(Clone, Copy)]
 pub enum U32Read {
     Is { value: u32, next: usize },
     Refused(Fault),
@@ -291,7 +293,7 @@ fn sign_of_byte(b: u8) -> i8
     }
 }
 
-#[derive(Drop)]
+#[derive(Clone, Copy)]
 pub enum I8Read {
     Is { value: i8, next: usize },
     Refused(Fault),
@@ -317,7 +319,7 @@ pub fn parse_i8(input: &[u8], at: usize) -> I8Read
     }
 }
 
-#[derive(Drop)]
+#[derive(Clone, Copy)]
 pub enum I16Read {
     Is { value: i16, next: usize },
     Refused(Fault),
@@ -336,7 +338,7 @@ pub fn parse_i16(input: &[u8], at: usize) -> I16Read
     }
 }
 
-#[derive(Drop)]
+#[derive(Clone, Copy)]
 pub enum I32Read {
     Is { value: i32, next: usize },
     Refused(Fault),
@@ -362,7 +364,7 @@ pub fn parse_i64(input: &[u8], at: usize) -> I64Read
     parse_integer(input, at, 8)
 }
 
-#[derive(Drop)]
+#[derive(Clone, Copy)]
 pub enum BoolRead {
     Is { value: bool, next: usize },
     Refused(Fault),

@@ -10,7 +10,7 @@ use Rattle.octet_string.specs.declared.OptSpan.TheVariants.{Present, Absent}
 use Rattle.octet_string.specs.declared.OptSpanRead.TheVariants as OptSpanR
 use Rattle.octet_string.specs.declared.OptSpan.{OptSpan}
 use Rattle.decided.proofs.Laws.{one_outcome, injective, undone}
-use Rattle.refusals.proofs.Undone.{it_is, it_lost, reads, field_from}
+use Rattle.refusals.proofs.Undone.{OneReading, it_is, it_lost, reads, field_from}
 use Rattle.refusals.proofs.Decided.{views as refusalViews}
 use Rattle.octet_string.specs.Decided.{Views, Decided}
 
@@ -33,8 +33,7 @@ views =
     record {
       check = undone span_check check_from check_back;
       optional_span =
-          reads opt_span_read OptSpanR.Is OptSpanR.Refused opt_span (field_from Present Absent) field_back
-          (λ r. elim r [ OptSpanR.Is x next ↦ it_is x next | OptSpanR.Refused f ↦ it_lost f ]);
+          reads opt_span_read OptSpanR.Is OptSpanR.Refused opt_span (field_from Present Absent) field_back (λ r. elim r as (λ k. OneReading OptSpanR.Is OptSpanR.Refused opt_span k (opt_span_read k)) [ OptSpanR.Is x next ↦ it_is x next | OptSpanR.Refused f ↦ it_lost f ]);
     }
 
 pub decided : Decided

@@ -1,4 +1,6 @@
 // Ports parser/octet_string.rs, and Option of parser/mod.rs for strings. A span stands for the Rust's OctetStr.
+#![tactic(auto)]
+
 ghost use Rattle.std.specs.Prelude.{◌≡◌, ◌+◌, ◌≤◌, ◌<◌, length, get_or};
 ghost use Rattle.decided.specs.Part.{handed, part_at};
 ghost use Rattle.refusals.specs.Answers.{span_read};
@@ -95,7 +97,7 @@ pub fn octet_str<'i>(input: &'i [u8], span: Span) -> &'i [u8]
     }
 }
 
-#[derive(Drop)]
+#[derive(Clone, Copy)]
 pub enum SpanCheck {
     Good,
     BadSpan,
@@ -123,13 +125,13 @@ pub fn is_absent(input: &[u8], at: usize) -> bool
     }
 }
 
-#[derive(Drop)]
+#[derive(Clone, Copy)]
 pub enum OptSpan {
     Present(Span),
     Absent,
 }
 
-#[derive(Drop)]
+#[derive(Clone, Copy)]
 pub enum OptSpanRead {
     Is { field: OptSpan, next: usize },
     Refused(Fault),

@@ -1,5 +1,7 @@
 // A decoder's record in 28 plain bytes (document 02, Q-11), for a host that keeps hundreds of them in one array, and the decoder's calls over the bytes.
 // Each call is thin: the bytes are unpacked, the function by value does the work, and the record that it leaves is packed again. Bytes that no packing gives are refused, and nothing is changed.
+#![tactic(auto)]
+
 ghost use Rattle.std.specs.Prelude.{◌≡◌, suc, ◌+◌, ◌*◌, ◌%◌, ◌≤◌, length};
 ghost use Rattle.std.proofs.lemmas.List.Edits.{sets};
 ghost use Rattle.decided.specs.Part.{handed, part_at};
@@ -17,7 +19,7 @@ use in_place::Taken;
 pub const LEN: usize = 28;
 
 // What packing answers: it is done, or refusals 4, 5 and 18.
-#[derive(Drop)]
+#[derive(Clone, Copy)]
 pub enum Packing {
     Good,
     BadState,
@@ -26,14 +28,14 @@ pub enum Packing {
 }
 
 // The record that bytes hold, or refusal 4.
-#[derive(Drop)]
+#[derive(Clone, Copy)]
 pub enum Unpacking {
     Good(Decoder),
     BadState,
 }
 
 // How many bytes are lost, or refusal 4 where the bytes hold no record; by value every record can be reset.
-#[derive(Drop)]
+#[derive(Clone, Copy)]
 pub enum WasReset {
     Count(u32),
     BadState,

@@ -1,4 +1,6 @@
 // A reader of messages that keeps hold of the input it was given, as Parser of parser/streaming.rs does. It is thin: streaming::parse_next does the work.
+#![tactic(auto)]
+
 ghost use Rattle.std.specs.Prelude.{◌≡◌};
 ghost use Rattle.streaming.specs.Next.{next_at};
 ghost use Rattle.streaming.specs.Answers.{reader_after};
@@ -7,7 +9,7 @@ ghost use Rattle.parser.specs.Reader.{reader_of, after_next, called_next};
 use streaming::{Answer, Next};
 
 // The input, the place in it, where the message there began, and how much of it is pending.
-#[derive(Drop)]
+#[derive(Clone, Copy)]
 pub struct Parser<'i> {
     pub input: &'i [u8],
     pub place: usize,

@@ -1,5 +1,7 @@
 // What every reader shares: of parser/mod.rs the errors and the taking of bytes; and the limit that document 01 sets.
 // A place in the lent input stands for the Rust's rest of the input; refusals say the place, too.
+#![tactic(auto)]
+
 ghost use Rattle.std.specs.Prelude.{◌≡◌};
 ghost use Rattle.refusals.specs.Read.{byte_at, span_at};
 ghost use Rattle.refusals.specs.Answers.{byte_read, span_read};
@@ -7,7 +9,7 @@ ghost use Rattle.refusals.specs.Answers.{byte_read, span_read};
 // The longest payload, buffer and message input.
 pub const LIMIT: usize = 1_048_576;
 
-#[derive(Drop)]
+#[derive(Clone, Copy)]
 pub enum TlfParseError {
     TlfLengthOverflow,
     TlfReserved,
@@ -16,7 +18,7 @@ pub enum TlfParseError {
     TlfInvalidTy,
 }
 
-#[derive(Drop)]
+#[derive(Clone, Copy)]
 pub enum ParseError {
     UnexpectedEOF,
     InvalidTlf(TlfParseError),
@@ -27,26 +29,26 @@ pub enum ParseError {
 }
 
 // What was wrong, and where.
-#[derive(Drop)]
+#[derive(Clone, Copy)]
 pub struct Fault {
     pub error: ParseError,
     pub place: usize,
 }
 
-#[derive(Drop)]
+#[derive(Clone, Copy)]
 pub enum ByteRead {
     Is { byte: u8, next: usize },
     Refused(Fault),
 }
 
 // A part of the input, by its place.
-#[derive(Drop)]
+#[derive(Clone, Copy)]
 pub struct Span {
     pub start: usize,
     pub len: usize,
 }
 
-#[derive(Drop)]
+#[derive(Clone, Copy)]
 pub enum SpanRead {
     Is { span: Span, next: usize },
     Refused(Fault),

@@ -7,7 +7,7 @@ use value::{OptI8, OptStatus, OptTime, OptU8, Status, Time, Value};
 // ---- fields
 
 // A kind's number in the table of `written`, and what it holds: a number, which stands as its distance from -1 if it is below 0, or a span.
-#[derive(Drop)]
+#[derive(Clone, Copy)]
 pub(crate) struct Field {
     kind: u8,
     below: bool,

@@ -264,7 +264,7 @@ pub(crate) fn with_bytes(which: u8, number: usize, hex: &[u8]) {
 }
 
 // How long the line is so far, usize::MAX where it is too long; whether input may follow.
-#[derive(Drop)]
+#[derive(Clone, Copy)]
 struct Place {
     len: usize,
     more: bool,

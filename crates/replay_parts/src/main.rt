@@ -1,4 +1,6 @@
 // The commands that the library has no call for, one a line, and an answer of one line each (docs/REPLAY.md): leaf, tlf, unpack and pack. A line that is none of them is answered `bad command`.
+#![tactic(auto)]
+
 mod fields;
 mod leaf;
 mod length_field;

@@ -24,7 +24,7 @@ fn field(name: &[u8], x: u64) {
 }
 
 // Its number, its small count and its noise, each 0 where it has none.
-#[derive(Drop)]
+#[derive(Clone, Copy)]
 struct Shown {
     kind: u8,
     n: u8,

@@ -1,5 +1,7 @@
 // The static library: what a collector in C or Rust calls (include/sartrogheo.h). Pointers and numbers come in, and a number goes out; what else a call has to say goes into what it is lent.
 // Each call is thin: the decoder's 28 bytes, an Encoder's, a writer's or a watch's four numbers or a reader's three are taken as they come, the function that is there does the work, and its answer is put into numbers.
+#![tactic(auto)]
+
 ghost use Rattle.std.specs.Prelude.{◌≡◌, [], ◌∷◌, ◌+◌, ◌*◌, ◌≤◌, length};
 ghost use Rattle.std.proofs.lemmas.List.Edits.{sets};
 ghost use Rattle.crc_x25.specs.Crc.{crc_of};
@@ -465,7 +467,7 @@ pub extern "C" fn sgh_next_event(input: &[u8], reader: &mut [u64; 3], event: &mu
 // ---- messages that are written
 
 // The writer of four numbers, or none.
-#[derive(Drop)]
+#[derive(Clone, Copy)]
 enum OptWriter {
     Present(ListWriter),
     Absent,
@@ -1022,7 +1024,7 @@ pub extern "C" fn sgh_next_loss(
 }
 
 // The watch of a decoder's bytes and four numbers, or none.
-#[derive(Drop)]
+#[derive(Clone, Copy)]
 enum OptWatch {
     Present(Watch),
     Absent,

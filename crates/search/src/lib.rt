@@ -1,4 +1,6 @@
 // The search that a stray 1b doesn't fool (document 02, Q-7): how many bytes of the start sequence the last bytes are.
+#![tactic(auto)]
+
 ghost use Rattle.std.specs.Prelude.{◌≡◌, [], ◌∷◌, ◌++◌, take};
 ghost use Rattle.frame.specs.Frame.{start_seq};
 ghost use Rattle.search.specs.Search.{most_matched};

@@ -1,4 +1,6 @@
 // Document 01's program: reads standard input to its end and prints a line for each event of the decoder. Started with the argument -2 it searches in the second way (document 02, Q-7); all else is the same.
+#![tactic(auto)]
+
 ghost use Rattle.std.specs.Prelude.{◌≡◌, ◌≤◌, length, take};
 ghost use Rattle.decoder.specs.Record.{answer_of, payload_record};
 ghost use Rattle.lines.specs.Lines.{line_of};
@@ -47,7 +49,7 @@ fn drive(d: Decoder, buf: &mut [u8; 4096], chunk: &[u8]) -> Decoder
 }
 
 // What a turn leaves: the decoder, and whether there may be more.
-#[derive(Drop)]
+#[derive(Clone, Copy)]
 struct Turned {
     decoder: Decoder,
     more: bool,

@@ -1,5 +1,7 @@
 // The story that this project began with: a public key of 48 bytes needs a two-byte length, 83 02, and the length counts
 // both of its own bytes. Whoever takes off one reads 49 bytes and cuts every field behind the key wrong.
+#![tactic(auto)]
+
 use numbers::{U8Read, U32Read};
 use refusals::SpanRead;
 

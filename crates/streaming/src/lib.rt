@@ -1,4 +1,6 @@
 // Ports Parser::parse_next and next of parser/streaming.rs, by value: the reader is three numbers beside its input.
+#![tactic(auto)]
+
 ghost use Rattle.std.specs.Prelude.{◌≡◌, ◌≤◌, ◌-◌};
 ghost use Rattle.message.specs.Answers.{message_body};
 ghost use Rattle.streaming.specs.Next.{pending_of, is_sound, begin_at, trailer_next, end_next, entry_next, step_at, next_at};
@@ -9,14 +11,14 @@ use message::{GetListResponseEnd, ListEndRead, MessageBody, MessageStart, StartR
 use refusals::Fault;
 use tlf::PlaceRead;
 
-#[derive(Drop)]
+#[derive(Clone, Copy)]
 pub enum ParseEvent {
     MessageStart(MessageStart),
     GetListResponseEnd(GetListResponseEnd),
     ListEntry(ListEntry),
 }
 
-#[derive(Drop)]
+#[derive(Clone, Copy)]
 pub enum Answer {
     Event(ParseEvent),
     NoEvent,
@@ -26,7 +28,7 @@ pub enum Answer {
 }
 
 // The answer, and the reader after it: place, message start, pending.
-#[derive(Drop)]
+#[derive(Clone, Copy)]
 pub struct Next {
     pub answer: Answer,
     pub place: usize,

@@ -1,4 +1,6 @@
 // Ports parser/tlf.rs. A length over 32 bits, of which the Rust keeps the low ones, is refused here (document 02, Q-2).
+#![tactic(auto)]
+
 ghost use Rattle.std.specs.Prelude.{true, ◌&&◌, ◌≡◌, ◌+◌, ◌<◌, length, get_or, drop};
 ghost use Rattle.refusals.specs.Read.{invalid_tlf};
 ghost use Rattle.refusals.specs.Answers.{kind_of, fault_of};
@@ -7,7 +9,7 @@ ghost use Rattle.tlf.specs.Lengths.{ty_of, longer, length_from, less_own, tlf_at
 
 use refusals::{ByteRead, Fault, ParseError, TlfParseError};
 
-#[derive(Drop)]
+#[derive(Clone, Copy)]
 pub enum Ty {
     OctetString,
     Boolean,
@@ -16,7 +18,7 @@ pub enum Ty {
     ListOf,
 }
 
-#[derive(Drop)]
+#[derive(Clone, Copy)]
 pub enum TyRead {
     Is(Ty),
     Invalid,
@@ -64,19 +66,19 @@ impl Ty {
     }
 }
 
-#[derive(Drop)]
+#[derive(Clone, Copy)]
 pub struct TypeLengthField {
     pub ty: Ty,
     pub len: u32,
 }
 
-#[derive(Drop)]
+#[derive(Clone, Copy)]
 pub enum TlfRead {
     Is { tlf: TypeLengthField, next: usize },
     Refused(Fault),
 }
 
-#[derive(Drop)]
+#[derive(Clone, Copy)]
 enum LenRead {
     Is { len: u32, next: usize },
     Refused(Fault),
@@ -198,7 +200,7 @@ impl TypeLengthField {
     }
 }
 
-#[derive(Drop)]
+#[derive(Clone, Copy)]
 pub enum PlaceRead {
     Is { next: usize },
     Refused(Fault),

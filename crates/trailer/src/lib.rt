@@ -1,4 +1,6 @@
 // Ports the case `1` of Parser::parse_next of parser/streaming.rs, what ends a message, and EndOfSmlMessage of parser/common.rs.
+#![tactic(auto)]
+
 ghost use Rattle.std.specs.Prelude.{◌≡◌, ◌≤◌, length};
 ghost use Rattle.tlf.specs.Answers.{place_read};
 ghost use Rattle.trailer.specs.Trailer.{message_end_at, swapped, crc_from, trailer_at};

@@ -29,7 +29,7 @@ use Rattle.value.specs.declared.OptStatus.{OptStatus}
 use Rattle.value.specs.declared.OptStatus.TheVariants as OptStatusC
 use Rattle.decided.specs.One.{Injective}
 use Rattle.decided.proofs.Laws.{injective}
-use Rattle.refusals.proofs.Undone.{it_is, it_lost, reads, field_from}
+use Rattle.refusals.proofs.Undone.{OneReading, it_is, it_lost, reads, field_from}
 use Rattle.value.specs.Decided.{Views, Decided}
 
 pub u8_back : (f : OptU8) → field_from OptU8C.Present OptU8C.Absent (opt_u8 f) ≡ f
@@ -92,35 +92,30 @@ value_back_lem (ValueC.List x) = refl
 
 pub time_one : Injective time_read
 unfolding time_from
-time_one = reads time_read TimeR.Is TimeR.Refused seconds time_from (λ x. refl) (λ r. elim r [ TimeR.Is x next ↦ it_is x next | TimeR.Refused f ↦ it_lost f ])
+time_one = reads time_read TimeR.Is TimeR.Refused seconds time_from (λ x. refl) (λ r. elim r as (λ k. OneReading TimeR.Is TimeR.Refused seconds k (time_read k)) [ TimeR.Is x next ↦ it_is x next | TimeR.Refused f ↦ it_lost f ])
 
 pub status_one : Injective status_read
 status_one =
-    reads status_read StatusR.Is StatusR.Refused status status_from status_back_lem
-    (λ r. elim r [ StatusR.Is x next ↦ it_is x next | StatusR.Refused f ↦ it_lost f ])
+    reads status_read StatusR.Is StatusR.Refused status status_from status_back_lem (λ r. elim r as (λ k. OneReading StatusR.Is StatusR.Refused status k (status_read k)) [ StatusR.Is x next ↦ it_is x next | StatusR.Refused f ↦ it_lost f ])
 
 pub value_one : Injective value_read
-value_one = reads value_read ValueR.Is ValueR.Refused value value_from value_back_lem (λ r. elim r [ ValueR.Is x next ↦ it_is x next | ValueR.Refused f ↦ it_lost f ])
+value_one = reads value_read ValueR.Is ValueR.Refused value value_from value_back_lem (λ r. elim r as (λ k. OneReading ValueR.Is ValueR.Refused value k (value_read k)) [ ValueR.Is x next ↦ it_is x next | ValueR.Refused f ↦ it_lost f ])
 
 pub optional_u8_one : Injective opt_u8_read
 optional_u8_one =
-    reads opt_u8_read OptU8R.Is OptU8R.Refused opt_u8 (field_from OptU8C.Present OptU8C.Absent) u8_back
-    (λ r. elim r [ OptU8R.Is x next ↦ it_is x next | OptU8R.Refused f ↦ it_lost f ])
+    reads opt_u8_read OptU8R.Is OptU8R.Refused opt_u8 (field_from OptU8C.Present OptU8C.Absent) u8_back (λ r. elim r as (λ k. OneReading OptU8R.Is OptU8R.Refused opt_u8 k (opt_u8_read k)) [ OptU8R.Is x next ↦ it_is x next | OptU8R.Refused f ↦ it_lost f ])
 
 pub optional_i8_one : Injective opt_i8_read
 optional_i8_one =
-    reads opt_i8_read OptI8R.Is OptI8R.Refused opt_i8 (field_from OptI8C.Present OptI8C.Absent) i8_back
-    (λ r. elim r [ OptI8R.Is x next ↦ it_is x next | OptI8R.Refused f ↦ it_lost f ])
+    reads opt_i8_read OptI8R.Is OptI8R.Refused opt_i8 (field_from OptI8C.Present OptI8C.Absent) i8_back (λ r. elim r as (λ k. OneReading OptI8R.Is OptI8R.Refused opt_i8 k (opt_i8_read k)) [ OptI8R.Is x next ↦ it_is x next | OptI8R.Refused f ↦ it_lost f ])
 
 pub optional_time_one : Injective opt_time_read
 optional_time_one =
-    reads opt_time_read OptTimeR.Is OptTimeR.Refused opt_time (field_from (λ n. OptTimeC.Present (time_from n)) OptTimeC.Absent) time_back
-    (λ r. elim r [ OptTimeR.Is x next ↦ it_is x next | OptTimeR.Refused f ↦ it_lost f ])
+    reads opt_time_read OptTimeR.Is OptTimeR.Refused opt_time (field_from (λ n. OptTimeC.Present (time_from n)) OptTimeC.Absent) time_back (λ r. elim r as (λ k. OneReading OptTimeR.Is OptTimeR.Refused opt_time k (opt_time_read k)) [ OptTimeR.Is x next ↦ it_is x next | OptTimeR.Refused f ↦ it_lost f ])
 
 pub optional_status_one : Injective opt_status_read
 optional_status_one =
-    reads opt_status_read OptStatusR.Is OptStatusR.Refused opt_status (field_from (λ x. OptStatusC.Present (status_from x)) OptStatusC.Absent) opt_status_back
-    (λ r. elim r [ OptStatusR.Is x next ↦ it_is x next | OptStatusR.Refused f ↦ it_lost f ])
+    reads opt_status_read OptStatusR.Is OptStatusR.Refused opt_status (field_from (λ x. OptStatusC.Present (status_from x)) OptStatusC.Absent) opt_status_back (λ r. elim r as (λ k. OneReading OptStatusR.Is OptStatusR.Refused opt_status k (opt_status_read k)) [ OptStatusR.Is x next ↦ it_is x next | OptStatusR.Refused f ↦ it_lost f ])
 
 pub views : Views
 views =

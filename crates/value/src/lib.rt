@@ -1,4 +1,6 @@
 // Ports Time, Status and Value of parser/common.rs, and Option of parser/mod.rs for all but strings.
+#![tactic(auto)]
+
 ghost use Rattle.std.specs.Prelude.{◌≡◌, ◌/◌, ◌^◌, ◌<◌};
 ghost use Rattle.std.specs.Int.Signed.{mag};
 ghost use Rattle.tlf.specs.declared.Ty.{Ty};
@@ -13,12 +15,12 @@ use refusals::{Fault, ParseError, Span, SpanRead};
 use tlf::{PlaceRead, TlfRead, Ty, TypeLengthField};
 
 // Time::SecIndex of the Rust, its only variant.
-#[derive(Drop)]
+#[derive(Clone, Copy)]
 pub struct Time {
     pub sec_index: u32,
 }
 
-#[derive(Drop)]
+#[derive(Clone, Copy)]
 pub enum TimeRead {
     Is { time: Time, next: usize },
     Refused(Fault),
@@ -88,7 +90,7 @@ pub fn parse_time(input: &[u8], at: usize) -> TimeRead
 }
 
 // The widths that a number of a value or a status is given at, in bytes.
-#[derive(Drop)]
+#[derive(Clone, Copy)]
 enum Width {
     One,
     Two,
@@ -112,7 +114,7 @@ fn width_of(len: u32) -> Width
     Width::Eight
 }
 
-#[derive(Drop)]
+#[derive(Clone, Copy)]
 pub enum Status {
     Status8(u8),
     Status16(u16),
@@ -120,7 +122,7 @@ pub enum Status {
     Status64(u64),
 }
 
-#[derive(Drop)]
+#[derive(Clone, Copy)]
 pub enum StatusRead {
     Is { status: Status, next: usize },
     Refused(Fault),
@@ -164,12 +166,12 @@ pub fn parse_status(input: &[u8], at: usize) -> StatusRead
 }
 
 // ListType::Time of the Rust, its only variant.
-#[derive(Drop)]
+#[derive(Clone, Copy)]
 pub struct ListType {
     pub time: Time,
 }
 
-#[derive(Drop)]
+#[derive(Clone, Copy)]
 pub enum Value {
     Bool(bool),
     Bytes(Span),
@@ -184,7 +186,7 @@ pub enum Value {
     List(ListType),
 }
 
-#[derive(Drop)]
+#[derive(Clone, Copy)]
 pub enum ValueRead {
     Is { value: Value, next: usize },
     Refused(Fault),
@@ -328,13 +330,13 @@ pub fn parse_value(input: &[u8], at: usize) -> ValueRead
     }
 }
 
-#[derive(Drop)]
+#[derive(Clone, Copy)]
 pub enum OptU8 {
     Present(u8),
     Absent,
 }
 
-#[derive(Drop)]
+#[derive(Clone, Copy)]
 pub enum OptU8Read {
     Is { field: OptU8, next: usize },
     Refused(Fault),
@@ -359,13 +361,13 @@ pub fn parse_opt_u8(input: &[u8], at: usize) -> OptU8Read
     }
 }
 
-#[derive(Drop)]
+#[derive(Clone, Copy)]
 pub enum OptI8 {
     Present(i8),
     Absent,
 }
 
-#[derive(Drop)]
+#[derive(Clone, Copy)]
 pub enum OptI8Read {
     Is { field: OptI8, next: usize },
     Refused(Fault),
@@ -390,13 +392,13 @@ pub fn parse_opt_i8(input: &[u8], at: usize) -> OptI8Read
     }
 }
 
-#[derive(Drop)]
+#[derive(Clone, Copy)]
 pub enum OptTime {
     Present(Time),
     Absent,
 }
 
-#[derive(Drop)]
+#[derive(Clone, Copy)]
 pub enum OptTimeRead {
     Is { field: OptTime, next: usize },
     Refused(Fault),
@@ -421,13 +423,13 @@ pub fn parse_opt_time(input: &[u8], at: usize) -> OptTimeRead
     }
 }
 
-#[derive(Drop)]
+#[derive(Clone, Copy)]
 pub enum OptStatus {
     Present(Status),
     Absent,
 }
 
-#[derive(Drop)]
+#[derive(Clone, Copy)]
 pub enum OptStatusRead {
     Is { field: OptStatus, next: usize },
     Refused(Fault),

@@ -1,4 +1,6 @@
 // A walk over one whole element of any content (document 02, Q-4): how many bytes it takes, and how many leaves it has.
+#![tactic(auto)]
+
 ghost use Rattle.std.specs.Prelude.{◌≡◌};
 ghost use Rattle.walk.specs.Walk.{is_end_mark, item_at, walk_at};
 ghost use Rattle.walk.specs.Cut.{elements_at, element_at};
@@ -11,7 +13,7 @@ use tlf::{TlfRead, Ty, TypeLengthField};
 const DEEPEST: u32 = 16;
 
 // What begins at a place.
-#[derive(Drop)]
+#[derive(Clone, Copy)]
 pub enum ItemRead {
     EndMark { next: usize },
     Leaf { ty: Ty, content: Span, next: usize },
@@ -20,7 +22,7 @@ pub enum ItemRead {
 }
 
 // What the walk answers.
-#[derive(Drop)]
+#[derive(Clone, Copy)]
 pub enum Walked {
     Is { bytes: usize, leaves: usize },
     Refused(Fault),
@@ -29,7 +31,7 @@ pub enum Walked {
 }
 
 // What both halves of it answer: a place in place of bytes, and no 9, which is judged before them.
-#[derive(Drop)]
+#[derive(Clone, Copy)]
 enum Reached {
     Is { leaves: usize, next: usize },
     Refused(Fault),

@@ -1,5 +1,7 @@
 // A whole message in one call, for who doesn't want events: its start, of a list its end, and a row of four numbers for each entry in a lent table.
 // Two passes: the first reads up to the end byte and stores nothing, so that a refusal leaves the table as it was; the second stores.
+#![tactic(auto)]
+
 ghost use Rattle.std.specs.Prelude.{◌≡◌, [], ◌∷◌, ◌+◌, ◌*◌, ◌-◌, ◌≤◌, ◌<◌, length};
 ghost use Rattle.std.proofs.lemmas.List.Edits.{sets};
 ghost use Rattle.refusals.specs.Numbers.{limit};
@@ -14,14 +16,14 @@ use message::{GetListResponseEnd, ListEndRead, MessageBody, MessageStart, StartR
 use refusals::{Fault, Span};
 use tlf::PlaceRead;
 
-#[derive(Drop)]
+#[derive(Clone, Copy)]
 pub enum OptListEnd {
     Present(GetListResponseEnd),
     Absent,
 }
 
 // A message: `rows` is how many rows stand in the table, `next` the place behind its end byte.
-#[derive(Drop)]
+#[derive(Clone, Copy)]
 pub enum WholeRead {
     Is {
         start: MessageStart,
@@ -64,7 +66,7 @@ fn pass_entries(input: &[u8], at: usize, n: usize) -> PlaceRead
     PlaceRead::Is { next: place }
 }
 
-#[derive(Drop)]
+#[derive(Clone, Copy)]
 enum EndRead {
     Is { end: OptListEnd, next: usize },
     Refused(Fault),
@@ -104,14 +106,14 @@ fn pass_content(input: &[u8], at: usize, body: MessageBody) -> EndRead
 }
 
 // What the first pass has found: `behind` is the place behind the start, where a list's entries stand.
-#[derive(Drop)]
+#[derive(Clone, Copy)]
 struct Passed {
     start: MessageStart,
     behind: usize,
     end: OptListEnd,
 }
 
-#[derive(Drop)]
+#[derive(Clone, Copy)]
 enum PassRead {
     Is { message: Passed, next: usize },
     Refused(Fault),

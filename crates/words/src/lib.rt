@@ -1,4 +1,6 @@
 // An event of the message reader in 24 plain numbers and back, for a host that takes no enum: word 0 is its kind, and its fields stand behind it in their order.
+#![tactic(auto)]
+
 ghost use Rattle.std.specs.Prelude.{◌≡◌, cond, ◌^◌, ◌≤◌, ◌<◌, [], ◌∷◌, ◌++◌};
 ghost use Rattle.std.specs.Int.Signed.{mag};
 ghost use Rattle.frame.specs.Frame.{same};
@@ -25,14 +27,14 @@ use value::{ListType, OptI8, OptStatus, OptTime, OptU8, Status, Time, Value};
 // ---- fields
 
 // An optional number: 1 and the number, or 0 and 0.
-#[derive(Drop)]
+#[derive(Clone, Copy)]
 struct NumberField {
     present: u64,
     number: u64,
 }
 
 // An optional string or status: 1 and its two numbers, or zeros.
-#[derive(Drop)]
+#[derive(Clone, Copy)]
 struct PairField {
     present: u64,
     first: u64,
@@ -40,7 +42,7 @@ struct PairField {
 }
 
 // A value: what its kind doesn't use is 0.
-#[derive(Drop)]
+#[derive(Clone, Copy)]
 struct ValueField {
     kind: u64,
     width: u64,
@@ -812,7 +814,7 @@ fn same_words(a: &[u64], b: &[u64]) -> bool
 }
 
 // The event of 24 words, or none.
-#[derive(Drop)]
+#[derive(Clone, Copy)]
 pub enum OptEvent {
     Present(ParseEvent),
     Absent,

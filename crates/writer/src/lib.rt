@@ -1,4 +1,6 @@
 // A writer for messages: the crate has none. Strings are spans into one lent `strings`, in the records that the reader gives; what was read can be written as it is.
+#![tactic(auto)]
+
 ghost use Rattle.std.specs.Prelude.{◌≡◌, [], ◌∷◌, ◌++◌, ◌+◌, ◌*◌, ◌/◌, ◌%◌, ◌^◌, ◌-◌, ◌≤◌, ◌<◌, length, leb};
 ghost use Rattle.std.proofs.lemmas.List.Edits.{sets};
 ghost use Rattle.std.specs.Int.Signed.{mag};
@@ -27,14 +29,14 @@ use tlf::Ty;
 use value::{OptI8, OptStatus, OptTime, OptU8, Status, Value};
 
 // The fields before a message's body.
-#[derive(Drop)]
+#[derive(Clone, Copy)]
 pub struct Head {
     pub transaction_id: Span,
     pub group_no: u8,
     pub abort_on_error: u8,
 }
 
-#[derive(Drop)]
+#[derive(Clone, Copy)]
 pub enum WriteError {
     BadState,
     WrongNumber,
@@ -43,7 +45,7 @@ pub enum WriteError {
 }
 
 // What the call for a whole message answers.
-#[derive(Drop)]
+#[derive(Clone, Copy)]
 pub enum Written {
     // The place behind it.
     To(usize),
@@ -51,21 +53,21 @@ pub enum Written {
 }
 
 // Of a list's message that is being written.
-#[derive(Drop)]
+#[derive(Clone, Copy)]
 pub enum ListState {
     // So many entries are still to come; the CRC register over what stands there.
     Entries { left: u32, crc: u16 },
     Ended,
 }
 
-#[derive(Drop)]
+#[derive(Clone, Copy)]
 pub struct ListWriter {
     pub place: usize,
     pub state: ListState,
 }
 
 // What a list's calls answer.
-#[derive(Drop)]
+#[derive(Clone, Copy)]
 pub enum ListWritten {
     To(ListWriter),
     Refused(WriteError),

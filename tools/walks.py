@@ -1,0 +1,253 @@
+#!/usr/bin/env python3
+"""Turns the walks proofs/F/Proof.antt of one crate, as far as they only answer goals, into Invariants.antt and Answers.antt.
+
+usage: walks.py NAMES CRATE     NAMES: the names.json that `rt check --generated DIR --old-names` writes in the crate's folder
+
+What an answer says stays; the goals, the steps and the loop's variables get the names that Rattle gives them now. An answer that is only
+a search is left out. A walk that goes by hand stays as it is.
+"""
+import json
+import os
+import re
+import sys
+
+ITEM = re.compile(r'^(?:abbrev )?(?:pub )?([^\s:]+) : (.*)$')
+PLAIN = re.compile(r'^\(?search (?:rules|needs|\(\w+(?:, \w+)*\))\)?$')
+
+
+def items(text):
+    """(comment lines, name, signature, unfolding line, body) of each item behind the imports."""
+    out, notes = [], []
+    lines = text.split('\n')
+    i = 0
+    uses = []
+    while i < len(lines):
+        line = lines[i]
+        if line.startswith('use '):
+            uses.append(line)
+        elif line.startswith('--'):
+            notes.append(line)
+        elif ITEM.match(line):
+            block = [line]
+            i += 1
+            while i < len(lines) and not (lines[i].startswith('use ') or ITEM.match(lines[i]) or lines[i].startswith('--')):
+                block.append(lines[i])
+                i += 1
+            out.append((notes, block))
+            notes = []
+            continue
+        i += 1
+    return uses, out
+
+
+def norm(name):
+    return name.replace('-', '_')
+
+
+KEPT_STEPS = {'args', 'ranges', 'requires', 'type_inv', 'lifetimes', 'well_formed', 'utf8', 'auto'}
+ALIAS = re.compile(r"\blet ([a-z]\w*'?) = ((?:c|[a-z]\w*'?)(?:\.[\w'-]+)+) in\s?")
+
+
+class Place:
+    """A place of the function, with the places before it: how a path of the old walk reads now."""
+
+    def __init__(self, info, old):
+        at = {p[0]: k for k, p in enumerate(info['places'])}
+        self.chain = []
+        while old is not None and old in at:
+            k = at[old]
+            self.chain.append(k)
+            old = info['places'][k][1]
+        self.info = info
+
+    def arm(self, step, path):
+        """The field of an arm that stands for this path of an old step, and what of the path is left."""
+        best = None
+        for k in self.chain:
+            arm = self.info['arms'][k]
+            for field, old, way in (arm[2] if arm else []):
+                if norm(old) == step and path[:len(way)] == way:
+                    if best is None or len(way) > best[0]:
+                        best = (len(way), arm[0], field)
+        return best and ([best[1], best[2]], path[best[0]:])
+
+    def known(self, step):
+        for k in self.chain:
+            for var, old in self.info['typed'][k]:
+                if norm(old) == step:
+                    return var
+        return None
+
+    def turned(self, parts, lost):
+        parts = [p for p in parts if p != 'before']
+        if not parts:
+            return []
+        step, path = norm(parts[0]), parts[1:]
+        if step in KEPT_STEPS:
+            return [step] + path
+        found = self.arm(step, path)
+        if found:
+            return found[0] + found[1]
+        if path[:1] == ['given'] and self.known(step):
+            return ['type_inv', self.known(step)] + path[1:]
+        for k in self.chain:
+            if norm(self.info['places'][k][2][0]) == step:
+                return [self.info['places'][k][2][1]] + path
+        for loop in self.info['loops']:
+            if norm(loop[0][0]) == step:
+                return [loop[0][1]] + path
+        lost.add(parts[0])
+        return [step] + path
+
+    def opaque(self, parts):
+        """A path that names only a place, or a step of which an arm takes the parts."""
+        parts = [p for p in parts if p != 'before']
+        if not parts:
+            return True
+        step = norm(parts[0])
+        if step in KEPT_STEPS:
+            return False
+        arms = [self.info['arms'][k] for k in self.chain]
+        ways = [way for arm in arms if arm for _, old, way in arm[2] if norm(old) == step]
+        return any(len(way) > len(parts) - 1 for way in ways)
+
+
+def turn_body(body, place, lost):
+    aliases = {}
+
+    def whole(name):
+        return aliases.get(name, [name])
+
+    def note(m):
+        name, path = m.group(1), m.group(2).split('.')
+        parts = whole(path[0])[:] + path[1:]
+        if parts[0] == 'c' and place.opaque(parts[1:]):
+            aliases[name] = parts
+            return ''
+        return m.group(0)
+
+    body = ALIAS.sub(note, body)
+
+    def path_of(m):
+        path = m.group(0).split('.')
+        parts = whole(path[0])[:] + path[1:]
+        if parts[0] != 'c' or len(parts) == 1:
+            return m.group(0)
+        return '.'.join(['c'] + place.turned(parts[1:], lost))
+
+    return re.sub(r"(?<![\w.-])[a-z]\w*'?(?:\.[^\s(){},;.]+)+", path_of, body)
+
+
+def loop_body(params, info, loop, text):
+    """The invariant's right side, with the loop's variables as fields of l."""
+    (_, new), vars_ = info['loops'][loop]
+    changed = info['changed'][loop]
+    table = {}
+    n = len(vars_)
+    late = [v for v, c in zip(vars_, changed) if c]
+    for k, p in enumerate(params):
+        if k < n:
+            table[p] = ('l.initial.' if changed[k] else 'l.') + vars_[k]
+        elif k - n < len(late):
+            table[p] = 'l.' + late[k - n]
+        else:
+            table[p] = 'l.' + p
+    return re.sub(r"(?<![\w.«-])[A-Za-z_][\w₀₁₂'-]*", lambda m: table.get(m.group(0), m.group(0)), text)
+
+
+def turn(crate, path, folder, info):
+    text = open(path).read()
+    if 'tie.close' not in text:
+        return 'by hand'
+    uses, found = items(text)
+    uses = [u for u in uses if '.Statement.{' not in u and not u.endswith('.Tie as tie')]
+    module = f"Rattle.{crate}.proofs.{folder.replace('/', '.')}"
+    needs = {}
+    for old, new in info['needs']:
+        needs.setdefault(norm(old), new)
+    place_of = {}
+    for (old, new), (place, _) in zip(info['needs'], info['asked_at']):
+        place_of.setdefault(new, place)
+    invariants, answers, lost = [], [], set()
+    for notes, block in found:
+        m = ITEM.match(block[0])
+        name, sig = m.group(1), m.group(2)
+        unfolding = [b for b in block[1:] if b.startswith('unfolding ')]
+        rest = [b for b in block[1:] if not b.startswith('unfolding ')]
+        while rest and not rest[-1].strip():
+            rest.pop()
+        body = '\n'.join(rest)
+        if sig.startswith(('tie.invariant-', 'tie.decreases-')):
+            kind, old = re.match(r'tie\.(invariant|decreases)-(\S+)', sig).groups()
+            at = [k for k, l in enumerate(info['loops']) if norm(l[0][0]) == norm(old)]
+            if not at:
+                lost.add(sig)
+                continue
+            new = f"{kind}-{info['loops'][at[0]][0][1]}"
+            left, right = re.match(r'\S+((?: \S+)*?) =\s(.*)$', body, re.S).groups()
+            said = loop_body(left.split(), info, at[0], right)
+            invariants.append('\n'.join(notes + [f'abbrev pub {new} : goal.{new}'] + unfolding + [f'{new} l = {said}']))
+        elif sig.startswith('tie.Need-'):
+            old = norm(re.match(r'tie\.Need-(\S+)', sig).group(1))
+            key = old if old in needs else old.replace('overflow_', '', 1)
+            if key not in needs:
+                lost.add(sig)
+                continue
+            new = needs[key]
+            left, right = re.match(r'\S+((?: \S+)*?) =\s?(.*)$', body, re.S).groups()
+            if PLAIN.match(' '.join(right.split())):
+                continue
+            said = turn_body(right, Place(info, place_of[new]), lost)
+            notes = [n for n in notes if not n.startswith('-- src/')]
+            args = ' '.join(a for a in left.split() if a != 'κs')
+            sep = '\n' if right.startswith('   ') else ' '
+            answers.append('\n'.join(notes + [f'pub {new} : goal.{new}'] + unfolding + [f'{new} {args} ={sep}{said}']))
+        elif name.endswith(('-spec', '_spec')):
+            continue
+        else:
+            answers.append('\n'.join(notes + block[:1] + unfolding + [body]))
+    os.remove(path)
+    where = os.path.dirname(path)
+    for file, kind, parts in (('Invariants', 'Given', invariants), ('Answers', 'Goals', answers)):
+        if parts:
+            words = '\n'.join(parts)
+            keep = [u for u in (cut_use(u, words) for u in uses) if u]
+            with open(os.path.join(where, file + '.antt'), 'w') as f:
+                f.write('\n'.join(keep + [f'use {module}.{kind} as goal', '']) + '\n' + '\n\n'.join(parts) + '\n')
+    if not os.listdir(where):
+        os.rmdir(where)
+    return ('lost ' + ', '.join(sorted(lost))) if lost else 'turned'
+
+
+def cut_use(line, words):
+    """The import, with only the words that are used; a whole module stays where its name is used."""
+    m = re.match(r'use (\S+)\.\{(.*)\}$', line)
+    if not m:
+        as_ = re.match(r'use \S+(?: as (\S+))?$', line)
+        short = as_.group(1) or line.split('.')[-1]
+        return line if re.search(r'(?<![\w.])' + re.escape(short) + r'\.', words) else None
+    left = []
+    for w in m.group(2).split(', '):
+        bare = w.split(' as ')[-1]
+        parts = [p for p in bare.split('◌') if p]
+        if not parts or all(re.search(r"(?<![^\s(){},;.])" + re.escape(p) + r"(?![^\s(){},;.])", words) for p in parts):
+            left.append(w)
+    return f"use {m.group(1)}.{{{', '.join(left)}}}" if left else None
+
+
+def main(names_path, crate_dir):
+    names = json.load(open(names_path))
+    crate = os.path.basename(os.path.abspath(crate_dir))
+    for at, _, files in sorted(os.walk(os.path.join(crate_dir, 'proofs'))):
+        if 'Proof.antt' not in files:
+            continue
+        folder = os.path.relpath(at, os.path.join(crate_dir, 'proofs'))
+        key = f"Rattle-{crate}-proofs.{folder.replace('/', '.')}.Lts"
+        if key not in names:
+            print(folder, 'no names')
+            continue
+        print(folder, turn(crate, os.path.join(at, 'Proof.antt'), folder, names[key]))
+
+
+if __name__ == '__main__':
+    main(*sys.argv[1:])
