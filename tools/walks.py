@@ -48,6 +48,22 @@ KEPT_STEPS = {'args', 'ranges', 'requires', 'type_inv', 'lifetimes', 'well_forme
 ALIAS = re.compile(r"\blet ([a-z]\w*'?) = ((?:c|[a-z]\w*'?)(?:\.[\w'-]+)+) in\s?")
 
 
+def new_value(path, params):
+    """`.new.1.1.0`, by its place among the parameters, is the third one's new value."""
+    path = ['type_inv' if p == 'type-inv' else p for p in path]
+    if path[:1] != ['new'] or not params:
+        return path
+    n = 1
+    while n < len(path) and path[n] == '1':
+        n += 1
+    ones = n - 1
+    if n < len(path) and path[n] == '0':
+        n += 1
+    elif ones == 0:
+        return path
+    return ['new', params[ones]] + path[n:] if ones < len(params) else path
+
+
 class Place:
     """A place of the function, with the places before it: how a path of the old walk reads now."""
 
@@ -78,8 +94,16 @@ class Place:
                     return var
         return None
 
+    def of_call(self, step):
+        """The parameters of the function that this step calls."""
+        for k in self.chain:
+            if norm(self.info['places'][k][2][0]) == step:
+                return self.info['params'].get(self.info['places'][k][3], [])
+        return []
+
     def turned(self, parts, lost):
         parts = [p for p in parts if p != 'before']
+        parts = [parts[0]] + new_value(parts[1:], self.of_call(norm(parts[0]))) if parts else parts
         if not parts:
             return []
         step, path = norm(parts[0]), parts[1:]
@@ -96,6 +120,8 @@ class Place:
         for loop in self.info['loops']:
             if norm(loop[0][0]) == step:
                 return [loop[0][1]] + path
+        if re.search(r'\d$', step):
+            return self.turned([step.rstrip('0123456789')] + path, lost)
         lost.add(parts[0])
         return [step] + path
 
@@ -113,7 +139,7 @@ class Place:
 
 
 def turn_body(body, place, lost):
-    aliases = {}
+    aliases, calls = {}, {}
 
     def whole(name):
         return aliases.get(name, [name])
@@ -124,6 +150,9 @@ def turn_body(body, place, lost):
         if parts[0] == 'c' and place.opaque(parts[1:]):
             aliases[name] = parts
             return ''
+        bare = [p for p in parts[1:] if p != 'before']
+        if parts[0] == 'c' and len(bare) == 1 and place.of_call(norm(bare[0])):
+            calls[name] = place.of_call(norm(bare[0]))
         return m.group(0)
 
     body = ALIAS.sub(note, body)
@@ -131,11 +160,39 @@ def turn_body(body, place, lost):
     def path_of(m):
         path = m.group(0).split('.')
         parts = whole(path[0])[:] + path[1:]
-        if parts[0] != 'c' or len(parts) == 1:
+        if parts[0] in calls:
+            return '.'.join([parts[0]] + new_value(parts[1:], calls[parts[0]]))
+        if parts[0] != 'c':
+            return '.'.join(new_value(parts, []))
+        if len(parts) == 1:
             return m.group(0)
         return '.'.join(['c'] + place.turned(parts[1:], lost))
 
-    return re.sub(r"(?<![\w.-])[a-z]\w*'?(?:\.[^\s(){},;.]+)+", path_of, body)
+    body = re.sub(r"(?<![\w.-])[a-z]\w*'?(?:\.[^\s(){},;.]+)+", path_of, body)
+    # a test of `!b` says what b is
+    return re.sub(r'not-(?:true|false) _ (c\.if-not-[^\s(){},;]+)', r'\1', body)
+
+
+def with_helpers(body, helpers):
+    """What a walk says of a place by itself stands as a `let` in each answer that cites it: places have no name of their own now."""
+    lets, unfolding = [], []
+    for name, sig, opened, text in reversed(helpers):
+        cited = re.compile(r'(?<![\w.-])' + re.escape(name) + r'(?: [\w-]+)*? (?:\(c(?:\.before)*\)|c(?:\.before)*)(?![\w.-])')
+        if not cited.search(body) and not any(cited.search(x) for x in lets):
+            continue
+        kind = re.match(r'\(c : tie\.[^)]*\) → (.*)$', sig).group(1)
+        said = re.match(r'\S+ c =\s*(.*)$', text, re.S)
+        if not said:
+            continue
+        own_word = 'all_' + name.replace('-', '_') if '-' in name else name
+        body = cited.sub(own_word, body)
+        lets = [cited.sub(own_word, x) for x in lets]
+        lets.insert(0, f'    let {own_word} : {kind} =\n      {said.group(1).rstrip()} in')
+        unfolding += opened
+    if not lets:
+        return body, []
+    words = ' '.join(dict.fromkeys(w for u in unfolding for w in u.split()[1:]))
+    return '    ' + '\n'.join(lets).lstrip() + '\n    ' + body.lstrip(), ([f'unfolding {words}'] if words else [])
 
 
 def loop_body(params, info, loop, text):
@@ -168,7 +225,7 @@ def turn(crate, path, folder, info):
     place_of = {}
     for (old, new), (place, _) in zip(info['needs'], info['asked_at']):
         place_of.setdefault(new, place)
-    invariants, answers, lost = [], [], set()
+    invariants, answers, lost, helpers = [], [], set(), []
     for notes, block in found:
         m = ITEM.match(block[0])
         name, sig = m.group(1), m.group(2)
@@ -190,6 +247,7 @@ def turn(crate, path, folder, info):
         elif sig.startswith('tie.Need-'):
             old = norm(re.match(r'tie\.Need-(\S+)', sig).group(1))
             key = old if old in needs else old.replace('overflow_', '', 1)
+            key = key if key in needs else norm(name)
             if key not in needs:
                 lost.add(sig)
                 continue
@@ -197,6 +255,8 @@ def turn(crate, path, folder, info):
             left, right = re.match(r'\S+((?: \S+)*?) =\s?(.*)$', body, re.S).groups()
             if PLAIN.match(' '.join(right.split())):
                 continue
+            right, more = with_helpers(right, helpers)
+            unfolding = [' '.join(unfolding + [m for m in more if m not in unfolding])] if unfolding else more[:1]
             said = turn_body(right, Place(info, place_of[new]), lost)
             notes = [n for n in notes if not n.startswith('-- src/')]
             args = ' '.join(a for a in left.split() if a != 'κs')
@@ -204,6 +264,8 @@ def turn(crate, path, folder, info):
             answers.append('\n'.join(notes + [f'pub {new} : goal.{new}'] + unfolding + [f'{new} {args} ={sep}{said}']))
         elif name.endswith(('-spec', '_spec')):
             continue
+        elif re.match(r'\(c : tie\.[^)]*\) → ', sig):
+            helpers.append((name, sig, unfolding, body))
         else:
             answers.append('\n'.join(notes + block[:1] + unfolding + [body]))
     os.remove(path)

@@ -50,7 +50,7 @@ returns c =
     let l = c.before.before.before.before.loop in
     let a = c.before.before.before.before.before.before.before.args in
     let g = c.before.before.next in
-    streams.no_byte_lem l.e a.payload.now (frame_of a.payload.now) l.i l.total g.result g.ensures l.invariant.0 l.invariant.2 l.invariant.3 (sym c.before.is_byte_lem.ensures ∙ not-true _ c.if1.true)
+    streams.no_byte l.e a.payload.now (frame_of a.payload.now) l.i l.total g.result g.ensures l.invariant.0 l.invariant.2 l.invariant.3 (sym c.before.is_byte.ensures ∙ not-true _ c.if1.true)
 
 byte-of-requires : tie.Need-byte-of-requires invariant-loop decreases-loop
 byte-of-requires c κs = search rules
@@ -76,7 +76,7 @@ loop-again c =
     let l = c.before.before.before.before.before.before.loop in
     let a = c.before.before.before.before.before.before.before.before.before.args in
     let g = c.before.before.before.before.next in
-    let z = streams.byte_next l.e a.payload.now (frame_of a.payload.now) l.i l.total g.result g.ensures l.invariant.0 l.invariant.2 l.invariant.3 (sym c.before.before.before.is_byte_lem.ensures ∙ not-false _ c.before.before.if1.false) c.byte_of.result c.byte_of.ensures.0 in
+    let z = streams.byte_next l.e a.payload.now (frame_of a.payload.now) l.i l.total g.result g.ensures l.invariant.0 l.invariant.2 l.invariant.3 (sym c.before.before.before.is_byte.ensures ∙ not-false _ c.before.before.if1.false) c.byte_of.result c.byte_of.ensures.0 in
     let b : c.byte_of.result ≤ 255 = c.byte_of.ensures.1 in
     let t : l.total + c.byte_of.result ≤ 255 * (l.i + 1) = omega (arith, b, l.invariant.1) in
     (z.0, t, z.1, z.2)
