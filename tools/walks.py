@@ -170,7 +170,7 @@ def turn_body(body, place, lost):
 
     body = re.sub(r"(?<![\w.-])[a-z]\w*'?(?:\.[^\s(){},;.]+)+", path_of, body)
     # a test of `!b` says what b is
-    return re.sub(r'not-(?:true|false) _ (c\.if-not-[^\s(){},;]+)', r'\1', body)
+    return re.sub(r'not-(?:true|false) [^\s()]+ (c\.if-not-[^\s(){},;]+)', r'\1', body)
 
 
 def with_helpers(body, helpers):
