@@ -163,7 +163,7 @@ def turn_body(body, place, lost):
         if parts[0] in calls:
             return '.'.join([parts[0]] + new_value(parts[1:], calls[parts[0]]))
         if parts[0] != 'c':
-            return '.'.join(new_value(parts, []))
+            return '.'.join([parts[0]] + [p.replace('-', '_') for p in new_value(parts[1:], [])])
         if len(parts) == 1:
             return m.group(0)
         return '.'.join(['c'] + place.turned(parts[1:], lost))
