@@ -44,6 +44,7 @@ def norm(name):
     return name.replace('-', '_')
 
 
+MODULES = set()    # the short names of the modules that the file at hand imports
 KEPT_STEPS = {'args', 'ranges', 'requires', 'type_inv', 'lifetimes', 'well_formed', 'utf8', 'auto'}
 ALIAS = re.compile(r"\blet ([a-z]\w*'?) = ((?:c|[a-z]\w*'?)(?:\.[\w'-]+)+) in\s?")
 
@@ -166,6 +167,8 @@ def turn_body(body, place, lost):
     def path_of(m):
         path = m.group(0).split('.')
         parts = whole(path[0])[:] + path[1:]
+        if parts[0] in MODULES:
+            return '.'.join([parts[0]] + [norm(p) for p in parts[1:]])
         if parts[0] in of_args:
             parts[1] = norm(parts[1])
         if parts[0] in calls:
@@ -178,7 +181,7 @@ def turn_body(body, place, lost):
 
     body = re.sub(r"(?<![\w.-])[a-z]\w*'?(?:\.[^\s(){},;.]+)+", path_of, body)
     # a test of `!b` says what b is
-    return re.sub(r'(?:not-true|not-false|not_not|not_yes) _ (c\.if-not-[^\s(){},;]+)', r'\1', body)
+    return re.sub(r'(?:\w+\.)?not[-_](?:true|false|not|yes) _ (c\.if-not-[^\s(){},;]+)', r'\1', body)
 
 
 def with_helpers(body, helpers):
@@ -225,6 +228,8 @@ def turn(crate, path, folder, info):
     if 'tie.close' not in text:
         return 'by hand'
     uses, found = items(text)
+    MODULES.clear()
+    MODULES.update(m.group(1) for m in (re.match(r'use \S+ as (\S+)$', u) for u in uses) if m)
     uses = [u for u in uses if '.Statement.{' not in u and not u.endswith('.Tie as tie')]
     module = f"Rattle.{crate}.proofs.{folder.replace('/', '.')}"
     needs = {}
