@@ -89,10 +89,13 @@ class Place:
         return best and ([best[1], best[2]], path[best[0]:])
 
     def known(self, step):
+        """The variable whose type says this; not where it has got another value since."""
+        newer = set()
         for k in self.chain:
             for var, old in self.info['typed'][k]:
                 if norm(old) == step:
-                    return var
+                    return None if var in newer else var
+                newer.add(var)
         return None
 
     def of_call(self, step):
