@@ -21,7 +21,7 @@ use Rattle.since.specs.Bytes.{grown_since}
 use Rattle.since.specs.Since.{frame_head, ReadSince, EventSays, start_found, start_inside}
 use Rattle.since.proofs.Kept.{KeptSince, kept}
 use Rattle.losses.specs.Loss.{begins_in_start, has_start, cause_of, piece_of, loss_over, loss_at, loss_after, lost_is, none_lost, is_refusal, hands_out, next_behind}
-use Rattle.losses.specs.Watch.{look, no_look, over_of, look_behind, loss_seen, watched, moved_on, watch_behind}
+use Rattle.losses.specs.Watch.{no_look, over_of, look_behind, loss_seen, watched, moved_on, watch_behind}
 use Rattle.losses.specs.Cut.{next_seen}
 use Rattle.losses.specs.declared.Loss.{Loss}
 use Rattle.losses.specs.declared.Watch.{Watch}

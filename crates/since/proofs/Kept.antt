@@ -18,7 +18,7 @@ use Rattle.search.specs.Found.{NoneWhole}
 use Rattle.search.proofs.Matched.{most_ends, most_step, most_nil, none_in_nil, start_matched, start_last}
 use Rattle.search.proofs.LastBytes.{last_bytes}
 use Rattle.decoder.specs.Push.{first_way, second_way, Mem, State, search, body, escape, done, PushEvent, silent, discarded, pays_out, memory, bad_escape, bad_message, Out, begun, says, put, tick, opened, starts, matched_behind, more_noise, early, computed, misaligned, noticed, fresh, stopped, step}
-use Rattle.decoder.specs.Record.{count, numbered}
+use Rattle.decoder.specs.Record.{numbered}
 use Rattle.decoder.specs.Run.{Op, push, finalize, reset}
 use Rattle.decoder.proofs.States.{run_state, state_behind, act_state, answer_state}
 use Rattle.decoder.specs.Saw as W
