@@ -44,6 +44,7 @@ def norm(name):
     return name.replace('-', '_')
 
 
+MODULES = set()    # the short names of the modules that the file at hand imports
 KEPT_STEPS = {'args', 'ranges', 'requires', 'type_inv', 'lifetimes', 'well_formed', 'utf8', 'auto'}
 ALIAS = re.compile(r"\blet ([a-z]\w*'?) = ((?:c|[a-z]\w*'?)(?:\.[\w'-]+)+) in\s?")
 
@@ -88,10 +89,13 @@ class Place:
         return best and ([best[1], best[2]], path[best[0]:])
 
     def known(self, step):
+        """The variable whose type says this; not where it has got another value since."""
+        newer = set()
         for k in self.chain:
             for var, old in self.info['typed'][k]:
                 if norm(old) == step:
-                    return var
+                    return None if var in newer else var
+                newer.add(var)
         return None
 
     def of_call(self, step):
@@ -107,6 +111,8 @@ class Place:
         if not parts:
             return []
         step, path = norm(parts[0]), parts[1:]
+        if step == 'args':
+            return [step] + [norm(p) for p in path[:1]] + path[1:]
         if step in KEPT_STEPS:
             return [step] + path
         found = self.arm(step, path)
@@ -120,6 +126,8 @@ class Place:
         for loop in self.info['loops']:
             if norm(loop[0][0]) == step:
                 return [loop[0][1]] + path
+        if step[:1].isupper():
+            return self.turned([step[:1].lower() + step[1:]] + path, lost)
         if re.search(r'\d$', step):
             return self.turned([step.rstrip('0123456789')] + path, lost)
         lost.add(parts[0])
@@ -139,7 +147,7 @@ class Place:
 
 
 def turn_body(body, place, lost):
-    aliases, calls = {}, {}
+    aliases, calls, of_args = {}, {}, set()
 
     def whole(name):
         return aliases.get(name, [name])
@@ -150,6 +158,8 @@ def turn_body(body, place, lost):
         if parts[0] == 'c' and place.opaque(parts[1:]):
             aliases[name] = parts
             return ''
+        if parts[0] == 'c' and [p for p in parts[1:] if p != 'before'] == ['args']:
+            of_args.add(name)
         bare = [p for p in parts[1:] if p != 'before']
         if parts[0] == 'c' and len(bare) == 1 and place.of_call(norm(bare[0])):
             calls[name] = place.of_call(norm(bare[0]))
@@ -160,17 +170,21 @@ def turn_body(body, place, lost):
     def path_of(m):
         path = m.group(0).split('.')
         parts = whole(path[0])[:] + path[1:]
+        if parts[0] in MODULES:
+            return '.'.join([parts[0]] + [norm(p) for p in parts[1:]])
+        if parts[0] in of_args:
+            parts[1] = norm(parts[1])
         if parts[0] in calls:
             return '.'.join([parts[0]] + new_value(parts[1:], calls[parts[0]]))
         if parts[0] != 'c':
-            return '.'.join(new_value(parts, []))
+            return '.'.join([parts[0]] + [p.replace('-', '_') for p in new_value(parts[1:], [])])
         if len(parts) == 1:
             return m.group(0)
         return '.'.join(['c'] + place.turned(parts[1:], lost))
 
     body = re.sub(r"(?<![\w.-])[a-z]\w*'?(?:\.[^\s(){},;.]+)+", path_of, body)
     # a test of `!b` says what b is
-    return re.sub(r'not-(?:true|false) _ (c\.if-not-[^\s(){},;]+)', r'\1', body)
+    return re.sub(r'(?:\w+\.)?not[-_](?:true|false|not|yes) [^\s()]+ (c\.if-not-[^\s(){},;]+)', r'\1', body)
 
 
 def with_helpers(body, helpers):
@@ -217,6 +231,8 @@ def turn(crate, path, folder, info):
     if 'tie.close' not in text:
         return 'by hand'
     uses, found = items(text)
+    MODULES.clear()
+    MODULES.update(m.group(1) for m in (re.match(r'use \S+ as (\S+)$', u) for u in uses) if m)
     uses = [u for u in uses if '.Statement.{' not in u and not u.endswith('.Tie as tie')]
     module = f"Rattle.{crate}.proofs.{folder.replace('/', '.')}"
     needs = {}

@@ -8,7 +8,7 @@ use lib.ListN.{length, take}
 use lib.Dec.{ltb, eqb}
 use borrow.Author.Tests.{ltb-true, ltb-false, lt-ltb, le-ltb, eq-eqb, ne_eqb}
 use Rattle.decoder.specs.Push.{silent, discarded, finalized, reset_count}
-use Rattle.decoder.specs.Record.{nothing, refusal, count, setup, state_as, new_record, bad_in, bad_decoder, wrong_buffer, after_finalize, after_reset, finalize_record, reset_record, stands, has_payload, payload_record, ask_record}
+use Rattle.decoder.specs.Record.{nothing, refusal, setup, state_as, new_record, bad_in, bad_decoder, wrong_buffer, after_finalize, after_reset, finalize_record, reset_record, stands, has_payload, payload_record, ask_record}
 use Rattle.decoder.specs.Cut.{is_fresh, is_done, payload_in}
 use Rattle.decoder.specs.declared.DecodeState.{DecodeState}
 use Rattle.decoder.specs.declared.DecodeState.TheVariants.{LookingForMessageStart, ParsingNormal, ParsingEscChars, ParsingEscPayload, Done}

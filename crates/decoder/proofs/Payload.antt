@@ -5,7 +5,7 @@ use mathlib.Core.List.{List, []}
 use Prim.Native.Nat.{ℕ}
 use lib.ListN.{length, take}
 use Rattle.frame.proofs.Cases.{by_eq, by_test}
-use Rattle.decoder.specs.Push.{Setup, Mem, State, search, body, escape, done, PushEvent, silent, discarded, pays_out, Out, noticed, fresh, step, finalized}
+use Rattle.decoder.specs.Push.{Setup, Mem, State, search, body, escape, done, PushEvent, pays_out, Out, noticed, fresh, step, finalized}
 use Rattle.decoder.specs.Record.{DecoderAnswer, nothing, payload, count, refusal, After, numbered, setup, state_as, state_of, record_with, record_of, bad_decoder, wrong_buffer, pushed, push_record, stands, has_payload, payload_record}
 use Rattle.decoder.specs.Run.{Op, push, finalize, reset, brought}
 use Rattle.decoder.specs.Saw.{Judged, is_data, restarts, good, bad, shifts, unknown, Saw, sought, began, again, waits, opens, stores, full, collects, judges, full'}

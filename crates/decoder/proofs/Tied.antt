@@ -20,7 +20,6 @@ use Rattle.decoder.specs.Cut.{code_event, code, Cut, cut, told_cut, stored_on, f
 use Rattle.decoder.specs.declared.DecodeState.{DecodeState}
 use Rattle.decoder.specs.declared.DecodeState.TheVariants.{LookingForMessageStart, ParsingNormal, ParsingEscChars, ParsingEscPayload, Done}
 use Rattle.decoder.specs.declared.Decoder.{Decoder}
-use Rattle.decoder.specs.declared.Event.{Event}
 use Rattle.decoder.specs.declared.Event.TheVariants.{InvalidEsc, BadState, WrongBuffer}
 use Rattle.decoder.specs.declared.Pushed.{Pushed}
 use Rattle.decoder.proofs.Valid.{sane, sane_wait, sane_escape}

@@ -1,5 +1,5 @@
 -- rule: the push rules of document 01, with document 02's second way of searching, over a state that holds only the counts that it uses and the stored bytes as a list.
-use Rattle.std.specs.Prelude.{Bool, true, false, cond, not, List, [], ◌∷◌, ◌++◌, ℕ, suc, ◌+◌, ◌-◌, ◌*◌, ◌%◌, min, length, take, drop, get_or, replicate, eqb, ltb, leb}
+use Rattle.std.specs.Prelude.{Bool, false, cond, not, List, [], ◌∷◌, ◌++◌, ℕ, suc, ◌+◌, ◌-◌, ◌*◌, ◌%◌, min, length, take, drop, get_or, replicate, eqb, ltb, leb}
 use Rattle.refusals.specs.Numbers.{count_stop}
 use Rattle.crc_x25.specs.Crc.{start, register, final_xor}
 use Rattle.frame.specs.Frame.{esc_seq, restart_seq, start_seq, missing, same}

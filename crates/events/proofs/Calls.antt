@@ -1,25 +1,25 @@
 -- The theorem: repeated calls of the next event, from any three numbers on, give exactly the answers that the tables say. The reader has no other behaviour.
 use mathlib.Core.Path.{◌≡◌, refl, sym, ap, ◌∙◌}
 use mathlib.Core.List.{List, [], ◌∷◌}
-use mathlib.Core.Bool.{Bool, true, false, cond}
-use Prim.Native.Nat.{ℕ, zero, suc, ◌+◌, ◌-◌, ◌^◌, ◌≤◌, ◌<◌}
+use mathlib.Core.Bool.{Bool, true, false}
+use Prim.Native.Nat.{ℕ, zero, suc, ◌+◌, ◌-◌, ◌≤◌, ◌<◌}
 use native.Mathlib.Omega.{arith}
 use lib.ListN.{length}
 use lib.Dec.{ltb, leb}
-use borrow.Author.Tests.{le-ltb, lt-ltb, le-leb, lt-leb, leb-true, leb-false, ltb-true, ltb-false}
+use borrow.Author.Tests.{le-ltb, le-leb, leb-true, ltb-false}
 use Rattle.refusals.specs.Numbers.{bad_state_no, input_too_long_no, limit}
-use Rattle.refusals.specs.Read.{Read, got, refused, Refusal, eof}
+use Rattle.refusals.specs.Read.{Read, got, refused, eof}
 use Rattle.refusals.specs.declared.Span.{Span}
-use Rattle.refusals.proofs.Read.{Ok, ok_at, and_left, and_right}
+use Rattle.refusals.proofs.Read.{Ok, and_left, and_right}
 use Rattle.refusals.proofs.Found.{Found}
-use Rattle.common.specs.Fields.{ListEntry, entry_at}
-use Rattle.common.proofs.Fields.{EntryWithin, entry_found}
-use Rattle.message.specs.Messages.{ListStart, ListEnd, Body, open_body, close_body, list_body, MessageStart, start_at, list_end_at}
-use Rattle.message.proofs.Messages.{ListStartWithin, BodyWithin, StartWithin, start_found_lem, list_end_found}
+use Rattle.common.specs.Fields.{entry_at}
+use Rattle.common.proofs.Fields.{entry_found}
+use Rattle.message.specs.Messages.{Body, open_body, close_body, list_body, MessageStart, start_at, list_end_at}
+use Rattle.message.proofs.Messages.{BodyWithin, StartWithin, start_found_lem, list_end_found}
 use Rattle.trailer.specs.Trailer.{trailer_at}
 use Rattle.trailer.proofs.Trailer.{trailer_found}
 use Rattle.streaming.specs.Next.{MessageEvent, start_event, entry_event, end_event, Said, event, no_event, failed, alone, ReaderAfter, onward, pending_of, begin_at, trailer_next, end_next, entry_next, step_at, is_sound, next_at}
-use Rattle.events.specs.Events.{Answers, nth, answer, says_first, no_more, at_start_claim, inside, entries_from, content_from, messages_from, events_of, for_ever, trailer_from, rest_from, answers_from}
+use Rattle.events.specs.Events.{Answers, nth, answer, says_first, at_start_claim, inside, entries_from, content_from, messages_from, events_of, for_ever, trailer_from, rest_from, answers_from}
 use Rattle.events.specs.Calls.{call}
 use Rattle.common.proofs.Ends.{entry_end}
 use Rattle.message.proofs.Ends.{list_end_end}

@@ -4,14 +4,13 @@ use mathlib.Core.List.{List, [], ◌++◌, append_assoc}
 use mathlib.Core.Option.{Option, some, none}
 use Prim.Native.Nat.{ℕ}
 use Rattle.crc_x25.specs.Crc.{crc_of}
-use Rattle.refusals.specs.Read.{Read}
 use Rattle.refusals.specs.declared.Span.{Span}
-use Rattle.refusals.proofs.Rest.{Rest, Gets, Reads, Is, Made, gets_then, gets_is, gets_got}
+use Rattle.refusals.proofs.Rest.{Reads, Is, Made, gets_then, gets_is, gets_got}
 use Rattle.numbers.specs.Numbers.{unsigned_at}
 use Rattle.common.specs.Fields.{OpenResponse, CloseResponse, ListEntry}
 use Rattle.message.specs.Messages.{ListStart, ListEnd, Body, open_body, close_body, list_body, MessageStart, start_at, list_end_at}
 use Rattle.message.proofs.Gets.{ListStartHas}
-use Rattle.trailer.specs.Trailer.{message_end_at, swapped, trailer_at}
+use Rattle.trailer.specs.Trailer.{message_end_at, swapped}
 use Rattle.trailer.proofs.Gets.{trailer_reads}
 use Rattle.events.specs.Message.{Content, Message, entries_at, content_of, message_at}
 

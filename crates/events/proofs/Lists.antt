@@ -1,5 +1,4 @@
 -- A list response with n entries gives n entries and its end, and nothing between, or a refusal before that.
-use mathlib.Core.Path.{◌≡◌, refl}
 use mathlib.Core.List.{List, [], ◌∷◌}
 use Prim.Native.Nat.{ℕ, zero, suc}
 use lib.ListN.{length}
@@ -7,7 +6,7 @@ use Rattle.refusals.specs.Read.{Read, got, refused, Refusal}
 use Rattle.refusals.specs.declared.Span.{Span}
 use Rattle.common.specs.Fields.{ListEntry, entry_at}
 use Rattle.message.specs.Messages.{ListStart, ListEnd, list_body, list_end_at}
-use Rattle.streaming.specs.Next.{MessageEvent, entry_event, end_event, Said, failed}
+use Rattle.streaming.specs.Next.{entry_event, end_event, Said, failed}
 use Rattle.events.specs.Events.{Answers, says_first, inside, entries_from, content_from}
 
 pub data Listing : ℕ → Answers → Type 0 where

@@ -2,18 +2,18 @@
 use mathlib.Core.Path.{◌≡◌, refl, sym, ap, ◌∙◌}
 use mathlib.Core.List.{List}
 use mathlib.Core.Bool.{Bool, true, false, cond}
-use Prim.Native.Nat.{ℕ, zero, suc, ◌+◌, ◌^◌, ◌≤◌, ◌<◌}
+use Prim.Native.Nat.{ℕ, zero, suc, ◌≤◌, ◌<◌}
 use native.Mathlib.Omega.{arith}
 use lib.ListN.{length}
 use lib.Dec.{leb}
 use Rattle.refusals.specs.Read.{Read, got, refused}
 use Rattle.refusals.specs.declared.Span.{Span}
-use Rattle.refusals.proofs.Read.{Ok, Ahead}
+use Rattle.refusals.proofs.Read.{Ok}
 use Rattle.refusals.proofs.Found.{Found}
 use Rattle.common.specs.Fields.{ListEntry, entry_at}
 use Rattle.common.proofs.Fields.{EntryWithin, entry_found}
-use Rattle.message.specs.Messages.{ListStart, ListEnd, Body, open_body, close_body, list_body, MessageStart, start_at, list_end_at}
-use Rattle.message.proofs.Messages.{ListStartWithin, ListEndWithin, BodyWithin, StartWithin, start_found_lem, list_end_found}
+use Rattle.message.specs.Messages.{Body, open_body, close_body, list_body, start_at, list_end_at}
+use Rattle.message.proofs.Messages.{ListEndWithin, BodyWithin, StartWithin, start_found_lem, list_end_found}
 use Rattle.trailer.specs.Trailer.{trailer_at}
 use Rattle.trailer.proofs.Trailer.{trailer_found}
 use Rattle.streaming.specs.Next.{MessageEvent, start_event, entry_event, end_event, Said, event, no_event, failed, alone, ReaderAfter, onward, pending_of, begin_at, trailer_next, end_next, entry_next, step_at, next_at}

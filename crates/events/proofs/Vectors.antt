@@ -1,6 +1,6 @@
 -- Whole inputs and all that is answered on them: two meters' frames, a two-byte length in every string field in turn, refusals with their places, every kind of value.
 use mathlib.Core.Path.{◌≡◌, refl}
-use mathlib.Core.List.{List, [], ◌∷◌}
+use mathlib.Core.List.{[], ◌∷◌}
 use mathlib.Core.Bool.{true}
 use mathlib.Core.Option.{some, none}
 use lib.IntN.{pos, negsuc}

@@ -1,18 +1,17 @@
 -- A whole message and the calls: where message_at finds a message, the calls give its events and go on behind it; where it refuses, it refuses as the first refusing call does.
-use mathlib.Core.Path.{◌≡◌, refl, sym, ap, ◌∙◌}
-use mathlib.Core.List.{List, [], ◌∷◌, ◌++◌}
-use mathlib.Core.Bool.{Bool, true, false, cond}
-use mathlib.Core.Option.{Option, some, none}
-use Prim.Native.Nat.{ℕ, zero, suc, ◌≤◌, ◌<◌}
+use mathlib.Core.Path.{◌≡◌, refl, ap, ◌∙◌}
+use mathlib.Core.List.{List, [], ◌∷◌}
+use mathlib.Core.Option.{some}
+use Prim.Native.Nat.{ℕ, zero, suc, ◌<◌}
 use lib.ListN.{length}
 use borrow.Author.Tests.{lt-leb}
-use Rattle.refusals.specs.Read.{Read, got, refused, Refusal, then, many}
+use Rattle.refusals.specs.Read.{Read, got, refused, then, many}
 use Rattle.refusals.specs.declared.Span.{Span}
 use Rattle.common.specs.Fields.{ListEntry, entry_at}
-use Rattle.message.specs.Messages.{ListStart, ListEnd, Body, open_body, close_body, list_body, MessageStart, start_at, list_end_at}
+use Rattle.message.specs.Messages.{ListEnd, Body, open_body, close_body, list_body, MessageStart, start_at}
 use Rattle.trailer.specs.Trailer.{trailer_at}
-use Rattle.streaming.specs.Next.{MessageEvent, start_event, entry_event, end_event, Said, event, no_event, failed}
-use Rattle.events.specs.Message.{Content, Message, entries_at, content_of, message_at}
+use Rattle.streaming.specs.Next.{MessageEvent, start_event, entry_event, end_event}
+use Rattle.events.specs.Message.{Content, entries_at, content_of, message_at}
 use Rattle.events.specs.Events.{Answers, says_first, at_start_claim, inside, entries_from, content_from, messages_from}
 use Rattle.events.specs.Telling.{says_all, entry_events, end_events, message_events, first_refusal, Tells}
 

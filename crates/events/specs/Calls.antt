@@ -1,6 +1,6 @@
 -- claim: calling for the next event again and again.
 use Rattle.std.specs.Prelude.{ℕ, zero, suc, List}
-use Rattle.streaming.specs.Next.{Said, ReaderAfter, next_at}
+use Rattle.streaming.specs.Next.{Said, next_at}
 
 -- what call k answers, counted from 0, of a reader with these three numbers: each call goes on from the numbers that the one before left
 unfoldable pub call : ℕ → List ℕ → ℕ → ℕ → ℕ → Said

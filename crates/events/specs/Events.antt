@@ -4,7 +4,7 @@ use Rattle.refusals.specs.Numbers.{bad_state_no, input_too_long_no, limit}
 use Rattle.refusals.specs.Read.{Read, got, refused, eof}
 use Rattle.refusals.specs.declared.Span.{Span}
 use Rattle.common.specs.Fields.{entry_at}
-use Rattle.message.specs.Messages.{MessageStart, Body, open_body, close_body, list_body, start_at, list_end_at}
+use Rattle.message.specs.Messages.{Body, open_body, close_body, list_body, start_at, list_end_at}
 use Rattle.trailer.specs.Trailer.{trailer_at}
 use Rattle.streaming.specs.Next.{MessageEvent, start_event, entry_event, end_event, Said, event, no_event, failed, alone, is_sound}
 

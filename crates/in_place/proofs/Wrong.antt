@@ -5,12 +5,12 @@ use Prim.Native.Nat.{ℕ}
 use native.Mathlib.Omega.{arith}
 use lib.ListN.{replicate, get_or}
 use Rattle.crc_x25.specs.Crc.{reflect, polynomial, bit_step, bit_steps, byte_step, register}
-use Rattle.encoder.specs.Encoder.{Step, NextAnswer, byte, finished, no_byte, step_of, encoder_at, fresh_encoder, looked, ended, step_from, bad_encoder, next_step}
+use Rattle.encoder.specs.Encoder.{Step, NextAnswer, byte, finished, no_byte, step_of, encoder_at, fresh_encoder, step_from, bad_encoder, next_step}
 use Rattle.encoder.specs.declared.EncoderState.{EncoderState}
 use Rattle.encoder.specs.declared.EncoderState.TheVariants.{Init, LookingForEscape, HandlingEscape, End}
 use Rattle.encoder.specs.declared.Item.{Item}
 use Rattle.encoder.specs.declared.Encoder.{Encoder}
-use Rattle.decoder.specs.Push.{sized, State, search, begun, searching, store, step, finalized, reset_count}
+use Rattle.decoder.specs.Push.{sized, search, begun, searching, store, step, finalized, reset_count}
 use Rattle.decoder.specs.Record.{DecoderAnswer, nothing, payload, count, refusal, After, Left, after_push, after_finalize, after_reset, wrote, bad_decoder, wrong_buffer, new_record, record_of, pushed, push_record, finalize_record, reset_record}
 use Rattle.decoder.specs.declared.Event.{Event}
 use Rattle.decoder.specs.declared.Event.TheVariants.{Nothing}

@@ -11,7 +11,7 @@ use Rattle.refusals.specs.Numbers.{bad_state_no, wrong_buffer_no, bad_span_no, o
 use Rattle.frame.specs.Frame.{same}
 use Rattle.frame.proofs.Same.{same_true}
 use Rattle.decoder.specs.declared.Setup.{Setup}
-use Rattle.decoder.specs.Record.{DecoderAnswer, nothing, count, refusal, After, setup, after_push, after_finalize, after_reset, bad_decoder, wrong_buffer, push_record, finalize_record, reset_record, payload_record, ask_record}
+use Rattle.decoder.specs.Record.{DecoderAnswer, nothing, refusal, After, setup, after_push, after_finalize, after_reset, bad_decoder, wrong_buffer, push_record, finalize_record, reset_record, payload_record, ask_record}
 use Rattle.decoder.specs.declared.Decoder.{Decoder}
 use Rattle.decoder.specs.declared.Event.TheVariants as E
 use Rattle.decoder.specs.declared.Pushed.{Pushed}

@@ -1,7 +1,7 @@
 -- The short way of a push over the bytes: what its tests say of the record that they hold, and that the byte is stored in place.
 use mathlib.Core.Path.{◌≡◌, refl, sym, ap, ◌∙◌}
 use mathlib.Core.Bool.{true, false}
-use mathlib.Core.List.{List, [], ◌∷◌, ◌++◌}
+use mathlib.Core.List.{List, [], ◌∷◌}
 use Prim.Native.Nat.{ℕ, suc, ◌+◌, ◌*◌, ◌<◌, ◌≤◌}
 use native.Mathlib.Omega.{arith}
 use lib.ListN.{length, get_or, set}
@@ -10,9 +10,8 @@ use lib.Dec.{eqb, ltb, leb}
 use borrow.Author.Tests.{eq-eqb, ne_eqb, lt-ltb, le-ltb, lt-leb, eqb-true, ltb-true, ltb-false, leb-true, leb-false}
 use Rattle.refusals.specs.Numbers.{limit}
 use Rattle.frame.specs.Frame.{same}
-use Rattle.frame.proofs.Same.{same_true}
 use Rattle.decoder.specs.Push.{stopped}
-use Rattle.decoder.specs.Record.{After, nothing, unknown_way, recounted, bad_decoder, wrong_buffer, push_record}
+use Rattle.decoder.specs.Record.{After, nothing, unknown_way, recounted, bad_decoder, wrong_buffer}
 use Rattle.decoder.specs.Cut.{quiet, stored_on, plain_byte_claim}
 use Rattle.decoder.specs.declared.DecodeState.{DecodeState}
 use Rattle.decoder.specs.declared.DecodeState.TheVariants.{LookingForMessageStart, ParsingNormal, ParsingEscChars, ParsingEscPayload, Done}

@@ -8,9 +8,9 @@ use native.Mathlib.Omega.{arith}
 use lib.ListN.{length, get_or, take, drop, length-append}
 use lib.Dec.{leb, eqb}
 use lib.Seq.{length-take-le, get_or_at}
-use borrow.Author.Tests.{leb-true, leb-false, lt-ltb}
+use borrow.Author.Tests.{leb-true, leb-false}
 use Rattle.refusals.specs.Numbers.{unexpected_eof_no}
-use Rattle.refusals.specs.Read.{Read, got, refused, Refusal, then, guard, need, eof, invalid_tlf, byte_at}
+use Rattle.refusals.specs.Read.{Read, got, refused, Refusal, then, guard, need, eof, invalid_tlf}
 use Rattle.refusals.specs.Answers.{overflow, reserved, underflow, next_type, invalid_ty}
 use Rattle.tlf.specs.Lengths.{more_follow, type_bits, length_bits, ty_of, is_list, is_boolean, longer, longest, length_from, less_own, tlf_at}
 use Rattle.tlf.specs.declared.Ty.{Ty}

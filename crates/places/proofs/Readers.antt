@@ -9,7 +9,6 @@ use Rattle.refusals.specs.Read.{Read, refused, guard, eof, byte_at, span_at}
 use Rattle.refusals.specs.declared.Span.{Span}
 use Rattle.numbers.specs.Numbers.{unsigned_at, signed_at}
 use Rattle.octet_string.specs.Strings.{octets_at}
-use Rattle.octet_string.specs.Optional.{optional}
 use Rattle.value.specs.Values.{time_at, status_at}
 use Rattle.common.specs.Fields.{open_at, close_at, entry_at}
 use Rattle.message.specs.Messages.{Body, open_body, close_body, list_body, list_start_at, list_end_at, body_at, start_at}

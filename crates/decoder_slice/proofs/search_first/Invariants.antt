@@ -1,0 +1,15 @@
+use Prim.Native.Nat.{ℕ, ◌+◌, ◌-◌, ◌<◌, ◌≤◌}
+use mathlib.Core.List.{List}
+use mathlib.Core.Path.{◌≡◌}
+use lib.ListN.{length}
+use Rattle.decoder.specs.declared.DecodeState.TheVariants.{LookingForMessageStart}
+use Rattle.decoder.specs.Push.{stopped}
+use Rattle.decoder.specs.Cut.{in_state}
+use Rattle.decoder_slice.specs.Stretch.{moved_by, Goes}
+use Rattle.decoder_slice.proofs.search_first.Given as goal
+
+abbrev pub invariant-loop-k : goal.invariant-loop-k
+invariant-loop-k l = (l.k ≤ l.left) × (l.left ≡ length l.chunk - l.from) × (l.from ≤ length l.chunk) × (l.q ≤ l.n + l.k) × (l.q < 8) × ((m : List ℕ) → length m ≡ l.d.capacity → Goes (moved_by l.d 0 l.k (LookingForMessageStart l.q (stopped (l.noise + (l.n + l.k - l.q))))) (l.from + l.k) m l.from (in_state l.d (LookingForMessageStart l.n l.noise)) m l.chunk)
+
+abbrev pub decreases-loop-k : goal.decreases-loop-k
+decreases-loop-k l = l.left - l.k

@@ -1,0 +1,10 @@
+use Rattle.writer.specs.Fields.{write_time}
+use Rattle.writer.proofs.Numbers.{list_head_claim}
+use Rattle.writer.proofs.Puts.{puts_as, puts_then}
+use native.Mathlib.Omega.{arith}
+use mathlib.Core.Path.{sym}
+use Rattle.writer.proofs.put_time.Goals as goal
+
+pub returns : goal.returns
+unfolding write_time
+returns c = (puts_then _ _ (puts_then _ _ (puts_as (sym (list_head_claim 2 (omega arith))) c.put_next-p0.ensures) c.put_unsigned-p1.ensures) c.put_unsigned.ensures)
