@@ -1,28 +1,32 @@
-"""Passes on what `rt ci` prints and notes in FILE how long each part took: the wall clock of checks, edits and programs, and the sum of what each check and each edit took beside the others, crate by crate.
+"""Passes on what `rt ci` prints and notes in FILE how long its parts took. Proofs and edits go side by side, and what came of the edits is told when all have ended: of each crate FILE has the second at which it was proved, after the start, or that an earlier run had proved it;
+then the wall clock up to the last proof, from there to the last edit, and from there to the last program or test that was run.
 
 usage: rt ci 2>&1 | clock.py FILE
 """
 import re, sys, time
 
 LINES = {
-    "checks": re.compile(rb"^rt: (\w+) proved \((\d+) s\)"),
-    "edits": re.compile(rb"^rt: must-fail (\w+)/\w+: .*?(\d+) s\)$"),
-    "programs": re.compile(rb"^rt: (\w+) ran .*\((\d+) s\)$"),
+    "checks": re.compile(rb"^rt: (\w+)(?:: its tests are)? proved$"),
+    "kept": re.compile(rb"^rt: (\w+) is kept: "),
+    "edits": re.compile(rb"^rt: must-fail (\w+)/[\w.-]+\.edit: "),
+    "programs": re.compile(rb"^rt: (\w+) ran\b"),
 }
-began = at = time.time()
-wall, sums, count, crates = {}, {}, {}, {}
+began = time.time()
+ends, count, crates = {}, dict.fromkeys(LINES, 0), []
 for line in sys.stdin.buffer:
     sys.stdout.buffer.write(line)
     sys.stdout.buffer.flush()
     for part, form in LINES.items():
         m = form.match(line.rstrip(b"\n"))
         if m:
-            now, crate, took = time.time(), m.group(1).decode(), int(m.group(2))
-            wall[part], at = wall.get(part, 0) + now - at, now
-            sums[part], count[part] = sums.get(part, 0) + took, count.get(part, 0) + 1
-            crates.setdefault((part, crate), []).append(took)
+            now, crate = time.time() - began, m.group(1).decode()
+            ends["checks" if part == "kept" else part] = now
+            count[part] += 1
+            if part in ("checks", "kept"):
+                crates.append(f"{part} {crate}" + (f" {now:.0f} s" if part == "checks" else ""))
 with open(sys.argv[1], "w", encoding="utf-8") as out:
-    for (part, crate), took in crates.items():
-        out.write(f"{part} {crate} {sum(took)} s" + (f" for {len(took)}" if part == "edits" else "") + "\n")
-    for part in LINES:
-        out.write(f"seconds of the {part}: {wall.get(part, 0):.0f} ({count.get(part, 0)} of them; side by side they took {sums.get(part, 0)} s in all)\n")
+    out.writelines(line + "\n" for line in crates)
+    at = 0
+    for part, what in [("checks", f"{count['checks']} proved, {count['kept']} kept from an earlier run"), ("edits", f"{count['edits']} of them, tried beside the checks and behind the last"), ("programs", f"{count['programs']} runs")]:
+        out.write(f"seconds of the {part}: {max(ends.get(part, at) - at, 0):.0f} ({what})\n")
+        at = max(ends.get(part, at), at)

@@ -18,7 +18,10 @@ for path in sorted(glob.glob("crates/*/src/**/*.rt", recursive=True)):
         end = next(k for k in range(j, len(lines)) if lines[k] == m.group(1) + "}")
         if end - j > 40:
             bad.append(f"{path}:{i + 1}: {m.group(3)} has {end - j} lines")
-        if path.split(os.sep)[1] not in PROGRAMS and not lines[i - 1 - (lines[i - 1] == "#[no_mangle]")].strip().startswith("//"):
+        above = i - 1
+        while lines[above].strip().startswith("#["):
+            above -= 1
+        if path.split(os.sep)[1] not in PROGRAMS and not lines[above].strip().startswith("//"):
             bad.append(f"{path}:{i + 1}: {m.group(3)} has no line that says which function of the Rust it is, or why it is there")
         if m.group(2) and m.group(2).startswith("pub "):
             count += 1

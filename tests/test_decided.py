@@ -7,8 +7,8 @@ os.chdir(os.path.join(os.path.dirname(os.path.abspath(__file__)), ".."))
 
 def plain(text):
     """An equation with lent things at the call by their names, at the return as MEMORY and LENT; without module names."""
-    for old, new in [(r"now \((?:buf|out|table) \.exit\)", "MEMORY"), (r"now \((?:d|e|self|bytes) \.exit\)", "LENT"), (r"(?:now|handed) \((\w+) \.entry\)", r"\1"), (r"\b(\w+) \.(?:entry|bytes)", r"\1"), (r"\b(?:now|handed) r\b", "r"), (r"\br \.memory", "MEMORY"),
-                     (r"\br(?: \.answer)? \.lent", "LENT"), (r"\br \.answer(?: \.answer)?", "r"), (r"\b[A-Z]\w*\.(?=\w)", ""), (r"\((\w+)\)", r"\1"), (r"\((\w+)\)", r"\1")]:
+    for old, new in [(r"\b(?:buf|out|table)\.new\b", "MEMORY"), (r"\b(?:d|e|self|bytes)\.new\b", "LENT"), (r"\bhanded (\w+)\.entry\b", r"\1"), (r"\b(\w+)\.(?:old|now|entry|bytes)\b", r"\1"), (r"\b(?:handed )?result\b", "r"), (r"\br\.memory\b", "MEMORY"),
+                     (r"\br(?:\.answer)?\.lent\b", "LENT"), (r"\br\.answer(?:\.answer)?\b", "r"), (r"\b[A-Z]\w*\.(?=\w)", ""), (r"\((\w+)\)", r"\1"), (r"\((\w+)\)", r"\1")]:
         text = re.sub(old, new, text)
     return " ".join(text.split())
 
@@ -17,16 +17,16 @@ def outcome(takes, gives, ensures):
     """An export's outcome: its number with all that it may write beside it, the last outermost; the type, and the equation over it."""
     lent = re.findall(r"(\w+): &(?:'\w+ )?mut (\[[^]]*\]|\w+)", " ".join(takes.split()))
     if not gives:  # a call without a number has one thing to write
-        return "List ℕ", ensures.replace(f"now ({lent[0][0]} .exit)", "r")
-    kind, said = "ℕ", ensures.replace("reply r ", f"reply (r{' .answer' * len(lent)}) ")
+        return "List ℕ", ensures.replace(f"{lent[0][0]}.new", "r")
+    kind, said = "ℕ", ensures.replace("reply result ", f"reply r{'.answer' * len(lent)} ")
     for i, (name, of) in enumerate(lent):
         kind = f"Beside {kind if i == 0 else f'({kind})'} {'ℕ' if of in ('usize', 'u8') else '(List ℕ)'}"
-        said = said.replace(f"now ({name} .exit)", f"r{' .answer' * (len(lent) - 1 - i)} .lent")
-    return kind, re.sub(r"\(now \((\w+) \.entry\)\)", r"\1", said)
+        said = re.sub(rf"\b{name}\.new\b", f"r{'.answer' * (len(lent) - 1 - i)}.lent", said)
+    return kind, re.sub(r"\b(\w+)\.(?:old|now)\b", r"\1", said)
 
 
 bad, seen = [], 0
-FN = re.compile(r'^\s*pub (?:extern "C" )?fn (\w+)(?:<.*?>)?\((.*?)\)(?: -> \S.*?)?\n\s*ensures \{ λ r\. ⌜ (.*?) ⌝ \}', re.M | re.S)
+FN = re.compile(r'^\s*pub (?:extern "C" )?fn (\w+)(?:<.*?>)?\((.*?)\)(?: -> \S.*?)?\n\s*ensures \{ (.*?) \}$', re.M | re.S)
 
 
 raw = {}  # the equations of the lines as they are written
@@ -38,7 +38,7 @@ def lines(crate):
     if crate == "marks" or not os.path.isfile(path):
         return {}
     text = re.sub(r"\n {4,}", " ", open(path, encoding="utf-8").read().split("pub record Decided ")[1])
-    found = re.findall(r"^  pub ([\w-]+) : (.*?)One \(λ \(r : (.*?)\)\. (.*)\)$", text, re.M)
+    found = re.findall(r"^  pub (\w+) : (.*?)One \(λ \(r : (.*?)\)\. (.*)\)$", text, re.M)
     if len(found) != len(re.findall(r"^  pub ", text, re.M)):
         bad.append(f"{path}: a line of another form")
     raw.update({name: said for name, _, _, said in found})
@@ -53,7 +53,7 @@ def held(crate, paths):
         if len(FN.findall(text)) != len(re.findall(r'^\s*pub (?:extern "C" )?fn ', text, re.M)):
             bad.append(f"{path}: a public function with no equation")
         for name, takes, ensures in FN.findall(text):
-            key = name.replace("_", "-")
+            key = name if name in left else name + "_claim"  # where the definition that the line cites has the function's name
             if key not in left:
                 bad.append(f"{path}: {name} has no line in the crate's Decided")
                 continue
@@ -70,7 +70,7 @@ def held(crate, paths):
             memory, kept = re.search(r"&mut \[u(?:8|32)\]", takes.replace("bytes: &mut [u8]", "")) is not None, re.search(r"&mut (?:Decoder|Encoder|self)|bytes: &mut", takes)
             if memory != ("With" in answer) or bool(kept) != ("Beside" in answer):
                 bad.append(f"{crate}: what {name} changes is not beside its answer")
-            if re.search(r"fn %s\b[^{]*? -> &" % name, text) and not (ensures.startswith("handed r ≡ partAt (handed (") and answer == "LentPart"):
+            if re.search(r"fn %s\b[^{]*? -> &" % name, text) and not (ensures.startswith("handed result ≡ part_at (handed ") and answer == "LentPart"):
                 bad.append(f"{crate}: {name} hands back a part, and its place is not decided")
             if said != plain(ensures):
                 bad.append(f"{crate}: {key} says `{said}`, and the contract `{plain(ensures)}`")
@@ -82,7 +82,7 @@ joined = open("crates/marks/specs/Decided.antt", encoding="utf-8").read().split(
 for crate in sorted(os.listdir("crates")):
     count = len(list(held(crate, sorted(glob.glob(f"crates/{crate}/src/**/*.rt", recursive=True)))))
     seen += count
-    name = re.search(rf"^use Rattle·{crate}\.specs\.Decided as (\w+)$", joined[0], re.M)
+    name = re.search(rf"^use Rattle\.{crate}\.specs\.Decided as (\w+)$", joined[0], re.M)
     if crate != "bench" and bool(count) != bool(name and f" : {name.group(1)}.Decided\n" in joined[1]):
         bad.append(f"{crate}: marks does not join its Decided")
     if name and count and ("pub record Views " in open(f"crates/{crate}/specs/Decided.antt", encoding="utf-8").read()) != (f" : {name.group(1)}.Views\n" in joined[0]):
@@ -90,7 +90,7 @@ for crate in sorted(os.listdir("crates")):
 if re.search(r"^marks:.*\bbench\b", open("crates.txt", encoding="utf-8").read(), re.M):
     bad.append("crates.txt: marks stands on bench")
 # ---- the definitions that are meant, by what a file imports
-WORD = re.compile(r"(?<![.\w])(?:([A-Z]\w*)\.)?([a-zA-Z][\w?′-]*)(?![\w?′-]| =)")  # a projection or the name of a field is none
+WORD = re.compile(r"(?<![.\w])(?:([A-Z]\w*)\.)?([a-zA-Z][\w?']*)(?![\w?']| =)")  # a projection or the name of a field is none
 
 
 def read(path):
@@ -98,10 +98,9 @@ def read(path):
 
 
 def imported(text):
-    """What a name means in a file: the module that defines it, and its name there. A module's short name ends in a dot. `Rattle·decoder·specs` is the crate's own name for `Rattle·decoder`."""
+    """What a name means in a file: the module that defines it, and its name there. A module's short name ends in a dot."""
     names = {}
     for path, given, short in re.findall(r"^(?:ghost )?use ([^\s{;]+?)(?:\.\{([^}]*)\})?(?: as (\w+))?;?$", text, re.M):
-        path = path.replace("·specs.", ".", 1)
         names.update({other or name: (path, name) for name, _, other in (i.partition(" as ") for i in given.split(", ") if i)})
         names.update({short + ".": (path, "")} if short else {})
     return names
@@ -130,20 +129,20 @@ CONTRACTS = list(contracts())
 for crate, _, name, cited, ensures in CONTRACTS:
     path = f"crates/{crate}/specs/Decided.antt"
     text = read(path) if os.path.isfile(path) else ""
-    line = re.search(r"^  pub %s : .*?One \(λ \(r : .*?\)\. (.*?)\)$" % name.replace("_", "-"), re.sub(r"\n {4,}", " ", text.split("pub record Decided ")[-1]), re.M)
+    line = re.search(r"^  pub %s(?:_claim)? : .*?One \(λ \(r : .*?\)\. (.*?)\)$" % name, re.sub(r"\n {4,}", " ", text.split("pub record Decided ")[-1]), re.M)
     if not line:
         continue  # said above
     decided, words = meant(imported(text), line.group(1)), {w for _, w in WORD.findall(plain(ensures))}
     for w in sorted(words):
         if cited.get(w) != decided.get(w):
             bad.append(f"{crate}: {w} of {name}'s contract is of {cited.get(w, ['no import'])[0]}, and that of its line in Decided of {decided.get(w, ['no import'])[0]}")
-    if not [w for w in words if w in cited and cited[w][0].startswith("Rattle·")]:
+    if not [w for w in words if w in cited and re.match(r"Rattle\.(?!std\.)", cited[w][0])]:
         bad.append(f"{crate}: the contract of {name} names no definition of specs/")
 
 
 # ---- from a claim to the code
 def module(path):
-    return re.sub(r"^crates/(\w+)/specs/(\w+)\.antt$", r"Rattle·\1.specs.\2", path)
+    return re.sub(r"^crates/(\w+)/specs/(\w+)\.antt$", r"Rattle.\1.specs.\2", path)
 
 
 def made_of(path, said, seen):
@@ -152,7 +151,7 @@ def made_of(path, said, seen):
     names, found = imported(text), set()
     own = {n: (module(path), n) for n in re.findall(r"^([a-z]\w*)\b[^\n:]* =", text, re.M)}
     for target in meant({**names, **own}, said).values():
-        file = re.sub(r"^Rattle·(\w+)\.specs\.(\w+)$", r"crates/\1/specs/\2.antt", target[0])
+        file = re.sub(r"^Rattle\.(\w+)\.specs\.(\w+)$", r"crates/\1/specs/\2.antt", target[0])
         if target in seen or not os.path.isfile(file) or target[1] == "after":
             continue
         seen.add(target)

@@ -1,13 +1,15 @@
-"""Each wrong reading is a must-fail edit, or a theorem of a crate's proofs/Wrong.antt that has its name, and is told in docs/WRONG-READINGS.md in four lines and named in docs/STATEMENTS.md. The prover refused each edit at a fact and not at a shape: where the edits were tried (target/must-fail), and always in the gate, each has its log. A theorem rules out an outcome of the equation that a public function's contract has, or a fake of a claim that marks, places or written makes, or a claim that a part of Marks says is false of ours: its last premise is that; each premise before it speaks of a variable of the theorem, and whether they can all hold is for the reader to see. Each public function has two of them at least."""
+"""Each wrong reading is a must-fail edit, or a theorem of a crate's proofs/Wrong.antt that has its name, and is told in docs/WRONG-READINGS.md in four lines and named in docs/STATEMENTS.md. The prover refused each edit at a fact and not at a shape: where the edits were tried (target/ci.log, what the last gate's prover said), and always in the gate, each has its line. A theorem rules out an outcome of the equation that a public function's contract has, or a fake of a claim that marks, places or written makes, or a claim that a part of Marks says is false of ours: its last premise is that; each premise before it speaks of a variable of the theorem, and whether they can all hold is for the reader to see. Each public function has two of them at least."""
 import glob, os, re, sys
 
 os.chdir(os.path.join(os.path.dirname(os.path.abspath(__file__)), ".."))
 told = open("docs/WRONG-READINGS.md", encoding="utf-8").read()
 mapped = open("docs/STATEMENTS.md", encoding="utf-8").read()
-# where the first error says one of these, only the proof's shape or its caller broke
-SHAPE = ["can be named from here", "`close` was not admitted", "was not admitted (it has holes"]
+# where the first error says one of these, only the proof's shape or its caller broke, or the prover came to no verdict
+SHAPE = ["can be named from here", "was not admitted", "only because a proof file names what the edit took away", "only by a limit of the prover"]
 bad, labels, logs = [], set(), 0
-tried = "GATE" in os.environ or os.path.isdir("target/must-fail")
+tried = "GATE" in os.environ or os.path.isfile("target/ci.log")
+log = open("target/ci.log", encoding="utf-8", errors="replace").read() if os.path.isfile("target/ci.log") else ""
+verdicts = dict(re.findall(r"^rt: must-fail (\w+/\w+)\.edit: (.*)$", log, re.M))
 for edit in sorted(glob.glob("crates/*/must-fail/*.edit")):
     crate, label = edit.split(os.sep)[1], os.path.basename(edit)[:-5]
     if label in labels:
@@ -27,20 +29,20 @@ for edit in sorted(glob.glob("crates/*/must-fail/*.edit")):
         bad.append(f"{label}: docs/WRONG-READINGS.md does not tell it in four lines")
     if f"`{label}`" not in mapped:
         bad.append(f"{label}: docs/STATEMENTS.md does not say which wrong program it is")
-    log = os.path.join("target/must-fail", crate, label, ".log")
-    if os.path.isfile(log):
+    said = verdicts.get(f"{crate}/{label}")
+    if said is not None:
         logs += 1
-        first = re.search(r"^.*: error: .*$", open(log, encoding="utf-8", errors="replace").read(), re.M)
-        if not first:
-            bad.append(f"{label}: the prover's log has no error")
-        elif any(s in first.group(0) for s in SHAPE):
-            bad.append(f"{label}: refused at a shape: {first.group(0)[:200]}")
+        first = said.partition("refused, as it must be")[2]
+        if not first.strip(": "):
+            bad.append(f"{label}: the prover's log has no error: {said[:200]}")
+        elif any(s in first for s in SHAPE):
+            bad.append(f"{label}: refused at a shape: {first[:200]}")
     elif tried:
-        bad.append(f"{label}: {log} is missing")
+        bad.append(f"{label}: target/ci.log has no line of it")
 
 
 def term(text):
-    """An expression as nested lists: what stands in brackets is one list."""
+    """An expression as nested lists: what stands in brackets is one list, and so is x.f of a name x."""
     stack = [[]]
     for word in re.findall(r"[(){};=]|[^\s(){};=]+", text):
         if word in "({":
@@ -48,6 +50,8 @@ def term(text):
         elif word in ")}":
             part = stack.pop()
             stack[-1].append(part[0] if word == ")" and len(part) == 1 else part)
+        elif re.fullmatch(r"[a-z][\w']*(\.\w+)+", word):
+            stack[-1].append(re.findall(r"^[\w']+|\.\w+", word))
         else:
             stack[-1].append(word)
     return stack[0]
@@ -67,8 +71,8 @@ def whole(side):
 def promises(crate):
     """The equations of the crate's public functions: two sides, and the names for which anything may stand: parameters, answer, what is lent."""
     for path in glob.glob(f"crates/{crate}/src/*.rt"):
-        for takes, said in re.findall(r'^\s*pub (?:extern "C" )?fn \w+(?:<.*?>)?\((.*?)\)(?: -> \S.*?)?\n\s*ensures \{ λ r\. ⌜ (.*?) ⌝ \}', open(path, encoding="utf-8").read(), re.M | re.S):
-            for old, new in [(r"now \((\w+) \.exit\)", r"\1_left"), (r"now \((\w+) \.entry\)", r"\1"), (r"handed \((\w+) \.entry\)", r"\1_part"), (r"\bhanded r\b", "r"), (r"(\w+) \.entry", r"\1"), (r"\br \.(\w+)", r"r_\1")]:
+        for takes, said in re.findall(r'^\s*pub (?:extern "C" )?fn \w+(?:<.*?>)?\((.*?)\)(?: -> \S.*?)?\n\s*ensures \{ (.*?) \}$', open(path, encoding="utf-8").read(), re.M | re.S):
+            for old, new in [(r"\b(\w+)\.new\b", r"\1_left"), (r"\bhanded (\w+)\.entry\b", r"\1_part"), (r"\b(\w+)\.(?:old|now|entry)\b", r"\1"), (r"\bhanded result\b", "r"), (r"\bresult\.(\w+)", r"r_\1"), (r"\bresult\b", "r")]:
                 said = re.sub(old, new, said)
             names = set(re.findall(r"(\w+)(?=:)", takes)) | set(re.findall(r"\bself\b", takes)) | set(re.findall(r"\b(?:\w+_left|\w+_part|r_\w+|r)\b", said))
             if said.count("≡") == 1:

@@ -4,16 +4,16 @@ import glob, os, re, sys
 os.chdir(os.path.join(os.path.dirname(os.path.abspath(__file__)), ".."))
 KINDS = ["rule", "view", "claim", "check", "cut"]
 # what is refused, 1 to 16 of document 01 and 17 to 24 of document 02
-NUMBERS = """payloadTooLong encodeOutOfMemory decoderOutOfMemory badState wrongBuffer discardedBytes invalidEsc invalidMessage
-inputTooLong unexpectedEof invalidTlf tlfMismatch unexpectedVariant crcMismatch msgEndMismatch badSpan
-wrongNumber outputTooShort tooDeep tooManyEntries cutShort badNumber unknownVersion hiddenRow""".split()
+NUMBERS = """payload_too_long encode_out_of_memory decoder_out_of_memory bad_state wrong_buffer discarded_bytes invalid_esc invalid_message
+input_too_long unexpected_eof invalid_tlf tlf_mismatch unexpected_variant crc_mismatch msg_end_mismatch bad_span
+wrong_number output_too_short too_deep too_many_entries cut_short bad_number unknown_version hidden_row""".split()
 WORD = re.compile(r"(?:[A-Za-z]\w*\.)?[^\s(){}.;,«»\[\]]+")
 bad = []
 
 
 def module(path):
     """The file that a module's name means, or None for one that isn't of specs/."""
-    m = re.match(r"Rattle·(\w+)(?:·specs)?\.specs\.([A-Z]\w*)$", path)
+    m = re.match(r"Rattle\.(?!std\.)(\w+)\.specs\.([A-Z]\w*)$", path)
     return f"{m.group(1)}/{m.group(2)}" if m else None
 
 
@@ -62,16 +62,17 @@ for path in sorted(glob.glob("crates/*/specs/*.antt")):
 
 
 def meant(text, names, whole, own=None):
-    """The definitions that a piece of text names."""
-    for word in WORD.findall(text):
-        head, _, name = word.partition(".")
-        target = (whole[head], name) if name and head in whole else names.get(word)
-        if own and word in files[own][1][0]:
-            target = (own, word)
-        elif own and word in files[own][1][1]:
-            target = (own, files[own][1][1][word])
-        if target and target[0] in files:
-            yield target[0], files[target[0]][1][1].get(target[1], target[1])
+    """The definitions that a piece of text names. In `r.f` both words count, as they do apart."""
+    for said in WORD.findall(text):
+        head, _, name = said.partition(".")
+        for word in [said] if not name or head in whole else [head, name]:
+            target = (whole[head], name) if name and head in whole else names.get(word)
+            if own and word in files[own][1][0]:
+                target = (own, word)
+            elif own and word in files[own][1][1]:
+                target = (own, files[own][1][1][word])
+            if target and target[0] in files:
+                yield target[0], files[target[0]][1][1].get(target[1], target[1])
 
 
 def reached(start, but=""):
@@ -85,7 +86,7 @@ def reached(start, but=""):
     return seen
 
 
-FN = re.compile(r'^\s*pub (?:extern "C" )?fn (\w+)[^{]*?\n\s*ensures \{ λ r\. ⌜ (.*?) ⌝ \}', re.M | re.S)
+FN = re.compile(r'^\s*pub (?:extern "C" )?fn (\w+)[^{]*?\n\s*ensures \{ (.*?) \}$', re.M | re.S)
 contracts, everywhere, cited = 0, set(), set()  # cited: what private functions have, a view of their answers as well
 for path in sorted(glob.glob("crates/*/src/**/*.rt", recursive=True)):
     text = open(path, encoding="utf-8").read()
@@ -105,9 +106,9 @@ for file in sorted(f for f in files if kind[f] in ("rule", "view")):
     named = everywhere | marks | claims | (cited if kind[file] == "view" else set())
     unused = [n for n in files[file][1][0] if (file, n) not in named]
     if file == "refusals/Numbers":  # document 02's numbers have their names before they have their functions
-        given = {n: int(v) for n, v in re.findall(r"^(\w+No) = (\d+)$", "\n".join(files[file][1][0].values()), re.M)}
-        bad += [f"{file}: {n}No should be {k}" for k, n in enumerate(NUMBERS, 1) if given.get(n + "No") != k] + [f"{file}: {n} is no number of the documents" for n in given if n[:-2] not in NUMBERS]
-        waiting = [n for n in unused if n[:-2] in NUMBERS[16:]]
+        given = {n: int(v) for n, v in re.findall(r"^(\w+_no) = (\d+)$", "\n".join(files[file][1][0].values()), re.M)}
+        bad += [f"{file}: {n}_no should be {k}" for k, n in enumerate(NUMBERS, 1) if given.get(n + "_no") != k] + [f"{file}: {n} is no number of the documents" for n in given if n[:-3] not in NUMBERS]
+        waiting = [n for n in unused if n[:-3] in NUMBERS[16:]]
         unused = [n for n in unused if n not in waiting]
     bad += [f"{file}: nothing rests on {n}" for n in unused]
 

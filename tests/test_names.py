@@ -3,9 +3,9 @@ import collections, glob, os, re, sys
 
 os.chdir(os.path.join(os.path.dirname(os.path.abspath(__file__)), ".."))
 EVERYWHERE = {"Decided", "Views", "decided", "views"}
-found, private, bad = collections.defaultdict(set), collections.defaultdict(set), []
+found, private, defined, bad = collections.defaultdict(set), collections.defaultdict(set), set(), []
 for path in sorted(glob.glob("crates/*/specs/**/*.antt", recursive=True) + glob.glob("crates/*/proofs/**/*.antt", recursive=True)):
-    if os.path.basename(path) == "Proof.antt":  # a function's own theorem, named after it
+    if re.search(r"/proofs/.*/(Invariants|Answers|Proof)\.antt$", path):  # what is proved of one function, named after it and its goals
         continue
     of = module = None  # the data type whose constructors follow, and whether laws of a module do
     for line in open(path, encoding="utf-8"):
@@ -16,6 +16,8 @@ for path in sorted(glob.glob("crates/*/specs/**/*.antt", recursive=True) + glob.
         law = re.match(r"  +pub ([^\s:({]+) : ", line) if module else None
         if top and (top.group(1) or top.group(2)):
             found[top.group(3)].add(path)
+            if "/specs/" in path or top.group(1).strip() != "pub" or top.group(2):
+                defined.add(top.group(3))
         elif law:
             found[law.group(1)].add(path)
         elif constructor:
@@ -27,14 +29,15 @@ for name, paths in sorted(found.items()):
     if len(paths) > 1 and name not in EVERYWHERE:
         bad.append(f"{name}: {', '.join(sorted(paths))}")
 
-# the name in the code's letters, and in those of the definitions
+# the code and the definitions write names alike, but for two whose name is a parameter's or a field's in the definition's own file
+APART = {"is_within": "span_within", "look_up": "look_up_in"}
 FN = re.compile(r"^\s*(?:pub )?fn (\w+)[^{]*?\n((?:\s*(?:requires|ensures) \{.*\}\n)+)", re.M)
 functions = 0
 for path in sorted(glob.glob("crates/*/src/lib.rt")):
     for name, said in FN.findall(open(path, encoding="utf-8").read()):
         functions += 1
-        defined = re.sub(r"_(\w)", lambda m: m.group(1).upper(), name)
-        if any("(" not in p for p in found.get(defined, ())) and not re.search(r"(?<![\w.])%s(?!\w)" % re.escape(defined), said):
+        one = APART.get(name, name)
+        if one in defined and not re.search(r"(?<![\w.])%s(?!\w)" % re.escape(one), said):
             bad.append(f"{path}: {name} has the name of a definition that its contract does not cite")
 print("\n".join(bad))
 print(f"{len(found)} names, {functions} functions, {len(bad)} faults")

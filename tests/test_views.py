@@ -8,9 +8,9 @@ os.chdir(os.path.join(os.path.dirname(os.path.abspath(__file__)), ".."))
 ANSWERS = ["event", "count"]
 # document 01's words for what a decoder's record holds and a refusal's values are; the definitions that tie the record to the state
 WORDS = {"stored": "fill", "reg": "crc", "idx": "crc_idx", "raw": "raw_msg_len", "read": "read_crc", "computed": "calculated_crc", "p": "num_padding_bytes"}
-STATE = ["memOf", "setup", "recordWith"]
+STATE = ["mem_of", "setup", "record_with"]
 # a view that writes no record out, but goes through the cases of one field, which are read as such
-BY_CASES = ["faultOf"]
+BY_CASES = ["fault_of"]
 bad, fields, cases, literals = [], 0, 0, 0
 
 
@@ -28,13 +28,17 @@ def declared():
 
 
 def term(text):
-    """Words, and what stands in brackets as a list that begins with its bracket; «client_id» is client_id."""
+    """Words, and what stands in brackets as a list that begins with its bracket; «data» is data, and r.f is the list of (r .f)."""
     stack = [[]]
     for word in re.findall(r"[(){};=]|[^\s(){};=]+", re.sub(r"[«»]", "", text)):
         if word in "({":
             stack.append([word])
         elif word in ")}":
             stack[-2].append(stack.pop())
+        elif re.match(r"\.\w", word):  # fields of what stands in the brackets before
+            stack[-1].append(["(", stack[-1].pop(), *re.findall(r"\.\w+", word)])
+        elif re.fullmatch(r"[a-z][\w']*(\.\w+)+", word):
+            stack[-1].append(["(", *re.findall(r"^[\w']+|\.\w+", word)])
         else:
             stack[-1].append(word)
     return stack[0]
@@ -75,8 +79,8 @@ class File:
         self.path, self.text = path, re.sub(r"--.*", "", open(path, encoding="utf-8").read())
         self.is_view = open(path, encoding="utf-8").readline().startswith("-- view:")
         self.types, self.cases, self.imports = {}, {}, {}
-        for where, given, short in re.findall(r"^use (Rattle·[^\s{]+?)(?:\.\{([^}]*)\})?(?: as (\w+))?$", self.text, re.M):
-            crate, inner = re.match(r"Rattle·(\w+?)(?:·specs)?\.specs\.(.*)", where).groups()
+        for where, given, short in re.findall(r"^use (Rattle\.(?!std\.)[^\s{]+?)(?:\.\{([^}]*)\})?(?: as (\w+))?$", self.text, re.M):
+            crate, inner = re.match(r"Rattle\.(\w+)\.specs\.(.*)", where).groups()
             parts, items = inner.split("."), [i.partition(" as ") for i in given.split(", ") if i]
             if parts[0] != "declared":
                 self.imports.update({other or name: (crate, parts[0], name) for name, _, other in items})
@@ -159,8 +163,8 @@ def of_enum(file, name):
                 bad.append(f"{file.path}: {name} binds {case[2]}'s {', '.join(names)} as {', '.join(map(str, bound))}")
             if [w for w in said if w in bound] != bound:
                 bad.append(f"{file.path}: {name} does not give the values of {case[2]} once, in their order")
-            for no in [w for w in said if re.fullmatch(r"\w+No", w)]:
-                if not no[:-2].lower().endswith(case[2].lower()):
+            for no in [w for w in said if re.fullmatch(r"\w+_no", w)]:
+                if not no[:-3].replace("_", "").endswith(case[2].lower()):
                     bad.append(f"{file.path}: {name} gives {case[2]} the number {no}")
             bits = re.fullmatch(r"[A-Z][a-z]*(8|16|32|64)", case[2])
             if bits and str(int(bits.group(1)) // 8) not in said:

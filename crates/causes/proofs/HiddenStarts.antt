@@ -1,6 +1,6 @@
 -- Hidden is named exactly if it should be.
 use mathlib.Core.Path.{◌≡◌, refl, ap, sym, ◌∙◌, subst}
-use mathlib.Core.Bool.{true, false, false≢true}
+use mathlib.Core.Bool.{false≢true}
 use mathlib.Core.List.{List, [], ◌∷◌, ◌++◌, append_assoc, append-nil}
 use Prim.Native.Nat.{ℕ}
 use lib.ListN.{replicate, drop}
@@ -13,8 +13,9 @@ use Rattle.decoder.specs.declared.DecodeState.TheVariants.{LookingForMessageStar
 use Rattle.decoder.specs.declared.Decoder.{Decoder}
 use Rattle.decoder.proofs.Search.{known_is}
 use Rattle.since.specs.Bytes.{since_from}
-use Rattle.since.proofs.Counts.{record_reads}
-use Rattle.since.specs.Since.{frame_head, none_for_data, none_behind_escape}
+use Rattle.since.proofs.CountsExactly.{record_reads}
+use Rattle.since.specs.Since.{frame_head}
+use Rattle.since.specs.Exactly.{none_for_data, none_behind_escape}
 use Rattle.losses.specs.Loss.{begins_in_start}
 use Rattle.losses.specs.declared.Cause.{Cause}
 use Rattle.losses.proofs.Starts.{begins_true, begins_start}
