@@ -137,7 +137,7 @@ def copied(copy):
 
 def tried(copy, name, given):
     """What a program of the copy writes, or a line that says why it stops."""
-    run = subprocess.run(["rt", "try", name], cwd=copy, input=given, capture_output=True)
+    run = subprocess.run(["rt", "try"], cwd=os.path.join(copy, "crates", name), input=given, capture_output=True)
     said = run.stderr.decode(errors="replace")
     stop = re.search(r"^\w+: fault kind=\S+ in=(\S+?)(?: at=\S+)?: (.*?)(?:, called from .*)?$", said, re.M)
     if run.returncode == 4 and stop:
