@@ -48,7 +48,7 @@ with ThreadPoolExecutor(int(os.environ.get("RT_JOBS") or min(4, os.cpu_count() o
         held(f"{name}, the edited code, {lines[name][0]}", got, lines[name][2])
     held("an edit that changes nothing", equal.result(), SAME)
 bad += [f"{name}: of the sample, and can't be run" for name in SAMPLE if name not in runs]
-if f"runs all {len(runs)} edits of code: " not in page:
+if f"runs all {len(runs)} edits of code " not in page:
     bad.append(f"docs/WRONG-READINGS.md: the figure of --all is not that of {len(runs)} edits of code")
 for asked_for, name in SHOWN.items():
     said = subprocess.run([os.path.join(wrong_answers.ROOT, "bin/wrong"), asked_for], capture_output=True, text=True)
