@@ -1,4 +1,4 @@
-// For the static library: what bench/run counts the instructions of.
+// What bench/run counts the instructions of, through the exports of crate bench_c.
 #![tactic(auto)]
 
 ghost use Rattle.std.specs.Prelude.{◌≡◌, [], ◌<◌, ◌≤◌, length};
@@ -45,8 +45,7 @@ fn one_payload(e: Event) -> u64
 }
 
 // The payloads in `src`, by single pushes.
-#[unsafe(no_mangle)]
-pub extern "C" fn bench_push(src: &[u8], buf: &mut [u8]) -> u64
+pub fn bench_push(src: &[u8], buf: &mut [u8]) -> u64
     ensures { counted result buf.new ≡ payloads first_way src.now buf.old }
 {
     let mut at = Decoder::new(buf.len());
@@ -96,8 +95,7 @@ fn push_slices(d: Decoder, src: &[u8], buf: &mut [u8], step: usize) -> u64
 }
 
 // The payloads in `src`, by pushes of slices of `step` bytes at most, or of all that are left for 0: how they are cut changes nothing.
-#[unsafe(no_mangle)]
-pub extern "C" fn bench_push_slice(src: &[u8], buf: &mut [u8], step: usize) -> u64
+pub fn bench_push_slice(src: &[u8], buf: &mut [u8], step: usize) -> u64
     ensures { counted result buf.new ≡ payloads first_way src.now buf.old }
 {
     let d = Decoder::new(buf.len());
@@ -105,8 +103,7 @@ pub extern "C" fn bench_push_slice(src: &[u8], buf: &mut [u8], step: usize) -> u
 }
 
 // The same in the second way of searching.
-#[unsafe(no_mangle)]
-pub extern "C" fn bench_push_slice_second(src: &[u8], buf: &mut [u8], step: usize) -> u64
+pub fn bench_push_slice_second(src: &[u8], buf: &mut [u8], step: usize) -> u64
     ensures { counted result buf.new ≡ payloads second_way src.now buf.old }
 {
     let d = Decoder::with_way(buf.len(), Decoder::SECOND_WAY);
@@ -114,16 +111,14 @@ pub extern "C" fn bench_push_slice_second(src: &[u8], buf: &mut [u8], step: usiz
 }
 
 // A new decoder of this capacity, packed into `bytes`, for bench_packed.
-#[unsafe(no_mangle)]
-pub extern "C" fn bench_pack(bytes: &mut [u8], capacity: usize)
+pub fn bench_pack(bytes: &mut [u8], capacity: usize)
     ensures { bytes.new ≡ (pack_into (new_record (sized capacity)) bytes.old).output }
 {
     packed::pack(Decoder::new(capacity), bytes);
 }
 
 // One push of a slice over the bytes of a decoder: how many bytes it took.
-#[unsafe(no_mangle)]
-pub extern "C" fn bench_packed(bytes: &mut [u8], buf: &mut [u8], chunk: &[u8]) -> usize
+pub fn bench_packed(bytes: &mut [u8], buf: &mut [u8], chunk: &[u8]) -> usize
     ensures { took_in result bytes.new buf.new ≡ took_over bytes.old buf.old chunk.now }
 {
     let t = packed::push_slice_packed(bytes, buf, chunk);
@@ -142,8 +137,7 @@ fn frame_length(r: Encoded) -> u64
 }
 
 // The length of the payload's frame, which goes to `out`.
-#[unsafe(no_mangle)]
-pub extern "C" fn bench_encode(payload: &[u8], out: &mut [u8]) -> u64
+pub fn bench_encode(payload: &[u8], out: &mut [u8]) -> u64
     ensures { counted result out.new ≡ encoded payload.now out.old }
 {
     let r = encoder::encode(payload, out);
@@ -197,8 +191,7 @@ fn sum_given(payload: &[u8]) -> u64
 }
 
 // The sum of the bytes of the payload's frame, by an Encoder.
-#[unsafe(no_mangle)]
-pub extern "C" fn bench_stream(payload: &[u8]) -> u64
+pub fn bench_stream(payload: &[u8]) -> u64
     ensures { result ≡ streamed payload.now }
 {
     if refusals::LIMIT < payload.len() {
@@ -221,8 +214,7 @@ fn is_event(answer: Answer) -> bool
 }
 
 // The events of `input`, up to the first call that brings none.
-#[unsafe(no_mangle)]
-pub extern "C" fn bench_events(input: &[u8]) -> u64
+pub fn bench_events(input: &[u8]) -> u64
     ensures { result ≡ events input.now }
 {
     let mut place = 0;
@@ -244,16 +236,14 @@ pub extern "C" fn bench_events(input: &[u8]) -> u64
 }
 
 // The check value of `src`.
-#[unsafe(no_mangle)]
-pub extern "C" fn bench_crc(src: &[u8]) -> u64
+pub fn bench_crc(src: &[u8]) -> u64
     ensures { result ≡ crc_of src.now }
 {
     crc_x25::checksum(src) as u64
 }
 
 // The check value of `src`, a byte a call.
-#[unsafe(no_mangle)]
-pub extern "C" fn bench_crc_byte(src: &[u8]) -> u64
+pub fn bench_crc_byte(src: &[u8]) -> u64
     ensures { result ≡ crc_of src.now }
 {
     let mut reg = crc_x25::digest();
@@ -288,8 +278,7 @@ fn write_again(input: &[u8], out: &mut [u8], entry: ListEntry, count: u32) -> u6
 }
 
 // The entry at the input's start, written so many times.
-#[unsafe(no_mangle)]
-pub extern "C" fn bench_write(input: &[u8], out: &mut [u8], count: u32) -> u64
+pub fn bench_write(input: &[u8], out: &mut [u8], count: u32) -> u64
     ensures { counted result out.new ≡ writes_of_entry (entry_at input.now 0) out.old count input.now }
 {
     match common::parse_list_entry(input, 0) {

@@ -2,7 +2,6 @@
 use Rattle.std.specs.Prelude.{ℕ, ◌≡◌, List, [], ◌∷◌, ◌++◌}
 use Rattle.refusals.specs.Numbers.{bad_span_no, too_many_entries_no}
 use Rattle.refusals.specs.Read.{eof, wrong_end}
-use Rattle.whole.specs.Whole.{EntryRow}
 use Rattle.one_call.specs.Bench.{close_input, old}
 use Rattle.index.specs.Index.{index_is, index_broken, index_refused, FoundSaid, found_row, found_none, look_refused}
 use Rattle.index.specs.Answers.{after_index}

@@ -1,8 +1,8 @@
 -- check: indexes that are wrong in one way each, in what is built or in what is looked up; a claim is false of each.
-use Rattle.std.specs.Prelude.{ℕ, ◌+◌, ◌*◌, ◌/◌, ◌%◌, Bool, true, false, cond, not, ◌&&◌, List, [], ◌∷◌, ◌++◌, map, reverse, ◌≡◌, length, take, drop, replicate, eqb, ltb, leb}
+use Rattle.std.specs.Prelude.{ℕ, ◌+◌, ◌*◌, ◌/◌, ◌%◌, Bool, true, false, cond, not, ◌&&◌, List, [], ◌∷◌, ◌++◌, map, reverse, ◌≡◌, length, take, drop, eqb, ltb, leb}
 use Rattle.std.proofs.Math.Option.{Option}
 use Rattle.refusals.specs.Numbers.{input_too_long_no, bad_span_no, limit}
-use Rattle.refusals.specs.Read.{Read, got, refused, eof}
+use Rattle.refusals.specs.Read.{Read, got, refused}
 use Rattle.refusals.specs.declared.Span.{Span}
 use Rattle.common.specs.Fields.{ListEntry, entry_at}
 use Rattle.frame.specs.Frame.{same}
@@ -11,7 +11,7 @@ use Rattle.name_order.specs.Order.{lower}
 use Rattle.whole.specs.Whole.{EntryRow, flat, rows_of, WholeSaid, whole_is, broken, refused_alone, AfterWhole, read_to}
 use Rattle.one_call.specs.Readers.{WholeReader}
 use Rattle.one_call.specs.Fakes.{filled_as_far_as_it_goes}
-use Rattle.index.specs.Index.{before, sorted, index_is, index_broken, index_refused, AfterIndex, index_of, index_to, row_within, every, rising, all_rows_claim, is_table, first_with, has_name, FoundSaid, found_none, look_refused, found_said, look_up_in}
+use Rattle.index.specs.Index.{before, sorted, index_is, index_broken, index_refused, AfterIndex, index_of, index_to, row_within, every, rising, all_rows_claim, is_table, first_with, has_name, found_none, look_refused, found_said, look_up_in}
 use Rattle.index.specs.Answers.{after_index}
 use Rattle.by_name.specs.Indexes.{Indexer, Finder, our_finder, our_indexer, GoodIndexer, JudgesTables, FindsFirst, BuildsTables}
 

@@ -10,8 +10,8 @@ use Rattle.common.specs.Fields.{ListEntry}
 use Rattle.message.specs.Messages.{MessageStart, ListEnd}
 use Rattle.events.specs.Message.{Message}
 use Rattle.whole.specs.Whole.{EntryRow, whole_is, broken, refused_alone, rows_of, Fair}
-use Rattle.one_call.specs.Readers.{WholeReader, our_whole_reader, RunsTo, RowIs, GoodWholeReader}
-use Rattle.index.specs.Index.{IndexSaid, index_is, index_broken, index_refused, AfterIndex, index_to, FoundSaid, found_row, found_none, look_refused, look_up_in}
+use Rattle.one_call.specs.Readers.{WholeReader, RunsTo, RowIs, GoodWholeReader}
+use Rattle.index.specs.Index.{index_is, index_broken, index_refused, AfterIndex, index_to, FoundSaid, found_row, found_none, look_refused, look_up_in}
 use Rattle.index.specs.Answers.{after_index}
 
 -- of an input, a place and a table: what building says, and what the table holds then. Of an input, a table and a name: what a lookup says

@@ -12,9 +12,10 @@ use Rattle.decoder.specs.Record.{refusal, numbered, flag}
 use Rattle.decoder.specs.Run.{KnownWay, is_first, is_second}
 use Rattle.decoder.specs.declared.Setup.{Setup}
 use Rattle.since.specs.Bytes.{grown_since}
-use Rattle.since.specs.Since.{frame_head, ReadSince, InSearch, SoundWithin, AllBytes, EventSays, goes_on, start_found, start_inside, no_room, no_escape, no_message, frame_ends}
+use Rattle.since.specs.Since.{frame_head, InSearch, AllBytes}
+use Rattle.since.specs.Exactly.{ReadExactly, SoundWithin, SaysExactly, goes_on, start_found, start_inside, no_room, no_escape, no_message, frame_ends}
 use Rattle.since.proofs.Lists.{matched_long}
-use Rattle.since.proofs.Kept.{kept, reads_fresh}
+use Rattle.since.proofs.KeptExactly.{kept, reads_fresh}
 use Rattle.losses.specs.Loss.{begins_in_start, has_start, cause_of, piece_of, loss_at, LossSaid, lost_is, none_lost, loss_refused}
 use Rattle.losses.specs.declared.Loss.{Loss}
 use Rattle.losses.specs.declared.Cause.{Cause}
@@ -101,7 +102,7 @@ head_one : (D z : List ℕ) → 1 ≤ length (frame_head D ++ z)
 unfolding frame_head
 head_one D z = simp length-append (omega arith)
 
-pub none_read : (C : Setup) (t : State) (at : ℕ) (bytes : List ℕ) → ReadSince C [] t → next_in_state C t at [] bytes ≡ next_in_state C fresh at [] bytes
+pub none_read : (C : Setup) (t : State) (at : ℕ) (bytes : List ℕ) → ReadExactly C [] t → next_in_state C t at [] bytes ≡ next_in_state C fresh at [] bytes
 none_read C (search n noise raw) at bytes k = ap (λ (s : State). next_in_state C s at [] bytes) (fresh_none C n noise raw k)
 none_read C (body r m) at bytes k = absurd (let l : 0 ≡ length (frame_head m.stored ++ replicate r 0x1b) = ap length k.here in let z = head_one m.stored (replicate r 0x1b) in omega arith)
 none_read C (escape j m) at bytes k = absurd (let l : 0 ≡ length (frame_head k.D ++ (esc_seq ++ k.l)) = ap length (k.here ∙ append_assoc (frame_head k.D) esc_seq k.l) in let z = head_one k.D (esc_seq ++ k.l) in omega arith)
@@ -152,7 +153,7 @@ search_still : (C : Setup) (at : ℕ) (n noise raw : ℕ) → InSearch C [] n no
 unfolding next_in_state finalized
 search_still C at n noise raw k = ap (λ (s : State). next_in_state C s at [] []) (fresh_none C n noise raw k)
 
-closes_with : (C : Setup) (at : ℕ) (known : KnownWay C.way) (h : List ℕ) (s : State) → ReadSince C h s → next_in_state C fresh at [] (h ++ []) ≡ next_in_state C s at h [] → Accounts C.way C.capacity (h ++ []) at (next_in_state C s at h [])
+closes_with : (C : Setup) (at : ℕ) (known : KnownWay C.way) (h : List ℕ) (s : State) → ReadExactly C h s → next_in_state C fresh at [] (h ++ []) ≡ next_in_state C s at h [] → Accounts C.way C.capacity (h ++ []) at (next_in_state C s at h [])
 unfolding cause_of finalized
 closes_with C at known h (search n noise raw) k same' = by_length h k same'
   where
@@ -182,7 +183,7 @@ bytes_rest [] b h = h
 bytes_rest (x ∷ a) b h = bytes_rest a b h.1
 
 abbrev AccountsFrom : Setup → List ℕ → Type 0
-AccountsFrom C rest = (at : ℕ) (h : List ℕ) (s : State) → ReadSince C h s → AllBytes (h ++ rest) → next_in_state C fresh at [] (h ++ rest) ≡ next_in_state C s at h rest
+AccountsFrom C rest = (at : ℕ) (h : List ℕ) (s : State) → ReadExactly C h s → AllBytes (h ++ rest) → next_in_state C fresh at [] (h ++ rest) ≡ next_in_state C s at h rest
     → Accounts C.way C.capacity (h ++ rest) at (next_in_state C s at h rest)
 
 module _ (C : Setup) (known : KnownWay C.way) (rest : List ℕ) (ih : AccountsFrom C rest) (at : ℕ) (h : List ℕ) (b : ℕ) (s t : State)
@@ -204,7 +205,7 @@ module _ (C : Setup) (known : KnownWay C.way) (rest : List ℕ) (ih : AccountsFr
       let told : next_in_state C s at h (b ∷ rest) ≡ lost_is l = next_step_lem C s at h b rest (says t e) is ∙ rw (ans, piece) in
       rw told (lost_here C at known all w more l cut' (same' ∙ told) refl refl (rw cause n))
 
-  stepped : (e : PushEvent) → step C s b ≡ says t e → ReadSince C (grown_since (numbered e) h b) t → EventSays C g e → Accounts C.way C.capacity all at (next_in_state C s at h (b ∷ rest))
+  stepped : (e : PushEvent) → step C s b ≡ says t e → ReadExactly C (grown_since (numbered e) h b) t → SaysExactly C g e → Accounts C.way C.capacity all at (next_in_state C s at h (b ∷ rest))
   unfolding cause_of
   stepped e is r goes_on =
       let on : next_in_state C s at h (b ∷ rest) ≡ next_in_state C t at g rest = next_step_lem C s at h b rest (says t e) is in

@@ -21,8 +21,9 @@ use Rattle.decoder.proofs.States.{run_state, state_behind, act_state, answer_sta
 use Rattle.decoder.proofs.Faithful.{Fit, fit_length, fill_view, push_good, push_is_step}
 use Rattle.decoder.proofs.Runs.{acts, leads, new_fit, run_new}
 use Rattle.since.specs.Bytes.{grown_since}
-use Rattle.since.specs.Since.{frame_head, ReadSince, AllBytes, EventSays, none_for_data, none_behind_escape}
-use Rattle.since.proofs.Kept.{kept, reads_fresh}
+use Rattle.since.specs.Since.{frame_head, AllBytes}
+use Rattle.since.specs.Exactly.{ReadExactly, SaysExactly, none_for_data, none_behind_escape}
+use Rattle.since.proofs.KeptExactly.{kept, reads_fresh}
 use Rattle.losses.specs.Loss.{piece_of, loss_at, LossSaid, lost_is, none_lost, loss_refused, LossAfter, loss_after, is_refusal, hands_out, next_behind, next_loss}
 use Rattle.losses.specs.declared.Loss.{Loss}
 use Rattle.causes.specs.Causes.{Reason, is_noise, is_unfinished, is_hidden, is_cut, is_escape, is_room_claim, is_crc, is_misaligned, is_pads, TrueOf, open_in_data, open_behind_escape}
@@ -48,7 +49,7 @@ final_places at n h (payload P) e = refl
 final_places at n h (count k) e = refl
 final_places at n h (refusal k v) e = rw e
 
-module _ (C : Setup) (bytes : List ℕ) (ih : (s : State) (at : ℕ) (h : List ℕ) → ReadSince C h s → Places C s at h bytes) (at : ℕ) (h : List ℕ) (b : ℕ) where
+module _ (C : Setup) (bytes : List ℕ) (ih : (s : State) (at : ℕ) (h : List ℕ) → ReadExactly C h s → Places C s at h bytes) (at : ℕ) (h : List ℕ) (b : ℕ) where
   abbrev g : List ℕ
   g = h ++ b ∷ []
 
@@ -65,14 +66,14 @@ module _ (C : Setup) (bytes : List ℕ) (ih : (s : State) (at : ℕ) (h : List �
   grew = simp length-append (omega arith)
 
   -- a piece of so many bytes, behind which h' has begun
-  places_lost : (t : State) (l : Loss) (last n : ℕ) (h' : List ℕ) → ReadSince C h' t → l.first ≡ suc at → l.last ≡ last → n ≡ last + length h'
+  places_lost : (t : State) (l : Loss) (last n : ℕ) (h' : List ℕ) → ReadExactly C h' t → l.first ≡ suc at → l.last ≡ last → n ≡ last + length h'
       → ◌≡◌ {A = List Place} (record { first = suc at; last = last } ∷ places_from last n (run_state C t (map push bytes)) (numbered (finalized (state_behind C t (map push bytes)))))
       (map place_of_loss (l ∷ losses_in C t last h' bytes))
   places_lost t l last n h' r first' last' place =
       let behind' = ap (λ (k : ℕ). places_from last k (run_state C t (map push bytes)) (numbered (finalized (state_behind C t (map push bytes))))) place ∙ ih t last h' r in
       (λ i. record { first = sym first' i; last = sym last' i } ∷ behind' i)
 
-  places_event : (o : Out) → LeftBy o → ReadSince C (grown_since (numbered o.event) h b) o.state → EventSays C g o.event → answered o ≡ map place_of_loss (losses_by o)
+  places_event : (o : Out) → LeftBy o → ReadExactly C (grown_since (numbered o.event) h b) o.state → SaysExactly C g o.event → answered o ≡ map place_of_loss (losses_by o)
   unfolding places_from
   places_event o (quiet_left t) r said' =
       ap (λ (k : ℕ). places_from at k (run_state C t (map push bytes)) (numbered (finalized (state_behind C t (map push bytes))))) grew ∙ ih t at g r
@@ -88,10 +89,10 @@ module _ (C : Setup) (bytes : List ℕ) (ih : (s : State) (at : ℕ) (h : List �
       let last : suc (at + length h) - 8 ≡ at + length (take (length g - 8) g) = omega (arith, size, long, grew) in
       rw last (places_lost o.state (loss_at false (refusal 6 (k ∷ [])) at h (take (length g - 8) g)) (at + length (take (length g - 8) g)) (suc (at + length h)) start_seq r refl refl (omega (arith, size, long, grew)))
   places_event o (gone_left e k v q ne of) r said' =
-      let r' : ReadSince C [] fresh = reads_fresh C in
+      let r' : ReadExactly C [] fresh = reads_fresh C in
       rw (q, ne, grew) (places_lost fresh (loss_at false (refusal k v) at h g) (at + length g) (at + length g) [] r' refl refl (omega arith))
 
-places_is : (C : Setup) (bytes : List ℕ) (s : State) (at : ℕ) (h : List ℕ) → ReadSince C h s → Places C s at h bytes
+places_is : (C : Setup) (bytes : List ℕ) (s : State) (at : ℕ) (h : List ℕ) → ReadExactly C h s → Places C s at h bytes
 unfolding run_state state_behind act_state answer_state losses_in
 places_is C [] s at h r = final_places at (at + length h) h (numbered (finalized s)) refl
 places_is C (b ∷ bytes) s at h r =

@@ -15,8 +15,9 @@ use Rattle.decoder.specs.declared.Setup.{Setup}
 use Rattle.decoder.proofs.Saw.{saw}
 use Rattle.decoder.proofs.States.{run_state, state_behind, act_state, answer_state}
 use Rattle.since.specs.Bytes.{grown_since}
-use Rattle.since.specs.Since.{frame_head, ReadSince, EventSays, start_found, start_inside}
-use Rattle.since.proofs.Kept.{kept, reads_fresh}
+use Rattle.since.specs.Since.{frame_head}
+use Rattle.since.specs.Exactly.{ReadExactly, SaysExactly, start_found, start_inside}
+use Rattle.since.proofs.KeptExactly.{kept, reads_fresh}
 use Rattle.losses.specs.Loss.{begins_in_start, has_start, cause_of, piece_of, loss_over, loss_at, is_refusal, hands_out}
 use Rattle.losses.specs.declared.Loss.{Loss}
 use Rattle.losses.specs.declared.Cause.{Cause}
@@ -69,7 +70,7 @@ module _ (C : Setup) (known : KnownWay C.way) (at : ℕ) (h : List ℕ) (b : ℕ
   g = h ++ b ∷ []
 
   -- a 6 of a push
-  counts_start : (k : ℕ) → EventSays C g (discarded k) → CountsPiece (loss_at false (refusal 6 (k ∷ [])) at h (take (length g - 8) g)) (refusal 6 (k ∷ []))
+  counts_start : (k : ℕ) → SaysExactly C g (discarded k) → CountsPiece (loss_at false (refusal 6 (k ∷ [])) at h (take (length g - 8) g)) (refusal 6 (k ∷ []))
   unfolding cause_of
   counts_start k (start_found j x found misses none some c) =
       let w = less_eight_claim g x found in
@@ -91,7 +92,7 @@ module _ (C : Setup) (known : KnownWay C.way) (at : ℕ) (h : List ℕ) (b : ℕ
       (rw (w, bright) (c ∙ ap (λ (n : ℕ). stopped n - 8) long))
 
 -- finalize's
-final_counts : (C : Setup) (known : KnownWay C.way) (at : ℕ) (h : List ℕ) (s : State) → ReadSince C h s
+final_counts : (C : Setup) (known : KnownWay C.way) (at : ℕ) (h : List ℕ) (s : State) → ReadExactly C h s
     → let a : DecoderAnswer = numbered (finalized s) in CountsAll (cond (is_refusal a) (loss_at true a at h h ∷ []) []) (refusals_of [] a)
 unfolding finalized refusals_of cause_of
 final_counts C known at h (search n noise raw) k =
@@ -111,10 +112,10 @@ final_counts C known at h (escape j m) k =
 final_counts C known at h (done P) k = tt
 
 abbrev CountsFrom : Setup → List ℕ → Type 0
-CountsFrom C bytes = (s : State) (at : ℕ) (h : List ℕ) → ReadSince C h s → CountsAll (losses_in C s at h bytes) (refusals_of (run_state C s (map push bytes)) (numbered (finalized (state_behind C s (map push bytes)))))
+CountsFrom C bytes = (s : State) (at : ℕ) (h : List ℕ) → ReadExactly C h s → CountsAll (losses_in C s at h bytes) (refusals_of (run_state C s (map push bytes)) (numbered (finalized (state_behind C s (map push bytes)))))
 
 module _ (C : Setup) (known : KnownWay C.way) (bytes : List ℕ) (ih : CountsFrom C bytes) (at : ℕ) (h : List ℕ) (b : ℕ) where
-  counts_event : (o : Out) → LeftBy o → ReadSince C (grown_since (numbered o.event) h b) o.state → EventSays C (h ++ b ∷ []) o.event
+  counts_event : (o : Out) → LeftBy o → ReadExactly C (grown_since (numbered o.event) h b) o.state → SaysExactly C (h ++ b ∷ []) o.event
       → (let a : DecoderAnswer = numbered o.event in
       let l : List ℕ = h ++ b ∷ [] in
       CountsAll (cond (is_refusal a) (loss_at false a at h (piece_of a l) ∷ losses_in C o.state (at + length (piece_of a l)) (grown_since a h b) bytes)

@@ -17,8 +17,9 @@ use Rattle.decoder.specs.Run.{KnownWay}
 use Rattle.decoder.specs.Saw.{Passed}
 use Rattle.decoder.specs.declared.Setup.{Setup}
 use Rattle.decoder.proofs.Saw.{passed, passes}
-use Rattle.since.specs.Since.{frame_head, Opens, tidy, early_end, InEscape, EndOf, SoundWithin}
-use Rattle.since.proofs.Kept.{reads_fresh, computed_all, before_crc}
+use Rattle.since.specs.Since.{frame_head}
+use Rattle.since.specs.Exactly.{OpensExactly, tidy, early_end, InEscapeExactly, EndOf, SoundWithin}
+use Rattle.since.proofs.KeptExactly.{reads_fresh, computed_all, before_crc}
 use Rattle.losses.specs.Loss.{wrong_pads, cause_of}
 use Rattle.losses.specs.declared.Cause.TheVariants.{Invalid}
 use Rattle.losses.proofs.Starts.{never_true}
@@ -29,18 +30,18 @@ use Rattle.causes.proofs.Searches.{reads_silent}
 use Rattle.causes.proofs.Next.{next_in_state, next_step_lem, next_silent, done_next}
 use Rattle.causes.proofs.Forward.{TellsOf, by_event, tells_noise, tells_hidden, tells_cut, tells_unfinished, tells_escape, tells_room, Fourth, fourth_byte}
 
-opens_three : {D : List ℕ} {p lo hi : ℕ} → Opens D (0x1a ∷ p ∷ lo ∷ hi ∷ []) → Opens D (0x1a ∷ p ∷ lo ∷ [])
+opens_three : {D : List ℕ} {p lo hi : ℕ} → OpensExactly D (0x1a ∷ p ∷ lo ∷ hi ∷ []) → OpensExactly D (0x1a ∷ p ∷ lo ∷ [])
 opens_three (tidy e) = tidy e
 opens_three {p = p} {lo = lo} (early_end k al e) = early_end (p ∷ lo ∷ []) al refl
 
 -- what is computed where the last of the four is judged
-sum_is : (C : Setup) (D : List ℕ) (p lo hi : ℕ) (f : Fourth C D 0x1a p lo) → length D + 4 ≤ C.capacity → Opens D (0x1a ∷ p ∷ lo ∷ hi ∷ [])
+sum_is : (C : Setup) (D : List ℕ) (p lo hi : ℕ) (f : Fourth C D 0x1a p lo) → length D + 4 ≤ C.capacity → OpensExactly D (0x1a ∷ p ∷ lo ∷ hi ∷ [])
     → let h : List ℕ = frame_head D ++ esc_seq ++ 0x1a ∷ p ∷ lo ∷ [] in
     computed (put f.m (hi ∷ [])) ≡ crc_of (take (length (h ++ hi ∷ []) - 2) (h ++ hi ∷ []))
 sum_is C D p lo hi f fits o =
     let m : Mem = f.m in
     let h : List ℕ = frame_head D ++ esc_seq ++ 0x1a ∷ p ∷ lo ∷ [] in
-    let k : InEscape C h 3 m = reads_silent f.quietly [] (reads_fresh C) in
+    let k : InEscapeExactly C h 3 m = reads_silent f.quietly [] (reads_fresh C) in
     let one : k.D ≡ D = (same_back k.D D k.l (0x1a ∷ p ∷ lo ∷ []) (sym k.has ∙ f.has) k.count).0 in
     let n : length (m.stored ++ hi ∷ []) ≡ length D + 4 = ap (λ (l : List ℕ). length (l ++ hi ∷ [])) f.has ∙ simp length-append (omega arith) in
     let here : h ++ hi ∷ [] ≡ frame_head D ++ esc_seq ++ 0x1a ∷ p ∷ lo ∷ hi ∷ [] = append_assoc (frame_head D ++ esc_seq) (0x1a ∷ p ∷ lo ∷ []) (hi ∷ []) in

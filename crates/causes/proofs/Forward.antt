@@ -1,6 +1,6 @@
 -- Where a cause is true of a piece, a new decoder that is pushed the piece and what lies behind it loses that piece for that cause.
 use mathlib.Core.Path.{◌≡◌, refl, ap, sym, ◌∙◌, subst}
-use mathlib.Core.Bool.{true, false, not}
+use mathlib.Core.Bool.{true, false}
 use mathlib.Core.List.{List, [], ◌∷◌, ◌++◌, append_assoc, append-nil}
 use Prim.Native.Nat.{ℕ, suc, ◌+◌, ◌-◌, ◌≤◌, ◌<◌}
 use native.Mathlib.Omega.{arith}
@@ -15,9 +15,10 @@ use Rattle.decoder.specs.Push.{first_way, second_way, Mem, State, search, body, 
 use Rattle.decoder.specs.Record.{refusal, numbered}
 use Rattle.decoder.specs.Run.{KnownWay, is_first, is_second}
 use Rattle.decoder.specs.declared.Setup.{Setup}
-use Rattle.since.specs.Since.{frame_head, Misses, InSearch, Opens, tidy, early_end, none_for_data, none_behind_escape, Meaningless}
+use Rattle.since.specs.Since.{frame_head, Misses, InSearch}
+use Rattle.since.specs.Exactly.{OpensExactly, tidy, early_end, none_for_data, none_behind_escape, Meaningless}
 use Rattle.since.proofs.Lists.{matched_long, head_other}
-use Rattle.since.proofs.Kept.{reads_fresh}
+use Rattle.since.proofs.KeptExactly.{reads_fresh}
 use Rattle.since.proofs.Rules.{Silent, and_then, step_judge}
 use Rattle.since.proofs.Starts.{Fours, sevens, fours_none, fours_any, start_silent}
 use Rattle.since.proofs.Arrives.{stored_data, waits_for, ArrivesAt, arrives_at, arrives_open}
@@ -176,7 +177,7 @@ arrived_by C D l known a =
     let q : Silent C fresh (frame_head D ++ esc_seq ++ l) (escape a.k a.m) = behind_silent C D l a in
     record { k = a.k; m = a.m; quietly = q; has = a.has; begins = frame_begins C (frame_head D ++ esc_seq ++ l) (escape a.k a.m) known (reads_silent q [] (reads_fresh C)) }
 
-arrived_here : (C : Setup) (D l : List ℕ) → KnownWay C.way → Opens D l → length l ≤ 3 → length D + length l ≤ C.capacity → Arrived C D l
+arrived_here : (C : Setup) (D l : List ℕ) → KnownWay C.way → OpensExactly D l → length l ≤ 3 → length D + length l ≤ C.capacity → Arrived C D l
 arrived_here C D l known o few fits = arrived_by C D l known (arrives_at C D l o few fits)
 
 -- three: the fourth is judged
@@ -187,7 +188,7 @@ pub record Fourth (C : Setup) (D : List ℕ) (x y z : ℕ) : Type 0 where
   pub begins : begins_in_start (frame_head D ++ esc_seq ++ x ∷ y ∷ z ∷ []) ≡ true
   pub judged' : (b : ℕ) → step C (escape 3 m) b ≡ judge (put m (b ∷ [])) (x ∷ y ∷ z ∷ b ∷ [])
 
-pub fourth_byte : (C : Setup) (D : List ℕ) (x y z : ℕ) → KnownWay C.way → Opens D (x ∷ y ∷ z ∷ []) → length D + 4 ≤ C.capacity → Fourth C D x y z
+pub fourth_byte : (C : Setup) (D : List ℕ) (x y z : ℕ) → KnownWay C.way → OpensExactly D (x ∷ y ∷ z ∷ []) → length D + 4 ≤ C.capacity → Fourth C D x y z
 fourth_byte C D x y z known o fits =
     let a = arrives_at C D (x ∷ y ∷ z ∷ []) o (omega arith) (omega arith) in
     let r = arrived_by C D (x ∷ y ∷ z ∷ []) known a in
@@ -265,11 +266,11 @@ module _ (C : Setup) (at : ℕ) (known : KnownWay C.way) (w rest : List ℕ) whe
       (step_full r b m ne (omega arith)) refl (ap (λ (x : List ℕ). x ++ rest) on ∙ append_assoc h (b ∷ []) rest) (sym on) names_room
   tells_room (none_behind_escape D l is o some most fits) = by_last l (last_of' l some) o is most fits
     where
-      shorter : (l : List ℕ) (x : ℕ) (k : List ℕ) → Opens D ((x ∷ l) ++ k) → Opens D (x ∷ l)
+      shorter : (l : List ℕ) (x : ℕ) (k : List ℕ) → OpensExactly D ((x ∷ l) ++ k) → OpensExactly D (x ∷ l)
       shorter l x k (tidy e) = tidy e
       shorter l x k (early_end j al e) = early_end l al (let q : x ≡ 0x1a = ap (λ (t : List ℕ). get_or t 0 0) e in rw q)
 
-      by_front : (i : List ℕ) (z : ℕ) → Opens D (i ++ z ∷ []) → w ≡ frame_head D ++ esc_seq ++ (i ++ z ∷ []) → length (i ++ z ∷ []) ≤ 4 → length D + length (i ++ z ∷ []) ≡ suc C.capacity → TellsOf C at w rest is_room_claim
+      by_front : (i : List ℕ) (z : ℕ) → OpensExactly D (i ++ z ∷ []) → w ≡ frame_head D ++ esc_seq ++ (i ++ z ∷ []) → length (i ++ z ∷ []) ≤ 4 → length D + length (i ++ z ∷ []) ≡ suc C.capacity → TellsOf C at w rest is_room_claim
       by_front [] z o is most fits =
           let n : length D + 1 ≡ suc C.capacity = fits in
           last_lacks D [] z is (arrived_by C D [] known (subst (λ (b : List ℕ). ArrivesAt C begun b D []) (ap (λ (k : List ℕ). escaped 0 D ++ k) (sym (append-nil esc_seq))) (arrives_open C D (omega arith)))) fits
@@ -277,7 +278,7 @@ module _ (C : Setup) (at : ℕ) (known : KnownWay C.way) (w rest : List ℕ) whe
           let n : length ((x ∷ i) ++ z ∷ []) ≡ suc (length (x ∷ i)) = simp length-append (omega arith) in
           last_lacks D (x ∷ i) z is (arrived_here C D (x ∷ i) known (shorter i x (z ∷ []) o) (omega arith) (omega arith)) fits
 
-      by_last : (l : List ℕ) → (i : List ℕ) × (z : ℕ) × (l ≡ i ++ z ∷ []) → Opens D l → w ≡ frame_head D ++ esc_seq ++ l → length l ≤ 4 → length D + length l ≡ suc C.capacity → TellsOf C at w rest is_room_claim
+      by_last : (l : List ℕ) → (i : List ℕ) × (z : ℕ) × (l ≡ i ++ z ∷ []) → OpensExactly D l → w ≡ frame_head D ++ esc_seq ++ l → length l ≤ 4 → length D + length l ≡ suc C.capacity → TellsOf C at w rest is_room_claim
       by_last l (i, z, e) o is most fits = by_front i z (rw e at o) (rw e at is) (rw e at most) (rw e at fits)
 
   -- ---- the four bytes behind an escape

@@ -8,7 +8,7 @@ pub mod Ends
 pub mod Accounts
 pub mod Only
 pub mod Tools
-pub mod Hidden
+pub mod HiddenStarts
 pub mod Links
 pub mod Seen
 pub mod Parts

@@ -17,8 +17,9 @@ use Rattle.decoder.specs.declared.Setup.{Setup}
 use Rattle.decoder.proofs.Saw.{saw}
 use Rattle.decoder.proofs.Faithful.{contents}
 use Rattle.since.specs.Bytes.{grown_since}
-use Rattle.since.specs.Since.{frame_head, ReadSince, EventSays, goes_on, start_found, start_inside, no_room, no_escape, no_message, frame_ends}
-use Rattle.since.proofs.Kept.{kept}
+use Rattle.since.specs.Since.{frame_head}
+use Rattle.since.specs.Exactly.{ReadExactly, SaysExactly, goes_on, start_found, start_inside, no_room, no_escape, no_message, frame_ends}
+use Rattle.since.proofs.KeptExactly.{kept}
 use Rattle.since.proofs.Rules.{Silent, stop, silent_on}
 use Rattle.since.proofs.Starts.{seek_on, seek_last, start_silent}
 use Rattle.losses.specs.Loss.{cause_of, piece_of, loss_at, LossSaid, lost_is, none_lost, loss_refused, is_refusal, hands_out}
@@ -56,7 +57,7 @@ left_saw C s b o (W.collects fit lt) = quiet_left _
 left_saw C s b o (W.judges fit ge j) = left_judged _ _ o j
 left_saw C s b o (W.full' h) = gone_left memory 3 [] refl refl (λ r h n. refl)
 
-pub ends_start : (C : Setup) (g : List ℕ) (k : ℕ) (e : PushEvent) → e ≡ discarded k → EventSays C g e → (w : List ℕ) × (g ≡ w ++ start_seq)
+pub ends_start : (C : Setup) (g : List ℕ) (k : ℕ) (e : PushEvent) → e ≡ discarded k → SaysExactly C g e → (w : List ℕ) × (g ≡ w ++ start_seq)
 ends_start C g k e q goes_on = absurd (let z : ◌≡◌ {A = ℕ} 0 1 = cc in omega arith)
 ends_start C g k e q (start_found u x is m n pos c) = (x, is)
 ends_start C g k e q (start_inside u D is t f c) = (frame_head D, is)
@@ -178,7 +179,7 @@ linked_final C at h m (refusal k v) =
     record { losses' = ap (λ (x : List Loss). l ∷ x) (sym (ap (losses_in C fresh l.last []) cut' ∙ none_behind C l.last)); memory' = sym (ap (memory_of C fresh m) cut'); later = omega arith }
 
 abbrev pub LinksFrom : Setup → List ℕ → Type 0
-LinksFrom C bytes = (s : State) (at : ℕ) (h m : List ℕ) → ReadSince C h s → Linked C s at h m bytes
+LinksFrom C bytes = (s : State) (at : ℕ) (h m : List ℕ) → ReadExactly C h s → Linked C s at h m bytes
 
 module _ (C : Setup) (bytes : List ℕ) (ih : LinksFrom C bytes) (at : ℕ) (h : List ℕ) (b : ℕ) (m : List ℕ) where
   abbrev g : List ℕ
@@ -222,7 +223,7 @@ module _ (C : Setup) (bytes : List ℕ) (ih : LinksFrom C bytes) (at : ℕ) (h :
   linked_gone e k v q ne =
       rw (q, ne) (linked_lost (loss_at false (refusal k v) at h g) g bytes fresh grouped refl (losses_in C fresh (at + length g) [] bytes) refl refl)
 
-  linked_event : (o : Out) → LeftBy o → ReadSince C (grown_since (numbered o.event) h b) o.state → EventSays C g o.event → LinkedBy o
+  linked_event : (o : Out) → LeftBy o → ReadExactly C (grown_since (numbered o.event) h b) o.state → SaysExactly C g o.event → LinkedBy o
   linked_event o (quiet_left t) r says' = rw grouped (ih t at g m r)
   linked_event o (paid_left P) r says' = rw grouped (linked_behind C at g bytes _ _ _ _ (ih (done P) (at + length g) [] m r))
   linked_event o (start_left k) r says' = let w = ends_start C g k (discarded k) refl says' in linked_start k w.0 w.1

@@ -15,9 +15,10 @@ use Rattle.decoder.specs.declared.Setup.{Setup}
 use Rattle.decoder.proofs.Saw.{saw}
 use Rattle.decoder_slice.specs.Slice.{says_nothing}
 use Rattle.since.specs.Bytes.{grown_since}
-use Rattle.since.specs.Since.{ReadSince, SoundWithin, AllBytes, EventSays, frame_ends}
+use Rattle.since.specs.Since.{AllBytes}
+use Rattle.since.specs.Exactly.{ReadExactly, SoundWithin, SaysExactly, frame_ends}
 use Rattle.since.proofs.Lists.{empty, matched_long}
-use Rattle.since.proofs.Kept.{kept, reads_fresh}
+use Rattle.since.proofs.KeptExactly.{kept, reads_fresh}
 use Rattle.since.proofs.Starts.{start_silent}
 use Rattle.losses.specs.Loss.{loss_at, LossSaid, lost_is, none_lost, is_refusal}
 use Rattle.losses.specs.Watch.{WatchSaid, lost_over, over_of}
@@ -45,11 +46,11 @@ piece_of way C bytes at l w rest e first last a =
     let is : a.piece ++ a.rest ≡ w ++ rest = sym (a.is ∙ ap (λ (x : List ℕ). x ++ (a.piece ++ a.rest)) none) ∙ e in
     record { account = a; none_kept = none; behind = (front_same a.piece w a.rest rest is (sym size)).1 }
 
-sound_of : {C : Setup} {g P : List ℕ} → EventSays C g (pays_out P) → AllBytes g → SoundWithin C.capacity g P
+sound_of : {C : Setup} {g P : List ℕ} → SaysExactly C g (pays_out P) → AllBytes g → SoundWithin C.capacity g P
 sound_of (frame_ends P f) bs = f bs
 
 abbrev PartsFrom : Setup → List ℕ → Type 0
-PartsFrom C bytes = (s : State) (at : ℕ) (h : List ℕ) → ReadSince C h s → AllBytes (h ++ bytes) → next_in_state C fresh at [] (h ++ bytes) ≡ next_in_state C s at h bytes
+PartsFrom C bytes = (s : State) (at : ℕ) (h : List ℕ) → ReadExactly C h s → AllBytes (h ++ bytes) → next_in_state C fresh at [] (h ++ bytes) ≡ next_in_state C s at h bytes
     → Parted C.way C.capacity at (h ++ bytes) (seen_in C s at h bytes) (end_in C s at h bytes) (payloads_of (run_state C s (map push bytes)))
 
 -- finalize: what is left is lost, or nothing is left
@@ -62,7 +63,7 @@ parted_final way C at h (refusal n v) k none =
     let p = piece_of way C (h ++ []) at (loss_at true (refusal n v) at h h) h [] refl refl refl k in
     parted_left p.account p.none_kept p.behind
 
-final_none : (C : Setup) (h : List ℕ) (s : State) → ReadSince C h s → is_refusal (numbered (finalized s)) ≡ false → h ≡ []
+final_none : (C : Setup) (h : List ℕ) (s : State) → ReadExactly C h s → is_refusal (numbered (finalized s)) ≡ false → h ≡ []
 unfolding finalized
 final_none C h (search n noise raw) k =
     let l : length h ≡ length k.passed + n = ap length k.here ∙ simp (length-append, matched_long n k.most) in
@@ -96,14 +97,14 @@ module _ (C : Setup) (known : KnownWay C.way) (bytes : List ℕ) (ih : PartsFrom
 
   -- a piece w is lost, and x has begun behind it, read by t
   parted_lost_lem : (l : Loss) (w x : List ℕ) (t : State) → next_in_state C s at h (b ∷ bytes) ≡ lost_is l → h ++ (b ∷ bytes) ≡ w ++ (x ++ bytes) → l.first ≡ suc at → l.last ≡ at + length w
-      → ReadSince C x t → next_in_state C fresh l.last [] (x ++ bytes) ≡ next_in_state C t l.last x bytes → (n : ℕ) → n ≡ l.last
+      → ReadExactly C x t → next_in_state C fresh l.last [] (x ++ bytes) ≡ next_in_state C t l.last x bytes → (n : ℕ) → n ≡ l.last
       → Parted C.way C.capacity at (h ++ (b ∷ bytes)) (lost_over l ∷ seen_in C t n x bytes) (end_in C t n x bytes) (payloads_of (run_state C t (map push bytes)))
   parted_lost_lem l w x t told e first last r again n is =
       let p = piece_of C.way C.capacity (h ++ (b ∷ bytes)) at l w (x ++ bytes) e first last (subst (Accounts C.way C.capacity (h ++ (b ∷ bytes)) at) told account') in
       let more : AllBytes (x ++ bytes) = bytes_rest w (x ++ bytes) (subst AllBytes e fine) in
       rw is (parted_lost {final = end_in C t l.last x bytes} p.account p.none_kept (subst (λ (y : List ℕ). Parted C.way C.capacity l.last y (seen_in C t l.last x bytes) (end_in C t l.last x bytes) (payloads_of (run_state C t (map push bytes)))) (sym p.behind) (ih t l.last x r more again)))
 
-  parted_event : (o : Out) → LeftBy o → step C s b ≡ o → ReadSince C (grown_since (numbered o.event) h b) o.state → EventSays C g o.event
+  parted_event : (o : Out) → LeftBy o → step C s b ≡ o → ReadExactly C (grown_since (numbered o.event) h b) o.state → SaysExactly C g o.event
       → Parted C.way C.capacity at (h ++ (b ∷ bytes)) (seen_with o) (end_with o) (payloads_of (numbered o.event ∷ run_state C o.state (map push bytes)))
   unfolding payloads_of
   parted_event o (quiet_left t) is r said' =

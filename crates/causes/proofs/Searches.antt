@@ -2,7 +2,7 @@
 use mathlib.Core.Path.{◌≡◌, sym, ◌∙◌, subst}
 use mathlib.Core.Bool.{false}
 use mathlib.Core.List.{List, [], ◌∷◌, ◌++◌, append_assoc, append-nil}
-use Prim.Native.Nat.{ℕ, zero, suc, ◌+◌, ◌≤◌}
+use Prim.Native.Nat.{ℕ, zero, suc, ◌≤◌}
 use native.Mathlib.Omega.{arith}
 use lib.ListN.{take, get_or}
 use borrow.Author.Tests.{ne_eqb}
@@ -12,20 +12,21 @@ use Rattle.search.proofs.Matched.{has_more, ends_has}
 use Rattle.decoder.specs.Push.{second_way, State, search, silent, says, starts, matched_behind, more_noise, searching, step, stopped, fresh}
 use Rattle.decoder.specs.declared.Setup.{Setup}
 use Rattle.decoder.proofs.Search.{matched_none, matched_eight}
-use Rattle.since.specs.Since.{Misses, none_passed, miss, InSearch, ReadSince}
+use Rattle.since.specs.Since.{Misses, none_passed, miss, InSearch}
+use Rattle.since.specs.Exactly.{ReadExactly}
 use Rattle.since.proofs.Lists.{starts_is}
-use Rattle.since.proofs.Kept.{kept, reads_fresh}
+use Rattle.since.proofs.KeptExactly.{kept, reads_fresh}
 use Rattle.since.proofs.Rules.{Silent, stop, silent_on, and_then}
 use Rattle.since.proofs.Starts.{seek_on}
 use Rattle.causes.specs.Causes.{Overlooks}
 use Rattle.causes.proofs.Overlooked.{starts_at_lem}
 
 -- what is known of the bytes goes on with them
-pub reads_silent : {C : Setup} {s t : State} {a : List ℕ} → Silent C s a t → (h : List ℕ) → ReadSince C h s → ReadSince C (h ++ a) t
-reads_silent {C} {s} stop h k = subst (λ (l : List ℕ). ReadSince C l s) (sym (append-nil h)) k
+pub reads_silent : {C : Setup} {s t : State} {a : List ℕ} → Silent C s a t → (h : List ℕ) → ReadExactly C h s → ReadExactly C (h ++ a) t
+reads_silent {C} {s} stop h k = subst (λ (l : List ℕ). ReadExactly C l s) (sym (append-nil h)) k
 reads_silent {C} {s} (silent_on {t = t} {u = u} {b = b} {l = l} e q) h k =
-    let r : ReadSince C (h ++ b ∷ []) t = rw e at (kept C h s b k).reads in
-    subst (λ (x : List ℕ). ReadSince C x u) (append_assoc h (b ∷ []) l) (reads_silent q (h ++ b ∷ []) r)
+    let r : ReadExactly C (h ++ b ∷ []) t = rw e at (kept C h s b k).reads in
+    subst (λ (x : List ℕ). ReadExactly C x u) (append_assoc h (b ∷ []) l) (reads_silent q (h ++ b ∷ []) r)
 
 -- over the bytes to a search, n of a start matched
 pub record Seeks (C : Setup) (s : State) (bytes : List ℕ) : Type 0 where

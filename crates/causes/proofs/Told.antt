@@ -16,7 +16,8 @@ use Rattle.decoder.specs.Push.{first_way, second_way, State, search, body, escap
 use Rattle.decoder.specs.Record.{flag}
 use Rattle.decoder.specs.Run.{KnownWay, is_first, is_second}
 use Rattle.decoder.specs.declared.Setup.{Setup}
-use Rattle.since.specs.Since.{frame_head, Misses, InSearch, ReadSince, EndOf}
+use Rattle.since.specs.Since.{frame_head, Misses, InSearch}
+use Rattle.since.specs.Exactly.{ReadExactly, EndOf}
 use Rattle.losses.specs.Loss.{begins_in_start, has_start, wrong_pads}
 use Rattle.losses.specs.declared.Cause.{Cause}
 use Rattle.losses.specs.declared.Cause.TheVariants.{Noise, Hidden, Invalid}
@@ -45,7 +46,7 @@ in_frame (body r m) = true
 in_frame (escape k m) = true
 in_frame (done P) = false
 
-pub frame_begins : (C : Setup) (h : List ℕ) (s : State) → KnownWay C.way → ReadSince C h s → begins_in_start h ≡ in_frame s
+pub frame_begins : (C : Setup) (h : List ℕ) (s : State) → KnownWay C.way → ReadExactly C h s → begins_in_start h ≡ in_frame s
 unfolding same
 frame_begins C h (search n noise raw) known k = search_begins C h n noise raw known k
 frame_begins C h (body r m) known k = rw k.here (head_begins m.stored _)

@@ -18,8 +18,9 @@ use Rattle.decoder.proofs.States.{act_state, answer_state}
 use Rattle.decoder.proofs.Faithful.{Fit}
 use Rattle.decoder.proofs.Runs.{Acts, acts, new_fit}
 use Rattle.since.specs.Bytes.{grown_since}
-use Rattle.since.specs.Since.{ReadSince, AllBytes, EventSays, goes_on, start_found, start_inside, no_room, no_escape, no_message, frame_ends, frame_head}
-use Rattle.since.proofs.Kept.{kept, reads_fresh}
+use Rattle.since.specs.Since.{AllBytes, frame_head}
+use Rattle.since.specs.Exactly.{ReadExactly, SaysExactly, goes_on, start_found, start_inside, no_room, no_escape, no_message, frame_ends}
+use Rattle.since.proofs.KeptExactly.{kept, reads_fresh}
 use Rattle.losses.specs.Loss.{begins_in_start, has_start, cause_of, piece_of, loss_at, LossSaid, lost_is, none_lost, loss_refused, LossAfter, loss_after, is_refusal, hands_out, next_behind, next_loss}
 use Rattle.losses.specs.declared.Loss.{Loss}
 use Rattle.causes.specs.Tools.{Tool, Accounts, AccountsExactly, ends_at_start, pushed_for, buffer_behind, GoodTool}
@@ -105,7 +106,7 @@ module _ (many from : ℕ) (l : Loss) where
       and_false false = refl
 
 abbrev LeavesFrom : ℕ → ℕ → List ℕ → Type 0
-LeavesFrom from many bytes = (n : ℕ) (d : Decoder) (m : List ℕ) (begun : ℕ) (h : List ℕ) → Fit d m → ReadSince (setup d) h (state_of d m) → begun + length h ≡ from + n → from ≤ begun → many ≡ n + length bytes
+LeavesFrom from many bytes = (n : ℕ) (d : Decoder) (m : List ℕ) (begun : ℕ) (h : List ℕ) → Fit d m → ReadExactly (setup d) h (state_of d m) → begun + length h ≡ from + n → from ≤ begun → many ≡ n + length bytes
     → Leaves n from many d m bytes (next_behind d m begun h bytes)
 
 module _ (from many : ℕ) (bytes : List ℕ) (ih : LeavesFrom from many bytes) (n : ℕ) (d : Decoder) (m : List ℕ) (begun : ℕ) (h : List ℕ) (b : ℕ) (fit : Fit d m)
@@ -147,15 +148,15 @@ module _ (from many : ℕ) (bytes : List ℕ) (ih : LeavesFrom from many bytes) 
   -- no refusal
   leaves_on : (A : DecoderAnswer) → (push_record d m b).answer ≡ A → (begun' : ℕ) (h' : List ℕ)
       → cond (is_refusal A) (loss_after (lost_is (loss_at false A begun h (piece_of A g))) m') (cond (hands_out A) (next_behind d' m' (begun + length g) [] bytes) (next_behind d' m' begun g bytes)) ≡ next_behind d' m' begun' h' bytes
-      → ReadSince (setup d) h' (step (setup d) (state_of d m) b).state → begun' + length h' ≡ from + suc n → from ≤ begun' → Leaves n from many d m (b ∷ bytes) (next_behind d m begun h (b ∷ bytes))
+      → ReadExactly (setup d) h' (step (setup d) (state_of d m) b).state → begun' + length h' ≡ from + suc n → from ≤ begun' → Leaves n from many d m (b ∷ bytes) (next_behind d m begun h (b ∷ bytes))
   unfolding act_state act
   leaves_on A e begun' h' is reads place' le' =
-      let r : ReadSince (setup d') h' (state_of d' m') = rw (acted.setup', acted.view') reads in
+      let r : ReadExactly (setup d') h' (state_of d' m') = rw (acted.setup', acted.view') reads in
       let k = ih (suc n) d' m' begun' h' acted.fit r place' le' all in
       rw (from_step d m begun h b bytes A e ∙ is)
       (record { more = suc k.more; counted = k.counted ∙ omega arith; left = k.left ∙ sym (push_first d m bytes b k.more) })
 
-  leaves_event : (e : PushEvent) → (push_record d m b).answer ≡ numbered e → ReadSince (setup d) (grown_since (numbered e) h b) (step (setup d) (state_of d m) b).state → EventSays (setup d) g e
+  leaves_event : (e : PushEvent) → (push_record d m b).answer ≡ numbered e → ReadExactly (setup d) (grown_since (numbered e) h b) (step (setup d) (state_of d m) b).state → SaysExactly (setup d) g e
       → Leaves n from many d m (b ∷ bytes) (next_behind d m begun h (b ∷ bytes))
   unfolding cause_of frame_head
   leaves_event e is r goes_on = leaves_on (numbered e) is begun g refl r (omega (arith, long_g, place)) le

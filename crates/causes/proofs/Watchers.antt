@@ -18,7 +18,7 @@ use Rattle.decoder.proofs.Faithful.{Fit, Steps, push_is_step}
 use Rattle.decoder.proofs.Runs.{acts, new_fit, run_new}
 use Rattle.decoder_slice.specs.Slice.{says_nothing}
 use Rattle.since.specs.Bytes.{grown_since}
-use Rattle.since.proofs.Kept.{reads_fresh, kept}
+use Rattle.since.proofs.KeptExactly.{reads_fresh, kept}
 use Rattle.losses.specs.Loss.{lost_is, none_lost, is_refusal, cause_of}
 use Rattle.losses.specs.Watch.{WatchSaid, quietly, kept_over, lost_over, WatchAfter, watch_after, watch_new, over_of, moved_on, watch_behind, sight_at, watches_from, bad_watch, watch_slice, said_at_end, watch_end, loss_seen, watch_refused}
 use Rattle.losses.specs.declared.Loss.{Loss}
@@ -29,7 +29,7 @@ use Rattle.losses.proofs.Slices.{watches_pushed}
 use Rattle.losses.proofs.Taken.{slice_watches}
 use lib.Dec.{eqb}
 use lib.Seq.{length-take-le}
-use Rattle.since.specs.Since.{EventSays}
+use Rattle.since.specs.Exactly.{SaysExactly}
 use Rattle.refusals.specs.Numbers.{limit}
 use Rattle.causes.proofs.Tools.{dropped_ends}
 use Rattle.causes.proofs.Links.{ends_start}
@@ -74,7 +74,7 @@ module _ (w : Watch) (m : List ℕ) (at : ℕ) (h : List ℕ) (k : WatchReads w 
   loud_alone : (a : DecoderAnswer) → over_of a long ≡ long → ((running hides : Bool) (n : ℕ) → ends_at_start (cause_of false running hides n a) ≡ false) → told_at (loss_seen false a w.look w.begun (over_of a long)) ≡ suc w.pushed
   loud_alone a over ends = rw (over, ends (eqb w.look.start_end 8) (not (eqb w.look.start_end 0)) long) (omega (arith, all_long))
 
-  loud_start : (n : ℕ) → EventSays (setup w.decoder) (h ++ b ∷ []) (discarded n) → told_at (loss_seen false (refusal 6 (n ∷ [])) w.look w.begun (long - 8)) ≡ suc w.pushed
+  loud_start : (n : ℕ) → SaysExactly (setup w.decoder) (h ++ b ∷ []) (discarded n) → told_at (loss_seen false (refusal 6 (n ∷ [])) w.look w.begun (long - 8)) ≡ suc w.pushed
   loud_start n e =
       let x = ends_start (setup w.decoder) (h ++ b ∷ []) n (discarded n) refl e in
       let g : length (h ++ b ∷ []) ≡ suc (length h) = simp length-append (omega arith) in
@@ -82,7 +82,7 @@ module _ (w : Watch) (m : List ℕ) (at : ℕ) (h : List ℕ) (k : WatchReads w 
       let t = k.tracks in
       rw (dropped_ends (eqb w.look.start_end 8) (not (eqb w.look.start_end 0)) (long - 8) (n ∷ [])) (omega (arith, all_long, g, y, t.begun', t.pushed'))
 
-  sight_loud : (e : PushEvent) → EventSays (setup w.decoder) (h ++ b ∷ []) e → says_nothing (numbered e) ≡ false → Loud (suc w.pushed) (sight_at w (numbered e))
+  sight_loud : (e : PushEvent) → SaysExactly (setup w.decoder) (h ++ b ∷ []) e → says_nothing (numbered e) ≡ false → Loud (suc w.pushed) (sight_at w (numbered e))
   unfolding cause_of
   sight_loud silent said q = absurd (false≢true (sym q))
   sight_loud (discarded n) said q = loud_lost _ (loud_start n said)

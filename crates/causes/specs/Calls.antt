@@ -5,7 +5,8 @@ use Rattle.decoder.specs.Push.{in_way, stopped}
 use Rattle.decoder.specs.Record.{DecoderAnswer, nothing, payload, count, refusal, after, new_record, finalize_record}
 use Rattle.decoder.specs.Run.{KnownWay, push, run, behind}
 use Rattle.decoder.specs.declared.Decoder.{Decoder}
-use Rattle.since.specs.Since.{AllBytes, SoundWithin}
+use Rattle.since.specs.Since.{AllBytes}
+use Rattle.since.specs.Exactly.{SoundWithin}
 use Rattle.losses.specs.Loss.{LossSaid, lost_is, none_lost, loss_refused, loss_after}
 use Rattle.losses.specs.Watch.{WatchSaid, quietly, kept_over, lost_over, watch_refused}
 use Rattle.losses.specs.declared.Loss.{Loss}

@@ -4,7 +4,8 @@ use Rattle.crc_x25.specs.Crc.{crc_of}
 use Rattle.frame.specs.Frame.{start_seq, esc_seq, run_behind}
 use Rattle.search.specs.Found.{HasStart, NoneWhole}
 use Rattle.decoder.specs.Push.{first_way}
-use Rattle.since.specs.Since.{frame_head, Misses, Opens, NoRoomFor, Meaningless, EndOf}
+use Rattle.since.specs.Since.{frame_head, Misses}
+use Rattle.since.specs.Exactly.{OpensExactly, NoRoomFor, Meaningless, EndOf}
 use Rattle.losses.specs.declared.Cause.{Cause}
 use Rattle.losses.specs.declared.Cause.TheVariants.{Noise, Unfinished, Hidden, Cut, UnknownEscape, NoRoom, Invalid}
 
@@ -49,7 +50,7 @@ pub record CutShort (C : ℕ) (w behind : List ℕ) : Type 0 where
 -- the recording ends in the data, r 1b of which are waited with, or among the bytes l behind an escape
 pub data LeftOpen (C : ℕ) (w : List ℕ) : Type 0 where
   open_in_data : (E : List ℕ) (r : ℕ) → w ≡ frame_head E ++ replicate r 0x1b → run_behind 0 E ≡ 0 → r ≤ 3 → length E ≤ C → LeftOpen C w
-  open_behind_escape : (D l : List ℕ) → w ≡ frame_head D ++ esc_seq ++ l → Opens D l → length l ≤ 3 → length D + length l ≤ C → LeftOpen C w
+  open_behind_escape : (D l : List ℕ) → w ≡ frame_head D ++ esc_seq ++ l → OpensExactly D l → length l ≤ 3 → length D + length l ≤ C → LeftOpen C w
 
 -- an end sequence of which something is wrong: by the data, the pad count and the CRC that it says
 pub record WrongEnd (C : ℕ) (w : List ℕ) (Wrong : List ℕ → ℕ → ℕ → Type 0) : Type 0 where

@@ -4,7 +4,8 @@ use Rattle.refusals.specs.Numbers.{bad_state_no, wrong_buffer_no, limit}
 use Rattle.decoder.specs.Push.{in_way}
 use Rattle.decoder.specs.Record.{nothing, after, new_record}
 use Rattle.decoder.specs.Run.{KnownWay, push, behind}
-use Rattle.since.specs.Since.{AllBytes, SoundWithin}
+use Rattle.since.specs.Since.{AllBytes}
+use Rattle.since.specs.Exactly.{SoundWithin}
 use Rattle.losses.specs.Loss.{LossSaid, lost_is, none_lost, loss_refused, LossAfter, loss_after, next_loss}
 use Rattle.losses.specs.declared.Loss.{Loss}
 use Rattle.losses.specs.declared.Cause.{Cause}

@@ -2,7 +2,6 @@
 use mathlib.Core.Path.{◌≡◌}
 use Rattle.refusals.specs.declared.Span.{Span}
 use Rattle.octet_string.specs.declared.OptSpan.TheVariants.{Present, Absent}
-use Rattle.value.specs.Answers.{status, value}
 use Rattle.value.specs.declared.OptU8.TheVariants as OptU8C
 use Rattle.value.specs.declared.OptI8.TheVariants as OptI8C
 use Rattle.value.specs.declared.OptTime.TheVariants as OptTimeC

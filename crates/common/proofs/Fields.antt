@@ -1,8 +1,7 @@
 -- What readings of open, close and list entry find: a place ahead within the input, and strings within it. One line a field.
 use mathlib.Core.List.{List}
-use Prim.Native.Nat.{ℕ, ◌+◌, ◌≤◌, ◌<◌}
+use Prim.Native.Nat.{ℕ}
 use native.Mathlib.Omega.{arith}
-use lib.ListN.{length}
 use Rattle.refusals.specs.declared.Span.{Span}
 use Rattle.refusals.proofs.Read.{Ok}
 use Rattle.refusals.proofs.Found.{Found, Any, any, from, on, found}

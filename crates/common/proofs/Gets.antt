@@ -3,9 +3,8 @@ use mathlib.Core.List.{List, ◌++◌, append_assoc}
 use mathlib.Core.Option.{Option}
 use Prim.Native.Nat.{ℕ}
 use lib.IntN.{ℤ}
-use Rattle.refusals.specs.Read.{Read}
 use Rattle.refusals.specs.declared.Span.{Span}
-use Rattle.refusals.proofs.Rest.{Rest, Gets, Reads, Is, gets_is, gets_then, gets_got}
+use Rattle.refusals.proofs.Rest.{Reads, Is, gets_is, gets_then, gets_got}
 use Rattle.tlf.specs.Lengths.{list_of_at}
 use Rattle.numbers.specs.Numbers.{unsigned_at, signed_at}
 use Rattle.octet_string.specs.Strings.{octets_at}

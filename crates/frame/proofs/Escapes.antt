@@ -1,14 +1,12 @@
 -- Laws of escapes and of the run of 1b behind a list: over two lists one after the other, and case by case.
 use mathlib.Core.Path.{◌≡◌, refl, ap, sym, ◌∙◌}
-use mathlib.Core.Bool.{Bool, true, false, cond}
-use mathlib.Core.List.{List, [], ◌∷◌, ◌++◌, append_assoc, append-nil}
-use Prim.Native.Nat.{ℕ, zero, suc, ◌+◌, ◌≤◌, ◌<◌}
+use mathlib.Core.List.{List, [], ◌∷◌, ◌++◌, append_assoc}
+use Prim.Native.Nat.{ℕ, zero, suc, ◌+◌, ◌≤◌}
 use native.Mathlib.Omega.{arith}
-use native.Mathlib.Nat.{add-suc, suc-add, add_comm}
-use lib.ListN.{length, replicate, replicate-append-replicate}
-use lib.Dec.{eqb, ltb, leb}
-use borrow.Author.Tests.{eq-eqb, ne_eqb}
-use Rattle.frame.specs.Frame.{esc_seq, missing, run_with, four_more, escaped, run_behind}
+use native.Mathlib.Nat.{add_comm}
+use lib.ListN.{replicate, replicate-append-replicate}
+use borrow.Author.Tests.{ne_eqb}
+use Rattle.frame.specs.Frame.{esc_seq, run_with, four_more, escaped, run_behind}
 use Rattle.frame.proofs.Cases.{by_eq}
 
 pub escaped_append : (r : ℕ) (a b : List ℕ) → escaped r (a ++ b) ≡ escaped r a ++ escaped (run_behind r a) b

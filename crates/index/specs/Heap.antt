@@ -1,6 +1,5 @@
 -- cut: heaps and shuffles of a sequence, by index; f k is the row at k.
-use Rattle.std.specs.Prelude.{ℕ, ◌+◌, ◌*◌, ◌<◌, ◌≤◌, ◌≡◌, List, Bool, true, false, cond, length, drop, eqb, ltb}
-use Rattle.whole.specs.Whole.{EntryRow}
+use Rattle.std.specs.Prelude.{ℕ, ◌+◌, ◌*◌, ◌<◌, ◌≤◌, ◌≡◌, List, Bool, false, cond, length, drop, eqb}
 use Rattle.index.specs.Rows.{nth_row}
 
 -- i and j for each other, any other index for itself

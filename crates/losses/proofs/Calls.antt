@@ -13,7 +13,7 @@ use Rattle.decoder.proofs.Faithful.{Fit}
 use Rattle.decoder.proofs.Runs.{new_fit}
 use Rattle.decoder.specs.Push.{in_way, finalized}
 use Rattle.decoder.specs.Record.{new_record, unknown_way, bad_decoder, wrong_buffer, finalize_record}
-use Rattle.since.proofs.Kept.{reads_fresh}
+use Rattle.since.proofs.KeptExactly.{reads_fresh}
 use Rattle.losses.specs.Loss.{LossSaid, loss_after, lost_is, none_lost, loss_refused, next_behind, next_loss}
 use Rattle.losses.specs.Watch.{WatchSaid, quietly, kept_over, lost_over, watch_refused, WatchAfter, after_watch, watch_new, watch_slice, watches_from, EndAfter, said_at_end, watch_end}
 use Rattle.losses.specs.Cut.{next_seen}

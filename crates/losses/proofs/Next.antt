@@ -18,10 +18,11 @@ use Rattle.decoder.specs.Record.{DecoderAnswer, nothing, payload, count, refusal
 use Rattle.decoder_slice.specs.Slice.{says_nothing}
 use Rattle.decoder_slice.proofs.Taken.{is_nothing}
 use Rattle.since.specs.Bytes.{grown_since}
-use Rattle.since.specs.Since.{frame_head, ReadSince, EventSays, start_found, start_inside}
-use Rattle.since.proofs.Kept.{KeptSince, kept}
+use Rattle.since.specs.Since.{frame_head}
+use Rattle.since.specs.Exactly.{ReadExactly, SaysExactly, start_found, start_inside}
+use Rattle.since.proofs.KeptExactly.{KeptExactly, kept}
 use Rattle.losses.specs.Loss.{begins_in_start, has_start, cause_of, piece_of, loss_over, loss_at, loss_after, lost_is, none_lost, is_refusal, hands_out, next_behind}
-use Rattle.losses.specs.Watch.{look, no_look, over_of, look_behind, loss_seen, watched, moved_on, watch_behind}
+use Rattle.losses.specs.Watch.{no_look, over_of, look_behind, loss_seen, watched, moved_on, watch_behind}
 use Rattle.losses.specs.Cut.{next_seen}
 use Rattle.losses.specs.declared.Loss.{Loss}
 use Rattle.losses.specs.declared.Watch.{Watch}
@@ -31,11 +32,11 @@ use Rattle.losses.proofs.Tracks.{Tracks, tracks_new, tracks_start, tracks_on, pi
 pub record WatchReads (w : Watch) (m : List ℕ) (begun : ℕ) (h : List ℕ) : Type 0 where
   pub tracks : Tracks w begun h
   pub fit : Fit w.decoder m
-  pub reads : ReadSince (setup w.decoder) h (state_of w.decoder m)
+  pub reads : ReadExactly (setup w.decoder) h (state_of w.decoder m)
 
 -- ---- a DiscardedBytes comes with the last byte of a start
 
-says_start : {C : Setup} {w : List ℕ} {k : ℕ} → EventSays C w (discarded k) → EndsInStart w
+says_start : {C : Setup} {w : List ℕ} {k : ℕ} → SaysExactly C w (discarded k) → EndsInStart w
 says_start (start_found k x is p q r s) = record { before = x; is = is }
 says_start (start_inside k D is p q r) = record { before = frame_head D; is = is }
 
@@ -53,7 +54,7 @@ module _ (C : Setup) (w : Watch) (begun : ℕ) (h : List ℕ) (b : ℕ) (t : Tra
       → loss_over (cause_of false (eqb w.look.start_end 8) hides long a) w.begun long ≡ loss_over (cause_of false (begins_in_start h) hides' long a) begun long
   told_same a hides hides' long e = rw (t.begun', t.running, e)
 
-  loss_same : (e : PushEvent) → EventSays C g e → is_refusal (numbered e) ≡ true
+  loss_same : (e : PushEvent) → SaysExactly C g e → is_refusal (numbered e) ≡ true
       → loss_seen false (numbered e) w.look w.begun (over_of (numbered e) (suc w.pushed - w.begun)) ≡ loss_at false (numbered e) begun h (piece_of (numbered e) g)
   unfolding cause_of
   loss_same silent said r = absurd (false≢true r)
@@ -69,7 +70,7 @@ module _ (C : Setup) (w : Watch) (begun : ℕ) (h : List ℕ) (b : ℕ) (t : Tra
   anew : (d : Decoder) (n begun' : ℕ) → w.begun + n ≡ begun' → suc w.pushed ≡ begun' → Tracks (watched d (suc w.pushed) (w.begun + n) no_look) begun' []
   anew d n begun' e f = rw (e, f) (tracks_new d begun')
 
-  tracks_behind : (d : Decoder) (e : PushEvent) → EventSays C g e → says_nothing (numbered e) ≡ false
+  tracks_behind : (d : Decoder) (e : PushEvent) → SaysExactly C g e → says_nothing (numbered e) ≡ false
       → Tracks (watched d (suc w.pushed) (w.begun + over_of (numbered e) (suc w.pushed - w.begun)) (look_behind (numbered e))) (begun + over_of (numbered e) (length g)) (grown_since (numbered e) h b)
   tracks_behind d silent said q = absurd (false≢true (sym q))
   tracks_behind d (pays_out P) said q = anew d _ _ (rw (long_is, t.begun')) (omega (arith, t.pushed', length-append h (b ∷ [])))
@@ -93,24 +94,24 @@ module _ (w : Watch) (m : List ℕ) (begun : ℕ) (h : List ℕ) (k : WatchReads
   steps : Steps w.decoder m b pushed
   steps = push_is_step w.decoder m b k.fit
 
-  said : KeptSince (setup w.decoder) h b out
+  said : KeptExactly (setup w.decoder) h b out
   said = kept (setup w.decoder) h (state_of w.decoder m) b k.reads
 
   -- its answer is that of an event
   pub push_event : (e : PushEvent) × (pushed.answer ≡ numbered e)
   push_event = (out.event, steps.answer)
 
-  reads_on : ReadSince (setup pushed.decoder) (grown_since pushed.answer h b) (state_of pushed.decoder pushed.memory)
+  reads_on : ReadExactly (setup pushed.decoder) (grown_since pushed.answer h b) (state_of pushed.decoder pushed.memory)
   reads_on =
-      subst (λ (C : Setup). ReadSince C (grown_since pushed.answer h b) (state_of pushed.decoder pushed.memory)) (sym steps.setup')
-      (subst (λ (s : State). ReadSince (setup w.decoder) (grown_since pushed.answer h b) s) (sym steps.view')
-      (subst (λ (a : DecoderAnswer). ReadSince (setup w.decoder) (grown_since a h b) out.state) (sym steps.answer) said.reads))
+      subst (λ (C : Setup). ReadExactly C (grown_since pushed.answer h b) (state_of pushed.decoder pushed.memory)) (sym steps.setup')
+      (subst (λ (s : State). ReadExactly (setup w.decoder) (grown_since pushed.answer h b) s) (sym steps.view')
+      (subst (λ (a : DecoderAnswer). ReadExactly (setup w.decoder) (grown_since a h b) out.state) (sym steps.answer) said.reads))
 
   pub push_quiet : says_nothing pushed.answer ≡ true → WatchReads (moved_on w pushed.decoder b) pushed.memory begun (h ++ b ∷ [])
   push_quiet q = record {
     tracks = tracks_on w begun h pushed.decoder b k.tracks;
     fit = steps.fit;
-    reads = subst (λ (a : DecoderAnswer). ReadSince (setup pushed.decoder) (grown_since a h b) (state_of pushed.decoder pushed.memory)) (is_nothing pushed.answer q) reads_on;
+    reads = subst (λ (a : DecoderAnswer). ReadExactly (setup pushed.decoder) (grown_since a h b) (state_of pushed.decoder pushed.memory)) (is_nothing pushed.answer q) reads_on;
   }
 
   pub push_loud : says_nothing pushed.answer ≡ false

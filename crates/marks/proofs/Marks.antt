@@ -8,7 +8,7 @@ use Rattle.one_call.proofs.Bench.{whole_bench}
 use Rattle.one_call.proofs.Fakes.{fall_whole_readers}
 use Rattle.causes.proofs.Tools.{our_tool, only_our_tool}
 use Rattle.causes.proofs.Calls.{tells_all, always_within, always_by_length}
-use Rattle.causes.proofs.Hidden.{hidden_exactly, runs_from}
+use Rattle.causes.proofs.HiddenStarts.{hidden_exactly, runs_from}
 use Rattle.causes.proofs.Watchers.{our_watcher_lem}
 use Rattle.causes.proofs.Bench.{our_bench}
 use Rattle.causes.proofs.Fakes.{fall_tools}

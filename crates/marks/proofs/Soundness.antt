@@ -58,10 +58,10 @@ nothing_left g = record { pre = g; here = sym (append-nil g) }
 ends_told : (C : Setup) (g h : List ℕ) (b : ℕ) (e : PushEvent) → EndsWith g h → EventSays C (h ++ b ∷ []) e → EndsWith (grown (push b) (numbered e) g) (grown_since (numbered e) h b)
 ends_told C g h b e k goes_on = record { pre = k.pre; here = rw k.here (append_assoc k.pre h (b ∷ [])) }
 ends_told C g h b e k (start_found v x is m n pos c) = record { pre = k.pre ++ x; here = rw (k.here, append_assoc k.pre h (b ∷ []), is) (sym (append_assoc k.pre x start_seq)) }
-ends_told C g h b e k (start_inside v D is t f c) = record { pre = k.pre ++ frame_head D; here = rw (k.here, append_assoc k.pre h (b ∷ []), is) (sym (append_assoc k.pre (frame_head D) start_seq)) }
-ends_told C g h b e k (no_room f) = nothing_left (g ++ b ∷ [])
-ends_told C g h b e k (no_escape f) = nothing_left (g ++ b ∷ [])
-ends_told C g h b e k (no_message D f₁ f₂ f₃ f₄) = nothing_left (g ++ b ∷ [])
+ends_told C g h b e k (start_inside v D is c) = record { pre = k.pre ++ frame_head D; here = rw (k.here, append_assoc k.pre h (b ∷ []), is) (sym (append_assoc k.pre (frame_head D) start_seq)) }
+ends_told C g h b e k no_room = nothing_left (g ++ b ∷ [])
+ends_told C g h b e k no_escape = nothing_left (g ++ b ∷ [])
+ends_told C g h b e k no_message = nothing_left (g ++ b ∷ [])
 ends_told C g h b e k (frame_ends P f) = nothing_left []
 
 ends_act : (C : Setup) (g h : List ℕ) (s : State) (o : Op) → ReadSince C h s → EndsWith g h → EndsWith (grown o (answer_state C s o) g) (grown_since_op o (answer_state C s o) h)
@@ -101,11 +101,11 @@ bytes_behind C (o ∷ os) h s b t p =
 told_sound : {C : Setup} {w : List ℕ} (e : PushEvent) (P : List ℕ) → e ≡ pays_out P → EventSays C w e → AllBytes w → Sound w P
 told_sound e P q goes_on bs = absurd (let z : ◌≡◌ {A = ℕ} 0 1 = cc in omega arith)
 told_sound e P q (start_found v x is m n pos c) bs = absurd (let z : ◌≡◌ {A = ℕ} 0 1 = cc in omega arith)
-told_sound e P q (start_inside v D is t f c) bs = absurd (let z : ◌≡◌ {A = ℕ} 0 1 = cc in omega arith)
-told_sound e P q (no_room f) bs = absurd (let z : ◌≡◌ {A = ℕ} 0 1 = cc in omega arith)
-told_sound e P q (no_escape f) bs = absurd (let z : ◌≡◌ {A = ℕ} 0 1 = cc in omega arith)
-told_sound e P q (no_message D f₁ f₂ f₃ f₄) bs = absurd (let z : ◌≡◌ {A = ℕ} 0 1 = cc in omega arith)
-told_sound {w = w} e P q (frame_ends Q f) bs = let same' : Q ≡ P = cc in subst (Sound w) same' (f bs).sound
+told_sound e P q (start_inside v D is c) bs = absurd (let z : ◌≡◌ {A = ℕ} 0 1 = cc in omega arith)
+told_sound e P q no_room bs = absurd (let z : ◌≡◌ {A = ℕ} 0 1 = cc in omega arith)
+told_sound e P q no_escape bs = absurd (let z : ◌≡◌ {A = ℕ} 0 1 = cc in omega arith)
+told_sound e P q no_message bs = absurd (let z : ◌≡◌ {A = ℕ} 0 1 = cc in omega arith)
+told_sound {w = w} e P q (frame_ends Q f) bs = let same' : Q ≡ P = cc in subst (Sound w) same' (f bs)
 
 -- ---- the record
 

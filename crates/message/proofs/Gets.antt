@@ -1,14 +1,12 @@
 -- What the bytes of a message's head and of a list's end are read as, and what they leave: one line a field, in the order of the definition.
 use mathlib.Core.Path.{◌≡◌, refl}
-use mathlib.Core.List.{List, [], ◌∷◌, ◌++◌, append_assoc}
+use mathlib.Core.List.{List, ◌++◌, append_assoc}
 use mathlib.Core.Option.{Option}
 use Prim.Native.Nat.{ℕ}
-use Rattle.refusals.specs.Read.{Read}
 use Rattle.refusals.specs.declared.Span.{Span}
-use Rattle.refusals.proofs.Rest.{Rest, Gets, Reads, Is, Made, gets_is, gets_then, gets_guard, gets_got, gets_made}
+use Rattle.refusals.proofs.Rest.{Reads, Is, Made, gets_is, gets_then, gets_guard, gets_got, gets_made}
 use Rattle.tlf.specs.Lengths.{tlf_at, list_of_at}
 use Rattle.tlf.specs.declared.Ty.TheVariants.{ListOf}
-use Rattle.tlf.specs.declared.TypeLengthField.{TypeLengthField}
 use Rattle.numbers.specs.Numbers.{unsigned_at}
 use Rattle.octet_string.specs.Strings.{octets_at}
 use Rattle.octet_string.specs.Optional.{optional}

@@ -4,7 +4,6 @@ use Rattle.std.proofs.Math.Option.{Option}
 use Rattle.refusals.specs.Read.{Read, got, then, guard, mismatch}
 use Rattle.refusals.specs.declared.Span.{Span}
 use Rattle.tlf.specs.Lengths.{tlf_at, is_list}
-use Rattle.tlf.specs.declared.TypeLengthField.{TypeLengthField}
 use Rattle.message.specs.Messages.{ListStart}
 
 unfoldable pub list_start_rest : Option Span → Span → Option Span → Option ℕ → List ℕ → ℕ → Read (ListStart Span)

@@ -4,7 +4,6 @@ use Rattle.std.proofs.Math.Option.{Option}
 use Rattle.refusals.specs.Read.{Read, got, refused, then, guard, mismatch, unexpected}
 use Rattle.refusals.specs.declared.Span.{Span}
 use Rattle.tlf.specs.Lengths.{tlf_at, is_list, list_of_at}
-use Rattle.tlf.specs.declared.TypeLengthField.{TypeLengthField}
 use Rattle.numbers.specs.Numbers.{unsigned_at}
 use Rattle.octet_string.specs.Strings.{octets_at}
 use Rattle.octet_string.specs.Optional.{optional}

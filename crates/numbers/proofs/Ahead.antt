@@ -1,11 +1,10 @@
 -- Where a number's reading ends, whatever its bytes are.
 use mathlib.Core.List.{List}
 use mathlib.Core.Bool.{Bool}
-use Prim.Native.Nat.{ℕ, ◌+◌, ◌≤◌, ◌<◌}
+use Prim.Native.Nat.{ℕ, ◌≤◌}
 use native.Mathlib.Omega.{arith}
 use lib.ListN.{length}
-use Rattle.refusals.specs.Read.{Read}
-use Rattle.refusals.proofs.Read.{Ok, ok_got, ok_then, ok_guard, ok_weak, Ahead, span_ok}
+use Rattle.refusals.proofs.Read.{Ok, ok_got, ok_then, ok_guard, span_ok}
 use Rattle.refusals.proofs.Found.{Found, Any, any, from, found}
 use Rattle.tlf.proofs.Lengths.{tlf_ok}
 use Rattle.numbers.specs.Numbers.{bytes_at_claim, raw_from, raw_at, unsigned_at, signed_at, bool_at}

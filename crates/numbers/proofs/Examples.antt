@@ -1,7 +1,7 @@
 -- The edges of each number rule, of the definitions.
 use mathlib.Core.Path.{◌≡◌, refl}
 use mathlib.Core.Bool.{true, false}
-use mathlib.Core.List.{List, [], ◌∷◌}
+use mathlib.Core.List.{[], ◌∷◌}
 use lib.IntN.{pos, negsuc}
 use Rattle.refusals.specs.Read.{got, refused, then, guard, need, eof, mismatch, byte_at, span_at}
 use Rattle.tlf.specs.Lengths.{tlf_at, length_from, less_own}

@@ -1,19 +1,16 @@
 -- What the bytes of a number and of a Boolean are read as, and what they leave; once over the width and over the length field's form.
 use mathlib.Core.Path.{◌≡◌, refl}
 use mathlib.Core.List.{List, [], ◌∷◌, ◌++◌, append_assoc}
-use mathlib.Core.Bool.{Bool, true, false, not, ◌&&◌}
+use mathlib.Core.Bool.{Bool, true, false, not}
 use Prim.Native.Nat.{ℕ, ◌≤◌}
 use lib.ListN.{length}
-use lib.Dec.{leb, eqb}
-use lib.IntN.{ℤ}
+use lib.Dec.{eqb}
 use borrow.Author.Tests.{le-leb}
-use Rattle.refusals.specs.Read.{Read}
-use Rattle.refusals.proofs.Rest.{Rest, Gets, Reads, Is, gets_is, gets_guard, gets_got, byte_gets}
+use Rattle.refusals.proofs.Rest.{Reads, Is, gets_is, gets_guard, gets_got, byte_gets}
 use Rattle.tlf.specs.Lengths.{tlf_at}
 use Rattle.tlf.specs.declared.Ty.{Ty}
 use Rattle.tlf.specs.declared.Ty.TheVariants.{Boolean, Integer, Unsigned}
-use Rattle.tlf.specs.declared.TypeLengthField.{TypeLengthField}
-use Rattle.numbers.specs.Numbers.{number, Raw, is_number, raw_from, raw_at, unsigned_at, signed_of, signed_at, bool_from, bool_at}
+use Rattle.numbers.specs.Numbers.{number, is_number, raw_from, raw_at, unsigned_at, signed_of, signed_at, bool_from, bool_at}
 use Rattle.numbers.proofs.Numbers.{bytes_gets}
 
 raw_reads : (signed : Bool) (width : ℕ) (ty : Ty) (x : List ℕ) {b : List ℕ} → is_number signed ty ≡ true → 1 ≤ length x → length x ≤ width

@@ -1,7 +1,7 @@
 -- Laws of numbers of 1 to 8 bytes, once over the number of bytes.
 use mathlib.Core.Path.{◌≡◌, refl}
 use mathlib.Core.List.{List, [], ◌∷◌, ◌++◌}
-use mathlib.Core.Bool.{Bool, true, false, cond, ◌&&◌}
+use mathlib.Core.Bool.{Bool, true, false, cond}
 use Prim.Native.Nat.{ℕ, zero, suc, ◌+◌, ◌*◌, ◌/◌, ◌-◌, ◌^◌, ◌≤◌, ◌<◌}
 use native.Mathlib.Nat.{zero-add, mul-one, mul_assoc, mul_comm, mul-le-mul_right, mul-le-mul_left, pow-succ', one-le-pow, lt_of_lt_of_le, pow-le-pow_right}
 use native.Mathlib.Numerals.{add-one}
@@ -15,11 +15,10 @@ use mir.Syntax.{Width, w8, w64}
 use mir.Val.{to_z, of_z, Fits, SFits}
 use mir.ValLaws.{to_z-of_z}
 use borrow.Author.Tests.{leb-true, ltb-true, ltb-false}
-use Rattle.refusals.specs.Read.{Read, got, then, span_at}
+use Rattle.refusals.specs.Read.{got, then, span_at}
 use Rattle.refusals.specs.declared.Span.{Span}
-use Rattle.refusals.proofs.Read.{Ok, ok_at, ok_got, ok_then, ok_guard, Ahead, byte_ok, Inside, span_ok, and_left, and_right}
+use Rattle.refusals.proofs.Read.{Ok, ok_at, ok_got, ok_then, ok_guard, Ahead, byte_ok, span_ok, and_left, and_right}
 use Rattle.refusals.proofs.Rest.{Rest, Gets, gets_then, gets_got, span_gets}
-use Rattle.tlf.specs.Lengths.{tlf_at}
 use Rattle.tlf.specs.declared.TypeLengthField.{TypeLengthField}
 use Rattle.tlf.proofs.Lengths.{tlf_ok}
 use Rattle.numbers.specs.Numbers.{number, bytes_at_claim, Raw, is_number, fits_width, raw_from, raw_at, unsigned_at, signed_of, signed_at, bool_from, bool_at}

@@ -1,6 +1,6 @@
 -- Strings whole and cut, absent fields, parts of the input, of the definitions.
 use mathlib.Core.Path.{◌≡◌, refl}
-use mathlib.Core.List.{List, [], ◌∷◌}
+use mathlib.Core.List.{[], ◌∷◌}
 use mathlib.Core.Option.{some, none}
 use Rattle.refusals.specs.Read.{got, refused, then, guard, need, eof, mismatch, byte_at, span_at}
 use Rattle.refusals.specs.Answers.{underflow}

@@ -1,21 +1,19 @@
 -- What the bytes of a string and of an optional field are read as, and what they leave.
 use mathlib.Core.Path.{◌≡◌, refl, ◌∙◌}
 use mathlib.Core.List.{List, [], ◌∷◌, ◌++◌, append_assoc}
-use mathlib.Core.Option.{Option, some, none}
-use Prim.Native.Nat.{ℕ, ◌≤◌}
-use native.Mathlib.Omega.{arith}
+use mathlib.Core.Option.{some, none}
+use Prim.Native.Nat.{ℕ}
 use lib.ListN.{length, get_or}
 use Rattle.refusals.specs.Read.{Read}
 use Rattle.refusals.specs.declared.Span.{Span}
-use Rattle.refusals.proofs.Rest.{Rest, Gets, Reads, Is, Made, gets_ok}
+use Rattle.refusals.proofs.Rest.{Reads, Is, Made, gets_ok}
 use Rattle.tlf.specs.Lengths.{tlf_at}
-use Rattle.tlf.specs.declared.TypeLengthField.{TypeLengthField}
 use Rattle.tlf.specs.declared.Ty.TheVariants.{OctetString}
 use Rattle.octet_string.specs.Strings.{octets_at, part_of}
 use Rattle.octet_string.specs.Optional.{optional}
 use Rattle.octet_string.proofs.Strings.{octets_gets, part_is}
 use Rattle.octet_string.proofs.Optional.{absent_gets, present_gets}
-use Rattle.octet_string.proofs.Within.{Within, octets_found}
+use Rattle.octet_string.proofs.Within.{octets_found}
 
 -- the part of the input is x
 abbrev pub Part : List ℕ → List ℕ → Span → Type 0

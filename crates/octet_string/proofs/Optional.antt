@@ -1,15 +1,15 @@
 -- Laws of optional fields, once over the field's own reading.
 use mathlib.Core.Path.{◌≡◌, refl, sym, ◌∙◌}
-use mathlib.Core.List.{List, [], ◌∷◌, ◌++◌}
-use mathlib.Core.Bool.{Bool, true, false, cond, ◌&&◌}
+use mathlib.Core.List.{List, ◌∷◌}
+use mathlib.Core.Bool.{true}
 use mathlib.Core.Option.{Option, some, none}
-use Prim.Native.Nat.{ℕ, ◌+◌, ◌<◌}
+use Prim.Native.Nat.{ℕ, ◌<◌}
 use native.Mathlib.Omega.{arith}
 use lib.ListN.{length, get_or}
-use lib.Dec.{ltb, eqb}
+use lib.Dec.{eqb}
 use borrow.Author.Tests.{ltb-true, lt-ltb, eq-eqb, ne_eqb}
-use Rattle.refusals.specs.Read.{Read, got, then}
-use Rattle.refusals.proofs.Read.{Ok, ok_got, ok_then, ok_cond, Ahead, and_left, and_right}
+use Rattle.refusals.specs.Read.{Read}
+use Rattle.refusals.proofs.Read.{Ok, ok_got, ok_then, ok_cond, Ahead, and_left}
 use Rattle.refusals.proofs.Rest.{Rest, Gets, Made, gets_got, gets_made, rest_length, rest_byte, rest_next}
 use Rattle.octet_string.specs.Optional.{absent_at, optional}
 

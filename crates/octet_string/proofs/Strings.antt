@@ -1,22 +1,21 @@
 -- Laws of octet strings: a span that was read lies within the input, and what stands there is read back.
-use mathlib.Core.Path.{◌≡◌, refl, sym, ◌∙◌}
-use mathlib.Core.List.{List, [], ◌∷◌, ◌++◌}
-use mathlib.Core.Bool.{Bool, true, false, cond, ◌&&◌}
-use mathlib.Core.Option.{Option, some, none}
-use Prim.Native.Nat.{ℕ, ◌+◌, ◌-◌, ◌≤◌, ◌<◌}
+use mathlib.Core.Path.{◌≡◌, refl}
+use mathlib.Core.List.{List, ◌++◌}
+use mathlib.Core.Bool.{true}
+use mathlib.Core.Option.{none}
+use Prim.Native.Nat.{ℕ, ◌+◌, ◌-◌, ◌≤◌}
 use native.Mathlib.Omega.{arith}
 use lib.ListN.{length, take, drop}
 use lib.Dec.{leb}
 use borrow.Author.Tests.{leb-true, le-leb}
-use Rattle.refusals.specs.Read.{Read, got}
 use Rattle.refusals.specs.declared.Span.{Span}
-use Rattle.refusals.proofs.Read.{Ok, ok_got, ok_then, ok_guard, ok_weak, Ahead, Inside, span_ok, and_left, and_right}
-use Rattle.refusals.proofs.Rest.{Rest, Gets, gets_is, gets_guard, gets_weak, span_gets}
+use Rattle.refusals.proofs.Read.{Ok, ok_then, ok_guard, ok_weak, Ahead, Inside, span_ok, and_left, and_right}
+use Rattle.refusals.proofs.Rest.{Gets, gets_is, gets_guard, span_gets}
 use Rattle.tlf.specs.Lengths.{tlf_at}
 use Rattle.tlf.specs.declared.TypeLengthField.{TypeLengthField}
 use Rattle.tlf.specs.declared.Ty.TheVariants.{OctetString}
 use Rattle.tlf.proofs.Lengths.{tlf_ok}
-use Rattle.octet_string.specs.Strings.{is_octets, octets_at, span_within, part_of, span_refusal}
+use Rattle.octet_string.specs.Strings.{octets_at, span_within, part_of, span_refusal}
 
 pub within_start : (s : List ℕ) (p : Span) → span_within s p ≡ true → p.start ≤ length s
 unfolding span_within

@@ -1,16 +1,16 @@
 -- Strings that were read lie within the input, so that their part never is 16.
 use mathlib.Core.List.{List}
 use mathlib.Core.Option.{Option, some, none}
-use Prim.Native.Nat.{ℕ, ◌+◌, ◌≤◌, ◌<◌}
+use Prim.Native.Nat.{ℕ, ◌+◌, ◌≤◌}
 use native.Mathlib.Omega.{arith}
 use lib.ListN.{length}
 use Rattle.refusals.specs.Read.{Read}
 use Rattle.refusals.specs.declared.Span.{Span}
-use Rattle.refusals.proofs.Read.{Ok, ok_weak, Ahead}
-use Rattle.refusals.proofs.Found.{Found, Any}
+use Rattle.refusals.proofs.Read.{Ok, ok_weak}
+use Rattle.refusals.proofs.Found.{Found}
 use Rattle.octet_string.specs.Strings.{octets_at}
 use Rattle.octet_string.specs.Optional.{optional}
-use Rattle.octet_string.proofs.Strings.{Held, octets_ok}
+use Rattle.octet_string.proofs.Strings.{octets_ok}
 use Rattle.octet_string.proofs.Optional.{OfField, optional_ok}
 
 -- the span lies within the input

@@ -25,7 +25,7 @@ use Rattle.trailer.specs.Trailer.{message_end_at, crc_from, trailer_at}
 use Rattle.whole.specs.Whole.{EntryRow, row_at, WholeMessage, inside_at, whole_at, flat, WholeSaid, whole_is, broken, refused_alone, AfterWhole, fill_to, read_to, Fair}
 use Rattle.whole.specs.Answers.{after_whole}
 use Rattle.whole.proofs.Outcomes.{WholeOutcome, too_long, place_beyond, broken_at, table_full, taken_whole, whole_outcome, not_broken, not_refused_alone, never_broken, same_number, end_said_by}
-use Rattle.streaming.specs.Next.{Said, failed, alone, onward, begin_at, trailer_next, step_at, next_at}
+use Rattle.streaming.specs.Next.{Said, failed, onward, begin_at, trailer_next, step_at, next_at}
 use Rattle.events.specs.Message.{Message, message_at}
 use Rattle.events.specs.Telling.{message_events, is_refused, RefusesFirst}
 use Rattle.events.specs.Calls.{call}

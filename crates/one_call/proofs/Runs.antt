@@ -16,7 +16,7 @@ use Rattle.common.specs.Fields.{ListEntry}
 use Rattle.message.specs.Messages.{MessageStart, ListEnd, start_at}
 use Rattle.streaming.specs.Next.{MessageEvent, start_event, entry_event, end_event, Said, event, no_event, failed, alone, ReaderAfter, is_sound, begin_at, step_at, next_at}
 use Rattle.events.specs.Message.{Message, message_at}
-use Rattle.events.specs.Events.{Answers, nth, answer, says_first, no_more, at_start_claim, inside, messages_from}
+use Rattle.events.specs.Events.{Answers, nth, answer, says_first, no_more, at_start_claim, messages_from}
 use Rattle.events.specs.Telling.{says_all, entry_events, end_events, message_events, is_refused, Tells}
 use Rattle.events.specs.Calls.{call}
 use Rattle.events.proofs.Calls.{SoundReader, messages_give}

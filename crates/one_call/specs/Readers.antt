@@ -1,5 +1,5 @@
 -- claim: what every reader of whole messages must do. It accepts exactly where the event reader runs to a message's end and the table has room, with the same fields; its refusals are the event reader's, but 20, which comes last, and 10 where the input has ended; and they leave the table.
-use Rattle.std.specs.Prelude.{ℕ, zero, suc, ◌+◌, ◌*◌, ◌/◌, ◌≤◌, ◌<◌, ◌≡◌, List, [], ◌∷◌, ◌++◌, map, length, get_or, take, drop}
+use Rattle.std.specs.Prelude.{ℕ, ◌+◌, ◌*◌, ◌/◌, ◌≤◌, ◌<◌, ◌≡◌, List, [], ◌∷◌, ◌++◌, map, length, take, drop}
 use Rattle.std.proofs.Math.Option.{Option}
 use Rattle.refusals.specs.Numbers.{bad_state_no, input_too_long_no, too_many_entries_no, limit}
 use Rattle.refusals.specs.Read.{got, Refusal, eof}

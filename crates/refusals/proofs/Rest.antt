@@ -1,15 +1,15 @@
 -- What is left of the input behind a reading: laws of `then`, `guard`, `need` and `many`, and of bytes taken.
 use mathlib.Core.Path.{◌≡◌, refl, sym, ap, ◌∙◌}
 use mathlib.Core.List.{List, [], ◌∷◌, ◌++◌, append_assoc}
-use mathlib.Core.Bool.{Bool, true, false}
-use mathlib.Core.Option.{Option, some, none}
-use Prim.Native.Nat.{ℕ, zero, suc, ◌+◌, ◌-◌, ◌≤◌, ◌<◌}
+use mathlib.Core.Bool.{Bool, true}
+use mathlib.Core.Option.{Option, some}
+use Prim.Native.Nat.{ℕ, zero, suc, ◌+◌, ◌-◌, ◌≤◌}
 use borrow.Author.Tests.{lt-ltb, le-leb}
 use native.Mathlib.Numerals.{unary_clauses}
 use native.Mathlib.Omega.{arith}
 use lib.ListN.{length, get_or, take, drop, length-append, length-drop}
 use lib.Seq.{drop-drop, drop-append_seam, take-append_seam, get_or-drop}
-use Rattle.refusals.specs.Read.{Read, got, refused, Refusal, then, guard, need, many, byte_at, span_at}
+use Rattle.refusals.specs.Read.{Read, got, Refusal, then, guard, need, many, byte_at, span_at}
 use Rattle.refusals.specs.declared.Span.{Span}
 use Rattle.refusals.proofs.Read.{Ok, ok_at, Ahead}
 

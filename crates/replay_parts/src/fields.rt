@@ -2,6 +2,7 @@
 use super::line::{decimal, hex, nth, text};
 use octet_string::OptSpan;
 use refusals::{Fault, ParseError, Span, TlfParseError};
+use std::io;
 use value::{OptI8, OptStatus, OptTime, OptU8, Status, Time, Value};
 
 // ---- fields
@@ -162,27 +163,27 @@ pub(crate) fn of_value(v: Value) -> Field {
 
 // ---- in words
 
-fn with_minus(below: bool, x: u64) {
+fn with_minus(rt: &impl Print, below: bool, x: u64) -> io::Result<()> {
     if below {
-        text(b"-");
+        text(rt, b"-")?;
         if x < u64::MAX {
-            decimal(x + 1);
+            decimal(rt, x + 1)?;
         }
-        return;
+        return Ok(());
     }
-    decimal(x);
+    decimal(rt, x)
 }
 
 // What stands before the number or the bytes of each kind of field, if anything.
-pub(crate) fn written(f: Field, input: &[u8]) {
+pub(crate) fn written(rt: &impl Print, f: Field, input: &[u8]) -> io::Result<()> {
     let kind = f.kind;
     let span = f.span;
     let names = b"-,x,oct:,,sec:,list:sec:,bool:,u8:,u16:,u32:,u64:,i8:,i16:,i32:,i64:";
-    text(nth(names, kind, b','));
+    text(rt, nth(names, kind, b','))?;
     match kind {
-        0 => {}
-        1 | 2 => hex(octet_string::octet_str(input, span)),
-        _ => with_minus(f.below, f.number),
+        0 => { Ok(()) },
+        1 | 2 => hex(rt, octet_string::octet_str(input, span)),
+        _ => with_minus(rt, f.below, f.number),
     }
 }
 
@@ -224,19 +225,20 @@ fn documented(k: u8) -> u64 {
     if k <= 5 { 11 } else { k as u64 + 6 }
 }
 
-fn number_and_place(f: Field) {
-    text(b" ");
-    decimal(documented(f.kind));
-    text(b" @");
-    decimal(f.number);
+fn number_and_place(rt: &impl Print, f: Field) -> io::Result<()> {
+    text(rt, b" ")?;
+    decimal(rt, documented(f.kind))?;
+    text(rt, b" @")?;
+    decimal(rt, f.number)
 }
 
-pub(crate) fn error(f: Field, places: bool) {
+pub(crate) fn error(rt: &impl Print, f: Field, places: bool) -> io::Result<()> {
     let names =
         b"UnexpectedEOF,InvalidTlf TlfLengthOverflow,InvalidTlf TlfReserved,InvalidTlf TlfLengthUnderflow,InvalidTlf TlfNextByteTypeMismatch,InvalidTlf TlfInvalidTy,TlfMismatch,UnexpectedVariant,CrcMismatch,MsgEndMismatch";
-    text(b"err ");
-    text(nth(names, f.kind, b','));
+    text(rt, b"err ")?;
+    text(rt, nth(names, f.kind, b','))?;
     if places {
-        number_and_place(f);
+        number_and_place(rt, f)?;
     }
+    Ok(())
 }

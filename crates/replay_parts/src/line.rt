@@ -1,8 +1,10 @@
 // What a line is made of, how it is read and how an answer is written. The program of tests/forms reads its lines by this text too.
 // Slices stand for words; a word that isn't there is the empty one, which no command takes.
-ghost use Rattle.std.specs.Prelude.{◌≤◌};
+ghost use Rattle.std.specs.Prelude.{◌≤◌, IfOk};
 
 use super::{command, of_bytes};
+use std::io;
+use std::io::Read;
 
 // No table has as many names.
 const NO_NAME: u8 = 32;
@@ -207,8 +209,8 @@ pub(crate) fn number(s: &[u8]) -> usize {
 
 // ---- the output, written piece by piece
 
-pub(crate) fn text(s: &[u8]) {
-    io::write_all(1, s);
+pub(crate) fn text(rt: &impl Print, s: &[u8]) -> io::Result<()> {
+    rt.write_all(s)
 }
 
 fn digit(x: u8) -> u8 {
@@ -219,48 +221,47 @@ fn digit(x: u8) -> u8 {
 }
 
 // Writes what stands in a line once it is full; answers how many bytes are left standing.
-fn kept(line: &[u8], n: usize) -> usize
-    ensures { result ≤ 62 }
+fn kept(rt: &impl Print, line: &[u8], n: usize) -> io::Result<usize>
+    ensures { IfOk result (λ n. n ≤ 62) }
 {
     if n <= 62 {
-        return n;
+        return Ok(n);
     }
-    text(part(line, 0, n));
-    0
+    text(rt, part(line, 0, n))?;
+    Ok(0)
 }
 
-pub(crate) fn hex(s: &[u8]) {
+pub(crate) fn hex(rt: &impl Print, s: &[u8]) -> io::Result<()> {
     let mut line = [0u8; 64];
     let mut n = 0;
     let mut i = 0;
     while i < s.len() {
         line[n] = digit(s[i] / 16);
         line[n + 1] = digit(s[i] % 16);
-        n = kept(&line, n + 2);
+        n = kept(rt, &line, n + 2)?;
         i += 1;
     }
-    text(part(&line, 0, n));
+    text(rt, part(&line, 0, n))
 }
 
-pub(crate) fn decimal(x: u64) {
-    io::print_decimal(1, x);
+pub(crate) fn decimal(rt: &impl Print, x: u64) -> io::Result<()> {
+    rt.print(x)
 }
 
-pub(crate) fn bad() {
-    text(b"bad command");
+pub(crate) fn bad(rt: &impl Print) -> io::Result<()> {
+    text(rt, b"bad command")
 }
 
 // ---- lines
 
 // Hands the bytes of a hex word to a command of bytes, and the number that stands before them, if any.
-pub(crate) fn with_bytes(which: u8, number: usize, hex: &[u8]) {
+pub(crate) fn with_bytes(rt: &impl Print, which: u8, number: usize, hex: &[u8]) -> io::Result<()> {
     if !is_hex(hex) {
-        bad();
-        return;
+        return bad(rt);
     }
     let mut bytes = [0u8; BYTES];
     let len = unhex(hex, &mut bytes);
-    of_bytes(which, number, part(&bytes, 0, len));
+    of_bytes(rt, which, number, part(&bytes, 0, len))
 }
 
 // How long the line is so far, usize::MAX where it is too long; whether input may follow.
@@ -271,71 +272,71 @@ struct Place {
 }
 
 // A line that is too long has no part, and the empty line is no command.
-fn answer(line: &[u8], len: usize) {
-    command(part(line, 0, len));
-    text(b"\n");
+fn answer(rt: &impl Print, line: &[u8], len: usize) -> io::Result<()> {
+    command(rt, part(line, 0, len))?;
+    text(rt, b"\n")
 }
 
 // One byte of the input: of a line, or its end. Answers how long the line is.
-fn take(len: usize, b: u8, line: &mut [u8]) -> usize {
+fn take(rt: &impl Print, len: usize, b: u8, line: &mut [u8]) -> io::Result<usize> {
     if b == b'\n' {
-        answer(&line[..], len);
-        return 0;
+        answer(rt, &line[..], len)?;
+        return Ok(0);
     }
     if len < line.len() {
         line[len] = b;
-        return len + 1;
+        return Ok(len + 1);
     }
-    usize::MAX
+    Ok(usize::MAX)
 }
 
-fn take_all(len: usize, chunk: &[u8], line: &mut [u8]) -> usize {
+fn take_all(rt: &impl Print, len: usize, chunk: &[u8], line: &mut [u8]) -> io::Result<usize> {
     let mut now = len;
     let mut i = 0;
     while i < chunk.len() {
-        now = take(now, chunk[i], line);
+        now = take(rt, now, chunk[i], line)?;
         i += 1;
     }
-    now
+    Ok(now)
 }
 
-// Reads once, and takes what came.
-fn turn(p: Place, line: &mut [u8]) -> Place {
+// Reads once, and takes what came. What can't be read is the end of the input.
+fn turn(rt: &impl Print, source: &mut impl Read, p: Place, line: &mut [u8]) -> io::Result<Place> {
     let mut chunk = [0u8; 65536];
-    let got = libc::read(0, &mut chunk);
-    if got <= 0 {
-        return Place {
+    let count = source.read(&mut chunk).unwrap_or(0);
+    if count == 0 {
+        return Ok(Place {
             len: p.len,
             more: false,
-        };
+        });
     }
-    let count = io::count(got, &chunk);
-    Place {
-        len: take_all(p.len, &chunk[..count], line),
+    Ok(Place {
+        len: take_all(rt, p.len, &chunk[..count], line)?,
         more: true,
-    }
+    })
 }
 
 // Nothing says that the input ends, so the turns are counted down, from a number that no run uses up.
-fn run(p: Place, line: &mut [u8]) -> Place {
+fn run(rt: &impl Print, source: &mut impl Read, p: Place, line: &mut [u8]) -> io::Result<Place> {
     let mut now = p;
     let mut turns = u64::MAX;
     while turns > 0 {
-        now = turn(now, line);
+        now = turn(rt, source, now, line)?;
         if !now.more {
-            return now;
+            return Ok(now);
         }
         turns -= 1;
     }
-    now
+    Ok(now)
 }
 
 // Answers every line of the input; a last line without its end is a line too.
-pub(crate) fn answers() {
+pub(crate) fn answers(rt: &(impl Print + Input)) -> io::Result<()> {
     let mut line = [0u8; 70000];
     let begun = Place { len: 0, more: true };
-    let last = run(begun, &mut line);
+    let last = run(rt, &mut rt.reader(), begun, &mut line)?;
     if last.len != 0 {
-        answer(&line, last.len);
+        answer(rt, &line, last.len)?;
     }
+    Ok(())
 }

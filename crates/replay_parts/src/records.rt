@@ -4,6 +4,7 @@ use super::line::{
 };
 use decoder::{DecodeState, Decoder};
 use packed::{Packing, Unpacking};
+use std::io;
 
 // The largest numbers of the fields: of one byte, of four, and of those that a record has as usize.
 const BYTE: usize = 255;
@@ -18,9 +19,9 @@ fn both(a: bool, b: bool) -> bool {
 
 // ---- unpack
 
-fn field(name: &[u8], x: u64) {
-    text(name);
-    decimal(x);
+fn field(rt: &impl Print, name: &[u8], x: u64) -> io::Result<()> {
+    text(rt, name)?;
+    decimal(rt, x)
 }
 
 // Its number, its small count and its noise, each 0 where it has none.
@@ -64,29 +65,29 @@ fn told(s: DecodeState) -> Shown {
     }
 }
 
-fn hex_u16(x: u16) {
-    io::print_hex(1, x as u64, 4);
+fn hex_u16(rt: &impl Print, x: u16) -> io::Result<()> {
+    print!(rt; "{:04x}", x as u64)
 }
 
-fn record(d: Decoder) {
+fn record(rt: &impl Print, d: Decoder) -> io::Result<()> {
     let s = d.state;
     let t = told(s);
-    field(b"kind=", t.kind as u64);
-    field(b" n=", t.n as u64);
-    field(b" way=", d.way as u64);
-    text(b" crc=");
-    hex_u16(d.crc);
-    field(b" fill=", d.fill as u64);
-    field(b" idx=", d.crc_idx as u64);
-    field(b" raw=", d.raw_msg_len as u64);
-    field(b" noise=", t.noise as u64);
-    field(b" cap=", d.capacity as u64);
+    field(rt, b"kind=", t.kind as u64)?;
+    field(rt, b" n=", t.n as u64)?;
+    field(rt, b" way=", d.way as u64)?;
+    text(rt, b" crc=")?;
+    hex_u16(rt, d.crc)?;
+    field(rt, b" fill=", d.fill as u64)?;
+    field(rt, b" idx=", d.crc_idx as u64)?;
+    field(rt, b" raw=", d.raw_msg_len as u64)?;
+    field(rt, b" noise=", t.noise as u64)?;
+    field(rt, b" cap=", d.capacity as u64)
 }
 
-pub(crate) fn unpack(bytes: &[u8]) {
+pub(crate) fn unpack(rt: &impl Print, bytes: &[u8]) -> io::Result<()> {
     match packed::unpack(bytes) {
-        Unpacking::Good(d) => record(d),
-        Unpacking::BadState => text(b"refused 4"),
+        Unpacking::Good(d) => record(rt, d),
+        Unpacking::BadState => text(rt, b"refused 4"),
     }
 }
 
@@ -102,36 +103,34 @@ fn refusal(p: Packing) -> u8 {
     }
 }
 
-fn in_hex(bytes: &[u8]) {
+fn in_hex(rt: &impl Print, bytes: &[u8]) -> io::Result<()> {
     if bytes.len() == 0 {
-        text(b"-");
-        return;
+        return text(rt, b"-");
     }
-    hex(bytes);
+    hex(rt, bytes)
 }
 
-fn pack_into(d: Decoder, out: &mut [u8]) {
+fn pack_into(rt: &impl Print, d: Decoder, out: &mut [u8]) -> io::Result<()> {
     let refused = refusal(packed::pack(d, out));
     if refused != 0 {
-        field(b"refused ", refused as u64);
-        text(b" ");
+        field(rt, b"refused ", refused as u64)?;
+        text(rt, b" ")?;
     }
-    in_hex(&out[..]);
+    in_hex(rt, &out[..])
 }
 
 // The output is the first `room` bytes.
-fn pack_in(d: Decoder, room: usize, out: &mut [u8]) {
+fn pack_in(rt: &impl Print, d: Decoder, room: usize, out: &mut [u8]) -> io::Result<()> {
     if out.len() < room {
-        bad();
-        return;
+        return bad(rt);
     }
-    pack_into(d, &mut out[..room]);
+    pack_into(rt, d, &mut out[..room])
 }
 
-fn packed(d: Decoder, output: &[u8]) {
+fn packed(rt: &impl Print, d: Decoder, output: &[u8]) -> io::Result<()> {
     let mut out = [0u8; BYTES];
     let room = unhex(output, &mut out);
-    pack_in(d, room, &mut out);
+    pack_in(rt, d, room, &mut out)
 }
 
 fn one_byte(x: usize) -> u8 {
@@ -226,15 +225,13 @@ fn record_of(s: &[u8]) -> Decoder {
 }
 
 // The nine fields of a record, and what the output holds.
-pub(crate) fn pack(rest: &[u8]) {
+pub(crate) fn pack(rt: &impl Print, rest: &[u8]) -> io::Result<()> {
     let output = behind_three(behind_three(behind_three(rest)));
     if !are_fields(rest) {
-        bad();
-        return;
+        return bad(rt);
     }
     if !is_hex(output) {
-        bad();
-        return;
+        return bad(rt);
     }
-    packed(record_of(rest), output);
+    packed(rt, record_of(rest), output)
 }

@@ -1,4 +1,4 @@
-// The static library: what a collector in C or Rust calls (include/sartrogheo.h). Pointers and numbers come in, and a number goes out; what else a call has to say goes into what it is lent.
+// What a collector in C or Rust calls (include/sartrogheo.h), through the exports of crate sartrogheo_c. Pointers and numbers come in, and a number goes out; what else a call has to say goes into what it is lent.
 // Each call is thin: the decoder's 28 bytes, an Encoder's, a writer's or a watch's four numbers or a reader's three are taken as they come, the function that is there does the work, and its answer is put into numbers.
 #![tactic(auto)]
 
@@ -157,8 +157,7 @@ fn packing_no(r: Packing) -> u32
 }
 
 // Makes a decoder that has seen nothing, for a buffer of this capacity, in this way of searching.
-#[unsafe(no_mangle)]
-pub extern "C" fn sgh_decoder_new(bytes: &mut [u8; 28], capacity: usize, way: u8) -> u32
+pub fn sgh_decoder_new(bytes: &mut [u8; 28], capacity: usize, way: u8) -> u32
     ensures { reply result (bytes.new ∷ []) ≡ sgh_decoder_new bytes.old capacity way }
 {
     let r = packed::pack(Decoder::with_way(capacity, way), &mut bytes[..]);
@@ -175,13 +174,7 @@ fn push_any(bytes: &mut [u8; 28], buf: &mut [u8], byte: u8, values: &mut [u64; 4
 }
 
 // Pushes a byte. 1b is no plain byte; that it is sent off first leaves push_any two callers, and the short way no stack to make room on.
-#[unsafe(no_mangle)]
-pub extern "C" fn sgh_push_byte(
-    bytes: &mut [u8; 28],
-    buf: &mut [u8],
-    byte: u8,
-    values: &mut [u64; 4],
-) -> u32
+pub fn sgh_push_byte(bytes: &mut [u8; 28], buf: &mut [u8], byte: u8, values: &mut [u64; 4]) -> u32
     ensures { reply result (bytes.new ∷ buf.new ∷ values.new ∷ []) ≡ sgh_push_byte bytes.old buf.old byte values.old }
 {
     if byte == Decoder::ESC {
@@ -194,8 +187,7 @@ pub extern "C" fn sgh_push_byte(
 }
 
 // Pushes bytes until the first event.
-#[unsafe(no_mangle)]
-pub extern "C" fn sgh_push_slice(
+pub fn sgh_push_slice(
     bytes: &mut [u8; 28],
     buf: &mut [u8],
     chunk: &[u8],
@@ -222,8 +214,7 @@ fn asked_no(a: Asked) -> u32
 }
 
 // The length of the payload that stands in the buffer.
-#[unsafe(no_mangle)]
-pub extern "C" fn sgh_payload(bytes: &[u8; 28], buf: &[u8], len: &mut usize) -> u32
+pub fn sgh_payload(bytes: &[u8; 28], buf: &[u8], len: &mut usize) -> u32
     ensures { reply result ((len.new ∷ []) ∷ []) ≡ sgh_payload bytes.now buf.now }
 {
     let p = packed::payload_packed(&bytes[..], buf);
@@ -233,8 +224,7 @@ pub extern "C" fn sgh_payload(bytes: &[u8; 28], buf: &[u8], len: &mut usize) -> 
 }
 
 // Says how many bytes are lost, if any; the decoder begins again.
-#[unsafe(no_mangle)]
-pub extern "C" fn sgh_finalize(bytes: &mut [u8; 28], values: &mut [u64; 4]) -> u32
+pub fn sgh_finalize(bytes: &mut [u8; 28], values: &mut [u64; 4]) -> u32
     ensures { reply result (bytes.new ∷ values.new ∷ []) ≡ sgh_finalize bytes.old values.old }
 {
     let e = packed::finalize_packed(&mut bytes[..]);
@@ -243,8 +233,7 @@ pub extern "C" fn sgh_finalize(bytes: &mut [u8; 28], values: &mut [u64; 4]) -> u
 }
 
 // Gives the number of bytes that are lost; the decoder begins again.
-#[unsafe(no_mangle)]
-pub extern "C" fn sgh_reset(bytes: &mut [u8; 28], values: &mut [u64; 4]) -> u32
+pub fn sgh_reset(bytes: &mut [u8; 28], values: &mut [u64; 4]) -> u32
     ensures { reply result (bytes.new ∷ values.new ∷ []) ≡ sgh_reset bytes.old values.old }
 {
     let r = packed::reset_packed(&mut bytes[..]);
@@ -282,8 +271,7 @@ fn encoded_len(r: Encoded) -> usize
 }
 
 // The payload's frame goes to `out`.
-#[unsafe(no_mangle)]
-pub extern "C" fn sgh_encode(payload: &[u8], out: &mut [u8], len: &mut usize) -> u32
+pub fn sgh_encode(payload: &[u8], out: &mut [u8], len: &mut usize) -> u32
     ensures { reply result (out.new ∷ (len.new ∷ []) ∷ []) ≡ sgh_encode payload.now out.old }
 {
     let r = encoder::encode(payload, out);
@@ -387,16 +375,14 @@ fn encoder_of(kind: u64, count: u64, place: usize, crc: u64) -> Encoder
 }
 
 // Makes an Encoder that gave nothing yet.
-#[unsafe(no_mangle)]
-pub extern "C" fn sgh_encoder_new(encoder: &mut [u64; 4])
+pub fn sgh_encoder_new(encoder: &mut [u64; 4])
     ensures { encoder.new ≡ sgh_encoder_new }
 {
     *encoder = encoder_words(Encoder::new());
 }
 
 // The frame's next byte.
-#[unsafe(no_mangle)]
-pub extern "C" fn sgh_encoder_next(encoder: &mut [u64; 4], payload: &[u8], byte: &mut u8) -> u32
+pub fn sgh_encoder_next(encoder: &mut [u64; 4], payload: &[u8], byte: &mut u8) -> u32
     ensures { reply result (encoder.new ∷ (byte.new ∷ []) ∷ []) ≡ sgh_encoder_next encoder.old payload.now byte.old }
 {
     let e = encoder_of(encoder[0], encoder[1], encoder[2] as usize, encoder[3]);
@@ -415,8 +401,7 @@ pub extern "C" fn sgh_encoder_next(encoder: &mut [u64; 4], payload: &[u8], byte:
 }
 
 // The check value of the bytes.
-#[unsafe(no_mangle)]
-pub extern "C" fn sgh_crc(bytes: &[u8]) -> u16
+pub fn sgh_crc(bytes: &[u8]) -> u16
     ensures { result ≡ crc_of bytes.now }
 {
     crc_x25::checksum(bytes)
@@ -453,8 +438,7 @@ fn said_no(answer: Answer) -> u32
 }
 
 // The next event of a payload, and the reader behind it.
-#[unsafe(no_mangle)]
-pub extern "C" fn sgh_next_event(input: &[u8], reader: &mut [u64; 3], event: &mut [u64; 24]) -> u32
+pub fn sgh_next_event(input: &[u8], reader: &mut [u64; 3], event: &mut [u64; 24]) -> u32
     ensures { reply result (reader.new ∷ event.new ∷ []) ≡ sgh_next_event input.now reader.old }
 {
     let n = streaming::parse_next(input, reader[0] as usize, reader[1] as usize, reader[2]);
@@ -574,8 +558,7 @@ fn event_to(out: &mut [u8], w: ListWriter, strings: &[u8], e: ParseEvent) -> Lis
 }
 
 // Writes an event, whose strings are parts of `strings`, where the writer is.
-#[unsafe(no_mangle)]
-pub extern "C" fn sgh_write_event(
+pub fn sgh_write_event(
     out: &mut [u8],
     strings: &[u8],
     event: &[u64; 24],
@@ -737,13 +720,7 @@ fn message_words(w: WholeRead) -> [u64; 50]
 }
 
 // The message at a place, whatever follows it, and the rows of its entries.
-#[unsafe(no_mangle)]
-pub extern "C" fn sgh_read_message(
-    input: &[u8],
-    at: usize,
-    table: &mut [u32],
-    message: &mut [u64; 50],
-) -> u32
+pub fn sgh_read_message(input: &[u8], at: usize, table: &mut [u32], message: &mut [u64; 50]) -> u32
     ensures { reply result (table.new ∷ message.new ∷ []) ≡ sgh_read_message input.now at table.old }
 {
     let w = whole::read_message(input, at, table);
@@ -783,13 +760,7 @@ fn index_words(x: Indexed) -> [u64; 5]
 }
 
 // The rows of the message at a place, sorted in the table.
-#[unsafe(no_mangle)]
-pub extern "C" fn sgh_build_index(
-    input: &[u8],
-    at: usize,
-    table: &mut [u32],
-    index: &mut [u64; 5],
-) -> u32
+pub fn sgh_build_index(input: &[u8], at: usize, table: &mut [u32], index: &mut [u64; 5]) -> u32
     ensures { reply result (table.new ∷ index.new ∷ []) ≡ sgh_build_index input.now at table.old }
 {
     let x = index::build_index(input, at, table);
@@ -813,8 +784,7 @@ fn row_numbers(r: Row) -> [u32; 4]
 }
 
 // The first row with exactly that name, in any table; else the row stays as it was.
-#[unsafe(no_mangle)]
-pub extern "C" fn sgh_look_up(input: &[u8], table: &[u32], name: &[u8], row: &mut [u32; 4]) -> u32
+pub fn sgh_look_up(input: &[u8], table: &[u32], name: &[u8], row: &mut [u32; 4]) -> u32
     ensures { reply result (row.new ∷ []) ≡ sgh_look_up input.now table.now name.now row.old }
 {
     match index::look_up(input, table, name) {
@@ -888,8 +858,7 @@ fn item_words(x: ItemRead) -> [u64; 9]
 }
 
 // What begins at a place, whatever follows it.
-#[unsafe(no_mangle)]
-pub extern "C" fn sgh_read_item(input: &[u8], at: usize, item: &mut [u64; 9]) -> u32
+pub fn sgh_read_item(input: &[u8], at: usize, item: &mut [u64; 9]) -> u32
     ensures { reply result (item.new ∷ []) ≡ sgh_read_item input.now at }
 {
     if refusals::LIMIT < input.len() {
@@ -932,8 +901,7 @@ fn walk_words(x: Walked) -> [u64; 5]
 }
 
 // How many bytes the whole element at a place takes, and how many leaves it has.
-#[unsafe(no_mangle)]
-pub extern "C" fn sgh_walk(input: &[u8], at: usize, element: &mut [u64; 5]) -> u32
+pub fn sgh_walk(input: &[u8], at: usize, element: &mut [u64; 5]) -> u32
     ensures { reply result (element.new ∷ []) ≡ sgh_walk input.now at }
 {
     let x = walk::walk(input, at);
@@ -1008,8 +976,7 @@ fn told_words(t: Told) -> [u64; 3]
 }
 
 // What is lost next behind the recording's first `from` bytes, and why.
-#[unsafe(no_mangle)]
-pub extern "C" fn sgh_next_loss(
+pub fn sgh_next_loss(
     recording: &[u8],
     way: u8,
     buf: &mut [u8],
@@ -1101,8 +1068,7 @@ fn seen_words(s: Seen) -> [u64; 3]
 }
 
 // Pushes bytes up to and with the first that brings a payload or a loss.
-#[unsafe(no_mangle)]
-pub extern "C" fn sgh_watch_slice(
+pub fn sgh_watch_slice(
     bytes: &mut [u8; 28],
     watch: &mut [u64; 4],
     buf: &mut [u8],
@@ -1127,12 +1093,7 @@ pub extern "C" fn sgh_watch_slice(
 }
 
 // The recording ends: what is left is lost.
-#[unsafe(no_mangle)]
-pub extern "C" fn sgh_watch_end(
-    bytes: &mut [u8; 28],
-    watch: &mut [u64; 4],
-    loss: &mut [u64; 3],
-) -> u32
+pub fn sgh_watch_end(bytes: &mut [u8; 28], watch: &mut [u64; 4], loss: &mut [u64; 3]) -> u32
     ensures { reply result (bytes.new ∷ watch.new ∷ loss.new ∷ []) ≡ sgh_watch_end bytes.old watch.old }
 {
     let OptWatch::Present(w) = watch_in(&*bytes, &*watch) else {

@@ -8,7 +8,7 @@ use Rattle.frame.specs.Frame.{esc_seq, missing, escaped, run_behind, same, start
 use Rattle.frame.proofs.Escapes.{run_le}
 use Rattle.decoder.specs.Push.{Mem, State, body, escape, silent, says, begun, tick, opened, put, step, judge}
 use Rattle.decoder.specs.declared.Setup.{Setup}
-use Rattle.since.specs.Since.{Opens, tidy, early_end}
+use Rattle.since.specs.Exactly.{OpensExactly, tidy, early_end}
 use Rattle.since.proofs.Rules.{Silent, stop, silent_on, and_then, step_judge}
 use Rattle.since.proofs.Inside.{begins}
 use Rattle.since.proofs.Feeds.{feed, puts, reads_back, puts_is}
@@ -164,7 +164,7 @@ from_early C m a k few le al fit =
     }
 
 -- from where the frame begins
-pub arrives_at : (C : Setup) (D l : List ℕ) → Opens D l → length l ≤ 3 → length D + length l ≤ C.capacity → ArrivesAt C begun (escaped 0 D ++ (esc_seq ++ l)) D l
+pub arrives_at : (C : Setup) (D l : List ℕ) → OpensExactly D l → length l ≤ 3 → length D + length l ≤ C.capacity → ArrivesAt C begun (escaped 0 D ++ (esc_seq ++ l)) D l
 arrives_at C D l (tidy clean) few fit =
     let s = stored_data C D clean (omega arith) in
     let n : length s.m.stored ≡ length D = ap length s.has in

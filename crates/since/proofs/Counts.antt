@@ -1,11 +1,11 @@
 -- What the counts are: in a search the bytes since it began, inside a frame the bytes since its first start byte.
 use mathlib.Core.Path.{◌≡◌, ap, sym, ◌∙◌, subst}
 use mathlib.Core.List.{List, []}
-use Prim.Native.Nat.{ℕ, ◌+◌, ◌-◌, ◌≤◌}
+use Prim.Native.Nat.{ℕ, ◌+◌, ◌≤◌}
 use native.Mathlib.Omega.{arith}
 use lib.ListN.{length, replicate, length-append}
 use Rattle.frame.specs.Frame.{escaped}
-use Rattle.decoder.specs.Push.{State, search, body, escape, done, fresh, stopped}
+use Rattle.decoder.specs.Push.{State, search, body, escape, done, fresh}
 use Rattle.decoder.specs.Record.{After, after, nothing, state_of, new_record}
 use Rattle.decoder.specs.Run.{Op, run, behind}
 use Rattle.decoder.proofs.States.{run_state, state_behind}

@@ -1,24 +1,22 @@
 -- Every push keeps what is known of the bytes since the search or frame began, and each event says what it says of them.
 use mathlib.Core.Path.{◌≡◌, refl, ap, sym, ◌∙◌, subst}
-use mathlib.Core.Bool.{false, not}
 use mathlib.Core.List.{List, [], ◌∷◌, ◌++◌, append_assoc, append-nil}
 use Prim.Native.Nat.{ℕ, zero, suc, ◌+◌, ◌-◌, ◌*◌, ◌%◌, ◌/◌, ◌≤◌, ◌<◌}
 use native.Mathlib.Omega.{arith}
 use native.Mathlib.Numerals.{add-one}
-use lib.ListN.{length, replicate, drop, take, get_or, length-append, length-take, length-replicate}
-use lib.Dec.{eqb}
-use lib.Seq.{drop-append-le, drop-length, take_at}
+use lib.ListN.{length, replicate, drop, take, get_or, length-append, length-take}
+use lib.Seq.{drop-append-le, drop-length}
 use Rattle.crc_x25.specs.Crc.{start, register, final_xor, crc_of}
 use Rattle.crc_x25.proofs.Laws.{register_append, register_none, crc_is}
-use Rattle.frame.specs.Frame.{esc_seq, restart_seq, start_seq, missing, closed, framed, run_behind}
+use Rattle.frame.specs.Frame.{esc_seq, restart_seq, start_seq, closed, framed, run_behind}
 use Rattle.frame.proofs.Cases.{by_eq, either}
 use Rattle.frame.proofs.Escapes.{run_append, replicate_snoc}
 use Rattle.search.specs.Search.{most_matched}
 use Rattle.search.specs.Found.{NoneWhole}
 use Rattle.search.proofs.Matched.{most_ends, most_step, most_nil, none_in_nil, start_matched, start_last}
 use Rattle.search.proofs.LastBytes.{last_bytes}
-use Rattle.decoder.specs.Push.{first_way, second_way, Mem, State, search, body, escape, done, PushEvent, silent, discarded, pays_out, memory, bad_escape, bad_message, Out, begun, says, put, tick, opened, starts, matched_behind, more_noise, early, computed, misaligned, noticed, fresh, stopped, step}
-use Rattle.decoder.specs.Record.{count, numbered}
+use Rattle.decoder.specs.Push.{first_way, second_way, Mem, State, search, body, escape, done, PushEvent, silent, discarded, pays_out, memory, Out, begun, says, put, tick, opened, starts, matched_behind, more_noise, computed, noticed, fresh, stopped, step}
+use Rattle.decoder.specs.Record.{numbered}
 use Rattle.decoder.specs.Run.{Op, push, finalize, reset}
 use Rattle.decoder.proofs.States.{run_state, state_behind, act_state, answer_state}
 use Rattle.decoder.specs.Saw as W
@@ -28,7 +26,7 @@ use Rattle.decoder.proofs.Saw.{saw}
 use Rattle.decoder.proofs.Search.{second_matched, matched_most, matched_more, matched_none, matched_eight, noise_grows}
 use Rattle.decoder.proofs.Split.{cases}
 use Rattle.since.specs.Bytes.{grown_since, grown_since_op, since_from}
-use Rattle.since.specs.Since.{frame_head, Misses, none_passed, InSearch, InBody, Opens, tidy, early_end, InEscape, ReadSince, none_for_data, none_behind_escape, EventSays, goes_on, start_found, start_inside, no_room, no_escape, no_message, frame_ends}
+use Rattle.since.specs.Since.{frame_head, Misses, none_passed, InSearch, InBody, Opens, tidy, early_end, InEscape, ReadSince, EventSays, goes_on, start_found, start_inside, no_room, no_escape, no_message, frame_ends}
 use Rattle.since.proofs.Lists.{last_four, computed_is, trimmed, three, empty, starts_is, misses_snoc, matched_long, bytes_back, head_none, head_other, run_back, head_esc_seq, head_shift}
 
 pub record KeptSince (C : Setup) (h : List ℕ) (b : ℕ) (o : Out) : Type 0 where
@@ -175,7 +173,7 @@ module _ (C : Setup) (h : List ℕ) (b r : ℕ) (m : Mem) (k : InBody C h r m) w
   }
 
   kept_full : (b ≡ 0x1b → ⊥) → C.capacity < length S + length (replicate r 0x1b ++ b ∷ []) → KeptSince C h b (says fresh memory)
-  kept_full ne over = lost refl (no_room (none_for_data S r b (on_other ne) k.clean k.few ne k.fits (let n : length (replicate r 0x1b ++ b ∷ []) ≡ suc r = simp (length-append, length-replicate) (omega arith) in omega arith)))
+  kept_full ne over = lost refl no_room
 
 -- ---- an escape
 
@@ -197,12 +195,9 @@ module _ (C : Setup) (h D : List ℕ) (m : Mem) (w x y z : ℕ) (here : h ++ z �
   stored_long : length m.stored ≡ length D + 4
   stored_long = simp length-append at (ap length has)
 
-  -- where the first of the four is no 1a, the data ends no run of 1b
-  tidied_by : (w ≡ 0x1a → ⊥) → run_behind 0 D ≡ 0
-  tidied_by ne = elim opens [ tidy f ↦ f | early_end k al f ↦ absurd (ne (ap (λ (l : List ℕ). get_or l 0 0) f)) ]
-
+  -- where the first of the four is 1b, the data ends no run of 1b
   tidied : w ≡ 0x1b → run_behind 0 D ≡ 0
-  tidied e = tidied_by (λ z. omega arith)
+  tidied e = elim opens [ tidy f ↦ f | early_end k f ↦ absurd (let g : w ≡ 0x1a = ap (λ (l : List ℕ). get_or l 0 0) f in omega arith) ]
 
   kept_data : four ≡ esc_seq → KeptSince C h z (says (body 0 m) silent)
   unfolding run_behind
@@ -223,10 +218,10 @@ module _ (C : Setup) (h D : List ℕ) (m : Mem) (w x y z : ℕ) (here : h ++ z �
       }
 
   kept_restarts : four ≡ restart_seq → KeptSince C h z (says begun (discarded (m.raw - 8)))
-  kept_restarts e = record { reads = reads_begun C; told = start_inside (m.raw - 8) D (here ∙ rw e (simp append_assoc)) (tidied_by (λ z. let q : w ≡ 0x01 = ap (λ (l : List ℕ). get_or l 0 0) e in omega arith)) (omega (arith, stored_long, fits)) (ap (λ (k : ℕ). k - 8) long) }
+  kept_restarts e = record { reads = reads_begun C; told = start_inside (m.raw - 8) D (here ∙ rw e (simp append_assoc)) (ap (λ (k : ℕ). k - 8) long) }
 
   -- an end sequence: what is computed is the CRC of all before the last two bytes
-  pub computed_all : w ≡ 0x1a → computed m ≡ crc_of (frame_head D ++ esc_seq ++ 0x1a ∷ x ∷ [])
+  computed_all : w ≡ 0x1a → computed m ≡ crc_of (frame_head D ++ esc_seq ++ 0x1a ∷ x ∷ [])
   computed_all e =
       computed_is m (D ++ w ∷ x ∷ []) y z (rw has (sym (append_assoc D (w ∷ x ∷ []) (y ∷ z ∷ []))))
       ∙ ap final_xor (rw (e, drop-append-le m.idx D (0x1a ∷ x ∷ []) index, register_append m.reg (drop m.idx D), sum, register_append start (frame_head D ++ esc_seq)))
@@ -245,45 +240,19 @@ module _ (C : Setup) (h D : List ℕ) (m : Mem) (w x y z : ℕ) (here : h ++ z �
         let a = ok.1 in
         let p = ok.3 in
         record {
-          sound = record {
-            D = D;
-            p = x;
-            whole = here ∙ rw e (framed_is D x y z low high);
-            aligned = omega arith;
-            small = ok.2;
-            within = omega arith;
-            cut = trimmed m.stored D four x has refl (omega arith);
-          };
-          fits = omega arith;
+          D = D;
+          p = x;
+          whole = here ∙ rw e (framed_is D x y z low high);
+          aligned = omega arith;
+          small = ok.2;
+          within = omega arith;
+          cut = trimmed m.stored D four x has refl (omega arith);
         });
   }
 
-  -- all of w before its last two bytes
-  pub before_crc : w ≡ 0x1a → take (length (h ++ z ∷ []) - 2) (h ++ z ∷ []) ≡ frame_head D ++ esc_seq ++ 0x1a ∷ x ∷ []
-  before_crc e =
-      let f : List ℕ = frame_head D ++ esc_seq ++ 0x1a ∷ x ∷ [] in
-      let is : h ++ z ∷ [] ≡ f ++ y ∷ z ∷ [] = here ∙ rw e (sym (append_assoc (frame_head D ++ esc_seq) (0x1a ∷ x ∷ []) (y ∷ z ∷ []))) in
-      rw is (take_at f (y ∷ z ∷ []) (length (f ++ y ∷ z ∷ []) - 2) (simp length-append (omega arith)))
-
-  -- an end sequence of which something is wrong
-  kept_bad : w ≡ 0x1a → (Passed m x (y + 256 * z) → ⊥) → KeptSince C h z (says fresh (bad_message (y + 256 * z) (computed m) (misaligned m) x))
-  kept_bad e bad =
-      let n : length m.stored ≡ length D + 4 = stored_long in
-      let over : length m.stored % 4 ≡ length D % 4 = omega arith in
-      lost refl (no_message D (record { lo = y; hi = z; is = here ∙ rw e; reads = refl; opens = rw e at opens; fits = omega arith })
-      (computed_all e ∙ ap crc_of (sym (before_crc e))) (ap (λ (k : ℕ). not (eqb k 0)) over)
-      (λ a b c d. bad (a, over ∙ b, c, omega arith)))
-
-  -- four bytes that mean nothing
-  kept_unknown : (four ≡ esc_seq → ⊥) → (four ≡ restart_seq → ⊥) → (w ≡ 0x1a → ⊥) → early (missing (length m.stored)) four ≡ false → KeptSince C h z (says fresh (bad_escape w x y z))
-  kept_unknown no1 no2 no3 no4 =
-      let n : length m.stored ≡ length D + 4 = stored_long in
-      let over : missing (length m.stored) ≡ missing (length D) = omega arith in
-      lost refl (no_escape (record { D = D; is = here; long = refl; clean = tidied_by no3; fits = omega arith; no_data = no1; no_start = no2; no_end_claim = no3; no_early = ap (λ (k : ℕ). early k four) (sym over) ∙ no4 }))
-
   -- the escape opened early: a of the bytes read are data, and the rest is the first part of an end sequence
-  shifted : (a : ℕ) (l k : List ℕ) → a ≤ 3 → 1 ≤ a → a ≡ missing (length m.stored) → w ≡ 0x1b → four ≡ replicate a 0x1b ++ l → l ≡ 0x1a ∷ k → length l ≡ 4 - a → KeptSince C h z (says (escape (4 - a) m) silent)
-  shifted a l k le pos few first e f n =
+  shifted : (a : ℕ) (l k : List ℕ) → a ≤ 3 → 1 ≤ a → w ≡ 0x1b → four ≡ replicate a 0x1b ++ l → l ≡ 0x1a ∷ k → length l ≡ 4 - a → KeptSince C h z (says (escape (4 - a) m) silent)
+  shifted a l k le pos first e f n =
       let t : run_behind 0 D ≡ 0 = tidied first in
       record {
         reads = record {
@@ -293,7 +262,7 @@ module _ (C : Setup) (h D : List ℕ) (m : Mem) (w x y z : ℕ) (here : h ++ z �
           has = has ∙ rw (e, append_assoc D);
           count = n;
           few = omega arith;
-          opens = early_end k (let n : length m.stored ≡ length D + 4 = stored_long in simp (length-append, length-replicate) (omega arith)) f;
+          opens = early_end k f;
           fits = fits;
           long = long;
           index = simp length-append (omega arith);
@@ -302,24 +271,24 @@ module _ (C : Setup) (h D : List ℕ) (m : Mem) (w x y z : ℕ) (here : h ++ z �
         told = goes_on;
       }
 
-  kept_shifts : (a : ℕ) → a ≡ missing (length m.stored) → 1 ≤ a → a ≤ 3 → take (suc a) four ≡ replicate a 0x1b ++ 0x1a ∷ [] → KeptSince C h z (says (escape (4 - a) m) silent)
-  kept_shifts zero q lo le e = absurd (omega arith)
-  kept_shifts (suc zero) q lo le e = shifted 1 (x ∷ y ∷ z ∷ []) (y ∷ z ∷ []) le lo q (cc) (cc) (cc) refl
-  kept_shifts (suc (suc zero)) q lo le e = shifted 2 (y ∷ z ∷ []) (z ∷ []) le lo q (cc) (cc) (cc) refl
-  kept_shifts (suc (suc (suc zero))) q lo le e = shifted 3 (z ∷ []) [] le lo q (cc) (cc) (cc) refl
-  kept_shifts (suc (suc (suc (suc n)))) q lo le e = absurd (omega arith)
+  kept_shifts : (a : ℕ) → 1 ≤ a → a ≤ 3 → take (suc a) four ≡ replicate a 0x1b ++ 0x1a ∷ [] → KeptSince C h z (says (escape (4 - a) m) silent)
+  kept_shifts zero lo le e = absurd (omega arith)
+  kept_shifts (suc zero) lo le e = shifted 1 (x ∷ y ∷ z ∷ []) (y ∷ z ∷ []) le lo (cc) (cc) (cc) refl
+  kept_shifts (suc (suc zero)) lo le e = shifted 2 (y ∷ z ∷ []) (z ∷ []) le lo (cc) (cc) (cc) refl
+  kept_shifts (suc (suc (suc zero))) lo le e = shifted 3 (z ∷ []) [] le lo (cc) (cc) (cc) refl
+  kept_shifts (suc (suc (suc (suc n)))) lo le e = absurd (omega arith)
 
   kept_judged : (o : Out) → W.Judged m four o → KeptSince C h z o
   kept_judged o (W.is_data e) = kept_data e
   kept_judged o (W.restarts e) = kept_restarts e
   kept_judged o (W.good e p) = kept_good e p
-  kept_judged o (W.bad e p) = kept_bad e p
-  kept_judged o (W.shifts a e lo hi t) = kept_shifts a e lo hi t
-  kept_judged o (W.unknown f₁ f₂ f₃ f₄) = kept_unknown f₁ f₂ f₃ f₄
+  kept_judged o (W.bad e p) = lost refl no_message
+  kept_judged o (W.shifts a e lo hi t) = kept_shifts a lo hi t
+  kept_judged o (W.unknown f₁ f₂ f₃ f₄) = lost refl no_escape
 
 opens_more : {D l : List ℕ} (b : ℕ) → Opens D l → Opens D (l ++ b ∷ [])
 opens_more b (tidy e) = tidy e
-opens_more b (early_end k al e) = early_end (k ++ b ∷ []) al (rw e)
+opens_more b (early_end k e) = early_end (k ++ b ∷ []) (rw e)
 
 module _ (C : Setup) (h : List ℕ) (b k : ℕ) (m : Mem) (c : InEscape C h k m) where
   pushed : h ++ b ∷ [] ≡ frame_head c.D ++ esc_seq ++ (c.l ++ b ∷ [])
@@ -365,10 +334,7 @@ module _ (C : Setup) (h : List ℕ) (b k : ℕ) (m : Mem) (c : InEscape C h k m)
       kept_four w x y e fit o j
 
   kept_full' : C.capacity < length m.stored + 1 → KeptSince C h b (says fresh memory)
-  kept_full' over =
-      let n : length (c.l ++ b ∷ []) ≡ suc (length c.l) = simp length-append (omega arith) in
-      let long : length m.stored ≡ length c.D + length c.l = ap length c.has ∙ length-append c.D c.l in
-      lost refl (no_room (none_behind_escape c.D (c.l ++ b ∷ []) pushed (opens_more b c.opens) (omega arith) (let f = c.few in let q = c.count in omega arith) (let f = c.fits in omega arith)))
+  kept_full' over = lost refl no_room
 
 -- ---- every push
 

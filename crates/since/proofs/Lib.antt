@@ -1,6 +1,8 @@
 pub mod Lists
 pub mod Kept
 pub mod Counts
+pub mod KeptExactly
+pub mod CountsExactly
 pub mod Rules
 pub mod Starts
 pub mod Inside

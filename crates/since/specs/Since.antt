@@ -1,10 +1,10 @@
 -- claim: what the bytes since a reached decoder's search or frame began are in each state, and what an event says of them.
-use Rattle.std.specs.Prelude.{◌≡◌, Bool, false, not, List, [], ◌∷◌, ◌++◌, ℕ, suc, ◌+◌, ◌-◌, ◌*◌, ◌%◌, ◌≤◌, ◌<◌, length, take, drop, get_or, replicate, eqb}
-use Rattle.crc_x25.specs.Crc.{start, register, crc_of}
-use Rattle.frame.specs.Frame.{start_seq, esc_seq, restart_seq, escaped, missing, Sound, run_behind}
+use Rattle.std.specs.Prelude.{◌≡◌, Bool, false, List, [], ◌∷◌, ◌++◌, ℕ, ◌-◌, ◌≤◌, ◌<◌, length, take, drop, replicate}
+use Rattle.crc_x25.specs.Crc.{start, register}
+use Rattle.frame.specs.Frame.{start_seq, esc_seq, escaped, Sound, run_behind}
 use Rattle.search.specs.Search.{most_matched}
 use Rattle.search.specs.Found.{NoneWhole}
-use Rattle.decoder.specs.Push.{first_way, second_way, Mem, State, search, body, escape, done, PushEvent, silent, discarded, pays_out, memory, bad_escape, bad_message, stopped, starts, early}
+use Rattle.decoder.specs.Push.{first_way, second_way, Mem, State, search, body, escape, done, PushEvent, silent, discarded, pays_out, memory, bad_escape, bad_message, stopped, starts}
 use Rattle.decoder.specs.declared.Setup.{Setup}
 
 -- ---- what they are in each state
@@ -39,10 +39,10 @@ pub record InBody (C : Setup) (h : List ℕ) (r : ℕ) (m : Mem) : Type 0 where
   pub index : m.idx ≤ length m.stored
   pub sum : register m.reg (drop m.idx m.stored) ≡ register start (frame_head m.stored)
 
--- the data ends no run of 1b but whole fours; or it has a multiple of 4 bytes and what follows the escape begins with 1a: an end sequence that was found early has 1 to 3 of the data's 1b before it
+-- the data ends no run of 1b but whole fours, or what follows the escape begins with 1a: an end sequence that was found early has 1 to 3 of the data's 1b before it
 pub data Opens (D l : List ℕ) : Type 0 where
   tidy : run_behind 0 D ≡ 0 → Opens D l
-  early_end : (k : List ℕ) → length D % 4 ≡ 0 → l ≡ 0x1a ∷ k → Opens D l
+  early_end : (k : List ℕ) → l ≡ 0x1a ∷ k → Opens D l
 
 -- behind an escape: the data D, and k bytes l behind the escape, all stored
 pub record InEscape (C : Setup) (h : List ℕ) (k : ℕ) (m : Mem) : Type 0 where
@@ -64,41 +64,7 @@ ReadSince C h (body r m) = InBody C h r m
 ReadSince C h (escape k m) = InEscape C h k m
 ReadSince C h (done P) = (h ≡ []) × (length P ≤ C.capacity)
 
--- ---- what the bytes w are at a refusal, for a capacity C: no state and no step of a decoder occurs
-
--- a byte that there is no room for: of the data, with the 1b that waited before it; or of those behind an escape
-pub data NoRoomFor (C : ℕ) (w : List ℕ) : Type 0 where
-  none_for_data : (E : List ℕ) (r b : ℕ) → w ≡ frame_head (E ++ (replicate r 0x1b ++ b ∷ [])) → run_behind 0 E ≡ 0 → r ≤ 3 → (b ≡ 0x1b → ⊥)
-      → length E ≤ C → C < length E + suc r → NoRoomFor C w
-  none_behind_escape : (D l : List ℕ) → w ≡ frame_head D ++ esc_seq ++ l → Opens D l → 1 ≤ length l → length l ≤ 4 → length D + length l ≡ suc C → NoRoomFor C w
-
--- four bytes behind an escape that mean nothing: no data, no start, no end sequence, and none that was found early
-pub record Meaningless (C : ℕ) (w four : List ℕ) : Type 0 where
-  pub D : List ℕ
-  pub is : w ≡ frame_head D ++ esc_seq ++ four
-  pub long : length four ≡ 4
-  pub clean : run_behind 0 D ≡ 0
-  pub fits : length D + 4 ≤ C
-  pub no_data : four ≡ esc_seq → ⊥
-  pub no_start : four ≡ restart_seq → ⊥
-  pub no_end_claim : get_or four 0 0 ≡ 0x1a → ⊥
-  pub no_early : early (missing (length D)) four ≡ false
-
--- an end sequence: p pad bytes, and a CRC
-pub record EndOf (C : ℕ) (w D : List ℕ) (p read : ℕ) : Type 0 where
-  pub lo : ℕ
-  pub hi : ℕ
-  pub is : w ≡ frame_head D ++ esc_seq ++ (0x1a ∷ p ∷ lo ∷ hi ∷ [])
-  pub reads : read ≡ lo + 256 * hi
-  pub opens : Opens D (0x1a ∷ p ∷ lo ∷ hi ∷ [])
-  pub fits : length D + 4 ≤ C
-
--- a sound frame that fits
-pub record SoundWithin (C : ℕ) (w P : List ℕ) : Type 0 where
-  pub sound : Sound w P
-  pub fits : length sound.D + 4 ≤ C
-
--- ---- what an event says of w, the bytes since the search or frame began with the one that brought it. Of no event nothing is said here
+-- ---- what an event says of w, the bytes since the search or frame began with the one that brought it. Of no event and of the refusals 3, 7 and 8 nothing is said here
 
 -- all bytes
 abbrev pub AllBytes : List ℕ → Type 0
@@ -111,12 +77,9 @@ pub data EventSays (C : Setup) (w : List ℕ) : PushEvent → Type 0 where
   start_found : (k : ℕ) (x : List ℕ) → w ≡ x ++ start_seq → (C.way ≡ first_way → Misses x) → (C.way ≡ second_way → NoneWhole (x ++ take 7 start_seq))
       → 1 ≤ length x → k ≡ stopped (length x) → EventSays C w (discarded k)
   -- a start inside a frame
-  start_inside : (k : ℕ) (D : List ℕ) → w ≡ frame_head D ++ start_seq → run_behind 0 D ≡ 0 → length D + 4 ≤ C.capacity
-      → k ≡ stopped (length w) - 8 → EventSays C w (discarded k)
-  no_room : NoRoomFor C.capacity w → EventSays C w memory
-  no_escape : {a b c d : ℕ} → Meaningless C.capacity w (a ∷ b ∷ c ∷ d ∷ []) → EventSays C w (bad_escape a b c d)
-  -- what is told is what the end sequence says, and some of it is wrong
-  no_message : {read computed : ℕ} {mis : Bool} {p : ℕ} (D : List ℕ) → EndOf C.capacity w D p read → computed ≡ crc_of (take (length w - 2) w)
-      → mis ≡ not (eqb (length D % 4) 0) → (read ≡ computed → length D % 4 ≡ 0 → p ≤ 3 → p ≤ length D → ⊥) → EventSays C w (bad_message read computed mis p)
+  start_inside : (k : ℕ) (D : List ℕ) → w ≡ frame_head D ++ start_seq → k ≡ stopped (length w) - 8 → EventSays C w (discarded k)
+  no_room : EventSays C w memory
+  no_escape : {a b c d : ℕ} → EventSays C w (bad_escape a b c d)
+  no_message : {read computed : ℕ} {mis : Bool} {p : ℕ} → EventSays C w (bad_message read computed mis p)
   -- the last byte of a sound frame, where all that was pushed are bytes
-  frame_ends : (P : List ℕ) → (AllBytes w → SoundWithin C.capacity w P) → EventSays C w (pays_out P)
+  frame_ends : (P : List ℕ) → (AllBytes w → Sound w P) → EventSays C w (pays_out P)

@@ -6,12 +6,12 @@ use Prim.Native.Nat.{ℕ, ◌+◌, ◌-◌, ◌<◌, ◌≤◌}
 use native.Mathlib.Omega.{arith}
 use lib.ListN.{length, take, drop, drop_of_length-le, length-drop}
 use lib.Seq.{drop-drop}
-use Rattle.decoder.specs.Record.{DecoderAnswer, After, after, refusal, bad_decoder, push_record}
+use Rattle.decoder.specs.Record.{After, after, refusal, bad_decoder, push_record}
 use Rattle.decoder.specs.declared.Decoder.{Decoder}
 use Rattle.decoder_slice.specs.Slice.{Took, after_slice, slice_record}
 use Rattle.decoder_slice.specs.declared.Sliced.{Sliced}
 use Rattle.decoder_slice.proofs.Taken.{none_took, none_taken, goes_on_claim, part_pushed, part_taken}
-use Rattle.smlcat.specs.Fed.{Holding, held, fed}
+use Rattle.smlcat.specs.Fed.{held, fed}
 
 one_byte : (d : Decoder) (m : List ℕ) (b : ℕ) (bs : List ℕ) → fed (push_record d m b).decoder (push_record d m b).memory bs ≡ fed d m (b ∷ bs)
 unfolding fed

@@ -1,7 +1,6 @@
 -- Each view can be undone, so a contract allows one outcome for each input.
 use mathlib.Core.Path.{◌≡◌, refl, ap}
 use mathlib.Core.Bool.{cond}
-use Prim.Native.Nat.{ℕ}
 use lib.Dec.{eqb}
 use Rattle.refusals.specs.Numbers.{input_too_long_no}
 use Rattle.refusals.specs.declared.Span.{Span}

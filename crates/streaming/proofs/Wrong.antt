@@ -4,7 +4,7 @@ use mathlib.Core.List.{List, [], ◌∷◌}
 use Prim.Native.Nat.{ℕ, ◌<◌}
 use native.Mathlib.Omega.{arith}
 use lib.ListN.{length}
-use borrow.Author.Tests.{lt-ltb, le-ltb}
+use borrow.Author.Tests.{lt-ltb}
 use Rattle.refusals.specs.Numbers.{limit}
 use Rattle.refusals.specs.Read.{then, guard, need, byte_at}
 use Rattle.tlf.specs.Lengths.{tlf_at, length_from, less_own, list_of_at}
@@ -13,8 +13,6 @@ use Rattle.message.specs.Messages.{start_at}
 use Rattle.trailer.proofs.Ends.{trailer_end}
 use Rattle.streaming.specs.Next.{Said, event, no_event, failed, alone, ReaderAfter, onward, begin_at, trailer_next, entry_next, step_at, next_at}
 use Rattle.streaming.specs.Answers.{reader_after}
-use Rattle.streaming.specs.declared.Answer.{Answer}
-use Rattle.streaming.specs.declared.Answer.TheVariants.{NoEvent, InputTooLong, BadState}
 use Rattle.streaming.specs.declared.Next.{Next}
 
 -- the number of a refusal; 100 for an event, 101 for none

@@ -1,6 +1,6 @@
 -- Where a length passes 4,294,967,295, and the last that don't, of the definition: document 02's Q-2, but for B14, which the bench sheet has.
 use mathlib.Core.Path.{◌≡◌, refl}
-use mathlib.Core.List.{List, [], ◌∷◌}
+use mathlib.Core.List.{[], ◌∷◌}
 use Rattle.refusals.specs.Read.{got, refused, then, guard, need, eof, byte_at}
 use Rattle.refusals.specs.Answers.{overflow, reserved, underflow, next_type, invalid_ty}
 use Rattle.tlf.specs.Lengths.{length_from, less_own, tlf_at}

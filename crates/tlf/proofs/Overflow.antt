@@ -8,10 +8,10 @@ use native.Mathlib.Nat.{add-zero}
 use native.Mathlib.Omega.{arith}
 use lib.ListN.{length, get_or, drop}
 use lib.Dec.{ltb, leb, eqb}
-use borrow.Author.Tests.{leb-true, leb-false, eqb-true, eqb-false, ltb-true, ltb-false, lt-ltb, eq-eqb}
-use Rattle.refusals.specs.Read.{Read, got, refused, Refusal, then, guard, need, eof, byte_at}
+use borrow.Author.Tests.{leb-true, leb-false, eqb-true, eqb-false, ltb-true, ltb-false, eq-eqb}
+use Rattle.refusals.specs.Read.{Read, got, refused, Refusal, then, guard, need, eof}
 use Rattle.refusals.specs.Answers.{overflow, reserved, underflow, next_type, invalid_ty}
-use Rattle.tlf.specs.Lengths.{more_follow, type_bits, length_bits, ty_of, is_list, is_boolean, longer, longest, length_from, less_own, tlf_at}
+use Rattle.tlf.specs.Lengths.{more_follow, type_bits, length_bits, ty_of, is_list, is_boolean, longest, less_own, tlf_at}
 use Rattle.tlf.specs.Overflow.{length_up_to, PassesLongest, Overflows}
 use Rattle.tlf.specs.declared.Ty.{Ty}
 use Rattle.tlf.specs.declared.TypeLengthField.{TypeLengthField}

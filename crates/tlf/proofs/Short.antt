@@ -3,12 +3,12 @@ use mathlib.Core.Path.{◌≡◌, refl}
 use mathlib.Core.List.{List}
 use mathlib.Core.Bool.{Bool, true, false, ◌&&◌}
 use mathlib.Core.Option.{some}
-use Prim.Native.Nat.{ℕ, ◌+◌, ◌*◌, ◌/◌, ◌%◌, ◌-◌, ◌≤◌, ◌<◌}
+use Prim.Native.Nat.{ℕ, ◌+◌, ◌*◌, ◌-◌, ◌≤◌, ◌<◌}
 use native.Mathlib.Omega.{arith}
 use lib.ListN.{length, get_or}
 use borrow.Author.Tests.{lt-ltb, lt-leb, le-leb, eq-eqb}
 use Rattle.refusals.specs.Read.{got, then, guard, need, byte_at}
-use Rattle.tlf.specs.Lengths.{more_follow, type_bits, length_bits, ty_of, is_list, is_boolean, less_own, tlf_at, is_list_of, list_of_at}
+use Rattle.tlf.specs.Lengths.{more_follow, type_bits, length_bits, ty_of, is_list, less_own, tlf_at, list_of_at}
 use Rattle.tlf.specs.declared.Ty.{Ty}
 use Rattle.tlf.specs.declared.Ty.TheVariants.{ListOf}
 use Rattle.tlf.proofs.Lengths.{length_stop}

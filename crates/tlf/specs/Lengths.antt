@@ -1,7 +1,7 @@
 -- rule: the length rules of document 01, and what document 02 (Q-2) says of lengths over 32 bits.
 use Rattle.std.specs.Prelude.{ℕ, ◌+◌, ◌*◌, ◌/◌, ◌%◌, ◌-◌, List, [], ◌∷◌, Bool, true, false, cond, not, ◌&&◌, length, drop, leb, eqb}
 use Rattle.std.proofs.Math.Option.{Option, some, none}
-use Rattle.refusals.specs.Read.{Read, got, refused, then, guard, need, eof, invalid_tlf, mismatch, byte_at}
+use Rattle.refusals.specs.Read.{Read, got, refused, then, guard, need, eof, mismatch, byte_at}
 use Rattle.refusals.specs.Answers.{overflow, reserved, underflow, next_type, invalid_ty}
 use Rattle.tlf.specs.declared.Ty.{Ty}
 use Rattle.tlf.specs.declared.Ty.TheVariants.{OctetString, Boolean, Integer, Unsigned, ListOf}

@@ -1,12 +1,11 @@
 -- What the bytes of an end byte and of a trailer are read as, and what they leave; and 15 before 14.
 use mathlib.Core.Path.{◌≡◌, refl}
 use mathlib.Core.List.{List, [], ◌∷◌, ◌++◌, append_assoc}
-use Prim.Native.Nat.{ℕ, ◌+◌, ◌-◌}
+use Prim.Native.Nat.{ℕ, ◌-◌}
 use native.Mathlib.Omega.{arith}
-use lib.ListN.{length, take, drop}
-use lib.Dec.{eqb}
+use lib.ListN.{length}
 use borrow.Author.Tests.{eq-eqb}
-use Rattle.refusals.specs.Read.{Read, got, refused, Refusal, then, guard}
+use Rattle.refusals.specs.Read.{got, refused, Refusal, then}
 use Rattle.refusals.proofs.Rest.{Rest, Gets, Reads, Is, rest_place, rest_take, gets_is, gets_guard, gets_got, byte_gets}
 use Rattle.numbers.specs.Numbers.{unsigned_at}
 use Rattle.crc_x25.specs.Crc.{crc_of}

@@ -1,8 +1,7 @@
 -- Where the readings of an end byte and of a trailer end.
 use mathlib.Core.List.{List}
-use Prim.Native.Nat.{ℕ, ◌+◌, ◌≤◌, ◌<◌}
+use Prim.Native.Nat.{ℕ}
 use native.Mathlib.Omega.{arith}
-use lib.ListN.{length}
 use Rattle.refusals.proofs.Read.{Ok, ok_guard, ok_weak, byte_ok}
 use Rattle.refusals.proofs.Found.{Found, Any, from, on, found}
 use Rattle.numbers.proofs.Ahead.{unsigned_found}

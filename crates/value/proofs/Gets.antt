@@ -1,20 +1,18 @@
 -- What the bytes of a time, a status and a value are read as, and what they leave: one law for each form, one line for each of its fields.
-use mathlib.Core.Path.{◌≡◌, refl}
-use mathlib.Core.List.{List, [], ◌∷◌, ◌++◌, append_assoc}
+use mathlib.Core.Path.{refl}
+use mathlib.Core.List.{List, ◌++◌, append_assoc}
 use mathlib.Core.Bool.{Bool}
 use Prim.Native.Nat.{ℕ}
 use lib.IntN.{ℤ}
-use Rattle.refusals.specs.Read.{Read, got, then}
 use Rattle.refusals.specs.declared.Span.{Span}
-use Rattle.refusals.proofs.Rest.{Rest, Gets, Reads, Is, Made, gets_is, gets_then, gets_guard, gets_got, gets_made}
-use Rattle.tlf.specs.Lengths.{tlf_at, list_of_at}
-use Rattle.tlf.specs.declared.Ty.{Ty}
+use Rattle.refusals.proofs.Rest.{Reads, Is, Made, gets_is, gets_guard, gets_made}
+use Rattle.tlf.specs.Lengths.{tlf_at}
 use Rattle.tlf.specs.declared.Ty.TheVariants.{OctetString, Boolean, Integer, Unsigned, ListOf}
 use Rattle.tlf.specs.declared.TypeLengthField.{TypeLengthField}
 use Rattle.tlf.proofs.Gets.{list_of_reads}
 use Rattle.numbers.specs.Numbers.{unsigned_at, signed_at, bool_at}
 use Rattle.octet_string.specs.Strings.{octets_at}
-use Rattle.value.specs.Values.{time_at, narrowest, Status, status_of, status_at, Value, truth, bytes, signed, unsigned, list_time, signed_value, unsigned_value, list_type_at, value_of_claim, value_at}
+use Rattle.value.specs.Values.{time_at, narrowest, status_of, status_at, Value, truth, bytes, signed, unsigned, list_time, signed_value, unsigned_value, list_type_at, value_of_claim, value_at}
 
 -- a time that is a list of 2: tag 1 and u32
 pub time_reads : {P : List ℕ → ℕ → Type 0} {b₀ b₁ b₂ : List ℕ}

@@ -1,5 +1,4 @@
 -- What readings of time, status and value find: numbers within their width.
-use mathlib.Core.Path.{◌≡◌}
 use mathlib.Core.List.{List}
 use Prim.Native.Nat.{ℕ, ◌/◌, ◌^◌, ◌<◌}
 use lib.Signed.{mag}

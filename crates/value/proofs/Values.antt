@@ -1,14 +1,10 @@
 -- What readings of time, status and value find: a place ahead within the input, and strings within it.
 use mathlib.Core.List.{List}
-use mathlib.Core.Bool.{Bool}
-use Prim.Native.Nat.{ℕ, ◌+◌, ◌≤◌, ◌<◌}
+use Prim.Native.Nat.{ℕ}
 use native.Mathlib.Omega.{arith}
-use lib.ListN.{length}
-use Rattle.refusals.specs.Read.{Read}
 use Rattle.refusals.specs.declared.Span.{Span}
-use Rattle.refusals.proofs.Read.{Ok, ok_then, ok_guard, ok_cond}
+use Rattle.refusals.proofs.Read.{Ok, ok_guard, ok_cond}
 use Rattle.refusals.proofs.Found.{Found, Any, any, from, on, found, found_on}
-use Rattle.tlf.specs.Lengths.{tlf_at}
 use Rattle.tlf.specs.declared.Ty.{Ty}
 use Rattle.tlf.specs.declared.Ty.TheVariants.{OctetString, Boolean, Integer, Unsigned, ListOf}
 use Rattle.tlf.proofs.Lengths.{tlf_ok, list_of_ok}

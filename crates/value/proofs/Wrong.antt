@@ -4,10 +4,10 @@ use mathlib.Core.List.{[], ◌∷◌}
 use mathlib.Core.Option.{Option, some, none}
 use Prim.Native.Nat.{ℕ}
 use native.Mathlib.Omega.{arith}
-use lib.IntN.{ℤ, pos}
+use lib.IntN.{pos}
 use Rattle.refusals.specs.Read.{Read, got, refused, then, guard, need, byte_at, span_at}
 use Rattle.refusals.specs.declared.ParseError.TheVariants.{UnexpectedVariant}
-use Rattle.refusals.proofs.Codes.{refusal_number, refusal_place}
+use Rattle.refusals.proofs.Codes.{refusal_place}
 use Rattle.tlf.specs.Lengths.{tlf_at, length_from, less_own, list_of_at}
 use Rattle.numbers.specs.Numbers.{number, bytes_at_claim, raw_from, raw_at, unsigned_at, signed_of, signed_at}
 use Rattle.octet_string.specs.Optional.{absent_at, optional}

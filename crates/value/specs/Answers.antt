@@ -6,7 +6,6 @@ use Rattle.refusals.specs.Answers.{fault_of}
 use Rattle.refusals.specs.declared.Span.{Span}
 use Rattle.value.specs.Values.{Status, Value, truth, bytes, signed, unsigned, list_time}
 use Rattle.value.specs.declared.Time.{Time}
-use Rattle.value.specs.declared.ListType.{ListType}
 use Rattle.value.specs.declared.Width.{Width}
 use Rattle.value.specs.declared.Width.TheVariants as WidthC
 use Rattle.value.specs.declared.Status as Statuses

@@ -1,9 +1,9 @@
 -- The two passes find what the definition says: the first refuses where it does, and the rows of the second are its rows.
-use mathlib.Core.Path.{◌≡◌, refl, sym, ap, ◌∙◌}
+use mathlib.Core.Path.{◌≡◌, refl, ◌∙◌}
 use mathlib.Core.Bool.{Bool, true, false, cond}
 use mathlib.Core.List.{List, [], ◌∷◌, ◌++◌}
 use mathlib.Core.Option.{Option, some, none}
-use Prim.Native.Nat.{ℕ, zero, suc, ◌+◌, ◌-◌, ◌*◌, ◌/◌, ◌≤◌, ◌<◌}
+use Prim.Native.Nat.{ℕ, zero, suc, ◌-◌, ◌*◌, ◌/◌, ◌≤◌}
 use native.Mathlib.Omega.{arith}
 use borrow.Author.Tests.{ltb-false}
 use lib.ListN.{length, drop}
@@ -15,7 +15,7 @@ use Rattle.refusals.proofs.Read.{Ok}
 use Rattle.common.specs.Fields.{ListEntry, entry_at}
 use Rattle.message.specs.Messages.{MessageStart, ListStart, ListEnd, Body, open_body, close_body, list_body, start_at, list_end_at}
 use Rattle.trailer.specs.Trailer.{trailer_at}
-use Rattle.whole.specs.Whole.{EntryRow, row_at, rows_at, WholeMessage, inside_at, whole_at, flat, WholeSaid, whole_is, broken, refused_alone, AfterWhole, fill_to}
+use Rattle.whole.specs.Whole.{EntryRow, row_at, rows_at, WholeMessage, inside_at, whole_at, flat, whole_is, broken, refused_alone, AfterWhole, fill_to}
 use Rattle.whole.specs.Cut.{entries_of, past_entries, list_end_behind, end_at, PassedMessage, pass_at, store_rows}
 use Rattle.whole.proofs.Rows.{RowsStored, no_rows, rows_stored, rows_first}
 

@@ -1,16 +1,12 @@
 -- Rows: where they stand, how they are stored, and what the table holds then.
-use mathlib.Core.Path.{◌≡◌, refl, sym, ap, ◌∙◌}
+use mathlib.Core.Path.{◌≡◌, refl, ap}
 use mathlib.Core.List.{List, [], ◌∷◌, ◌++◌}
-use Prim.Native.Nat.{ℕ, zero, suc, ◌+◌, ◌-◌, ◌*◌, ◌≤◌, ◌<◌}
+use Prim.Native.Nat.{ℕ, zero, suc, ◌+◌, ◌*◌, ◌≤◌}
 use native.Mathlib.Omega.{arith}
 use lib.ListN.{length, drop}
 use lib.Seq.{sets, sets-eq}
-use Rattle.refusals.specs.Read.{Read, got, then, many}
-use Rattle.refusals.specs.declared.Span.{Span}
+use Rattle.refusals.specs.Read.{got, many}
 use Rattle.refusals.proofs.Read.{Ok, ok_any, ok_got, ok_then}
-use Rattle.refusals.proofs.Found.{Found, from, found}
-use Rattle.octet_string.proofs.Within.{Within}
-use Rattle.common.proofs.Fields.{EntryWithin, entry_found}
 use Rattle.whole.specs.Whole.{EntryRow, row_at, rows_at, flat}
 use Rattle.whole.specs.Cut.{or_leave, store_rows}
 

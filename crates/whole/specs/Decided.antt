@@ -1,6 +1,6 @@
 -- check: mark 1 of crate whole. Its contract allows one outcome for each input, and its view loses nothing. Each crate has such a file.
 use Rattle.std.specs.Prelude.{◌≡◌, List, ℕ}
-use Rattle.whole.specs.Whole.{AfterWhole, read_to}
+use Rattle.whole.specs.Whole.{read_to}
 use Rattle.whole.specs.Answers.{whole_read, after_whole}
 use Rattle.whole.specs.declared.WholeRead.{WholeRead}
 use Rattle.decided.specs.One.{One, Injective, With}

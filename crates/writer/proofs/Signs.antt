@@ -1,7 +1,7 @@
 -- A signed number, its magnitude and its sign.
 use mathlib.Core.Path.{◌≡◌, refl, ap, ◌∙◌}
 use mathlib.Core.Bool.{true, false}
-use Prim.Native.Nat.{ℕ, suc, ◌+◌, ◌^◌, ◌-◌}
+use Prim.Native.Nat.{ℕ, suc, ◌^◌, ◌-◌}
 use native.Mathlib.Omega.{arith}
 use lib.IntN.{ℤ, pos, negsuc, ◌-ℤ◌, nat_abs, +ℤ_comm, -ℤ_one}
 use lib.Signed.{mag, lt_z}

@@ -34,7 +34,7 @@ use Rattle.written.specs.Messages.{write_entries, write_end, write_content, writ
 use Rattle.written.specs.Fits.{OnlyBytes, WideValueFits, StartFits}
 use Rattle.written.specs.Calls.{Writer, then_call, entries_to, begun_to, list_to, lone_message, whole_list}
 use Rattle.written.specs.Writers.{Accepting, Accepted, Back, WritesBack, AloneFrom, ReadsAlone}
-use Rattle.written.specs.Fakes.{counts_what_follows, counts_one_byte, counts_the_list, empty_is_absent, absent_is_zero, forgets_sign_bit, time_as_value, crc_as_it_is, ends_with_one, writes_none, drops_the_rest, crc_of_the_last, Manner, put_by, writes_only_short, FallWriters}
+use Rattle.written.specs.Fakes.{counts_what_follows, counts_one_byte, counts_the_list, empty_is_absent, absent_is_zero, forgets_sign_bit, time_as_value, crc_as_it_is, ends_with_one, writes_none, drops_the_rest, crc_of_the_last, Manner, our_manner, put_by, writes_only_short, FallWriters}
 use Rattle.written.proofs.Bytes.{none_bytes, more_bytes}
 use Rattle.written.proofs.Again.{part_bytes, each_bytes}
 use Rattle.written.proofs.Calls.{free}
@@ -166,6 +166,10 @@ zeros_long n = record { bytes = replicate n 0; long = omega (arith, length-repli
 when_none : {A : Type 0} {P : A → List ℕ → Type 0} (manner : Manner) (r : Option ℕ) (out : List ℕ) (at : ℕ) (b : List ℕ) (a : A) → r ≡ none → Accepted P (put_by manner r out at b a) → P a (manner.put out at b)
 when_none {A} {P} manner r out at b a e h = let k : Accepted P (put_by manner none out at b a) = rw e at h in k.holds
 
+-- the manner of `writes_only_short`
+abbrev only_short_manner : Manner
+only_short_manner = record our_manner { put = λ out at b. cond (ltb 1048576 (length out)) out (put_in out at b) }
+
 long_fall : (rest : List ℕ) → 1048576 ≤ length rest → ReadsAlone writes_only_short → ⊥
 unfolding then guard need byte_at tlf_at length_from less_own list_of_at span_within part_of start_at reflect polynomial bit_step bit_steps byte_step register final_xor crc_of message_at first_that length_count length_bytes typed write_tlf in_bytes unsigned_count write_unsigned write_octets write_optional write_present close_bytes write_body write_start write_trailer write_entries write_end write_content write_message all_within
 long_fall rest long h =
@@ -175,7 +179,7 @@ long_fall rest long h =
     let n : length b ≡ 16 = refl in
     let more : 1048576 < length out = omega (arith, long, length-append (replicate 16 0) rest) in
     let k : AloneFrom m 0 16 (cond (ltb 1048576 (length out)) out (put_in out 0 b)) =
-    when_none {P = λ next o. AloneFrom m 0 next o} _ _ out 0 b 16 (free out 0 b (omega (arith, n, more))) (h.closes out 0 [] (head_with no_part) (close_of none) (close_fits_with [] no_part none none_bytes)) in
+    when_none {P = λ next o. AloneFrom m 0 next o} only_short_manner _ out 0 b 16 (free out 0 b (omega (arith, n, more))) (h.closes out 0 [] (head_with no_part) (close_of none) (close_fits_with [] no_part none none_bytes)) in
     let j : AloneFrom m 0 16 out = rw (lt-ltb 1048576 (length out) more) at k in
     let r = j (omega arith) in
     omega (arith, ap (says_of nothing_of (replicate 16 0)) r.is)

@@ -5,7 +5,7 @@ use mathlib.Core.Option.{Option, some, none}
 use Prim.Native.Nat.{ℕ, ◌^◌, ◌≤◌, ◌<◌}
 use native.Mathlib.Omega.{arith}
 use lib.ListN.{length, length-append}
-use Rattle.crc_x25.specs.Crc.{start, crc_of}
+use Rattle.crc_x25.specs.Crc.{crc_of}
 use Rattle.crc_x25.proofs.Laws.{crc_fits}
 use Rattle.refusals.specs.declared.Span.{Span}
 use Rattle.tlf.specs.declared.Ty.TheVariants.{ListOf}

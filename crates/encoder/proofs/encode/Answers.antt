@@ -1,5 +1,5 @@
 use mathlib.Core.Path.{sym, ◌∙◌}
-use borrow.Author.Tests.{not-true, not-false, leb-true}
+use borrow.Author.Tests.{leb-true}
 use Rattle.encoder.proofs.Encodes.{encode_long, encode_full, encode_whole}
 use Rattle.encoder.proofs.encode.Goals as goal
 

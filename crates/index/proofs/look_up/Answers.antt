@@ -1,5 +1,4 @@
 use mathlib.Core.Path.{refl, sym, ◌∙◌}
-use Rattle.index.specs.Rows.{nth_row}
 use Rattle.index.proofs.Sought.{look_begin, look_next, look_long, look_part, look_unsound, look_found, look_none}
 use Rattle.index.proofs.look_up.Goals as goal
 

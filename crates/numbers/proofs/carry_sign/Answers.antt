@@ -22,9 +22,9 @@ overflow_sub-result c = rw (ones_are c.args.len c.requires.0 c.requires.1) (omeg
 pub overflow_cast-result-else-value-ones : goal.overflow_cast-result-else-value-ones
 overflow_cast-result-else-value-ones c =
     let rest : ℕ =
-      0xffffffffffffffff / 2 ^ (64 - 8 * c.args.len) - c.args.value in
+    0xffffffffffffffff / 2 ^ (64 - 8 * c.args.len) - c.args.value in
     let below : rest < 2 ^ 63 =
-      let a = c.args in
+    let a = c.args in
     let e = ones_are a.len c.requires.0 c.requires.1 in
     omega (arith, pow_up a.len 8 c.requires.1, c.if-value-ones.false) in
     record { sfits = below }
@@ -32,9 +32,9 @@ overflow_cast-result-else-value-ones c =
 pub overflow_sub-result-else-value-ones : goal.overflow_sub-result-else-value-ones
 overflow_sub-result-else-value-ones c =
     let rest : ℕ =
-      0xffffffffffffffff / 2 ^ (64 - 8 * c.args.len) - c.args.value in
+    0xffffffffffffffff / 2 ^ (64 - 8 * c.args.len) - c.args.value in
     let below : rest < 2 ^ 63 =
-      let a = c.args in
+    let a = c.args in
     let e = ones_are a.len c.requires.0 c.requires.1 in
     omega (arith, pow_up a.len 8 c.requires.1, c.if-value-ones.false) in
     rw (to_z_pos w64 (rest) (below), neg_one_sub) (record { sfits = below })
@@ -50,9 +50,9 @@ pub returns-else-value-ones : goal.returns-else-value-ones
 unfolding signed_of
 returns-else-value-ones c =
     let rest : ℕ =
-      0xffffffffffffffff / 2 ^ (64 - 8 * c.args.len) - c.args.value in
+    0xffffffffffffffff / 2 ^ (64 - 8 * c.args.len) - c.args.value in
     let below : rest < 2 ^ 63 =
-      let a = c.args in
+    let a = c.args in
     let e = ones_are a.len c.requires.0 c.requires.1 in
     omega (arith, pow_up a.len 8 c.requires.1, c.if-value-ones.false) in
     let a = c.args in

@@ -15,7 +15,7 @@ loop-i-init c = (search rules, refl)
 pub overflow_mul-value : goal.overflow_mul-value
 overflow_mul-value c =
     let room : c.loop-i.value < 256 ^ 7 =
-      let a = c.args in
+    let a = c.args in
     let l = c.loop-i in
     rw l.invariant.1
     (lt_of_lt_of_le (number_small a.input.now a.at l.i c.type_inv.input) (pow_up l.i 7 (omega arith))) in
@@ -24,7 +24,7 @@ overflow_mul-value c =
 pub overflow_add-value : goal.overflow_add-value
 overflow_add-value c =
     let room : c.loop-i.value < 256 ^ 7 =
-      let a = c.args in
+    let a = c.args in
     let l = c.loop-i in
     rw l.invariant.1
     (lt_of_lt_of_le (number_small a.input.now a.at l.i c.type_inv.input) (pow_up l.i 7 (omega arith))) in

@@ -24,15 +24,15 @@ returns-then-is_short c =
 pub overflow_cast-result : goal.overflow_cast-result
 overflow_cast-result c =
     let fits : SFits w8 c.in-Is.value =
-          record { sfits = (ok_at (rw c.in-Is.is at c.parse_integer.ensures) (signed_ok 1 _ _ c.type_inv.input)).0 } in
+    record { sfits = (ok_at (rw c.in-Is.is at c.parse_integer.ensures) (signed_ok 1 _ _ c.type_inv.input)).0 } in
     rw (to_z-of_z w64 c.in-Is.value (record { sfits = c.in-Is.known_told-1-own.given.0.1 })) (fits)
 
 pub returns-in-Is : goal.returns-in-Is
 returns-in-Is c =
     let fits : SFits w8 c.in-Is.value =
-          record { sfits = (ok_at (rw c.in-Is.is at c.parse_integer.ensures) (signed_ok 1 _ _ c.type_inv.input)).0 } in
-            rw (narrow w8 c.in-Is.value (record { sfits = c.in-Is.known_told-1-own.given.0.1 }) (fits), ← c.parse_integer.ensures, c.in-Is.is)
+    record { sfits = (ok_at (rw c.in-Is.is at c.parse_integer.ensures) (signed_ok 1 _ _ c.type_inv.input)).0 } in
+    rw (narrow w8 c.in-Is.value (record { sfits = c.in-Is.known_told-1-own.given.0.1 }) (fits), ← c.parse_integer.ensures, c.in-Is.is)
 
 pub returns-in-Refused : goal.returns-in-Refused
 returns-in-Refused c =
-            rw (← c.parse_integer.ensures, c.in-Refused.is)
+    rw (← c.parse_integer.ensures, c.in-Refused.is)

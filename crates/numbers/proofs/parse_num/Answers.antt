@@ -18,4 +18,4 @@ overflow_add-result-then-len-ge1 c = let h = c.short_len-len.ensures c.if-len-ge
 pub returns-then-len-ge1 : goal.returns-then-len-ge1
 returns-then-len-ge1 c =
     let h = c.short_len-len.ensures c.if-len-ge1.true in
-        rw c.from_be_bytes.ensures (raw_one c.args.signed c.args.size _ _ _ c.requires c.if-len-ge1.true h.0 h.1 h.2)
+    rw c.from_be_bytes.ensures (raw_one c.args.signed c.args.size _ _ _ c.requires c.if-len-ge1.true h.0 h.1 h.2)

@@ -18,12 +18,12 @@ returns-then-is_short c = let h = c.is_short.ensures c.if-is_short.true in unsig
 
 pub overflow_cast-result : goal.overflow_cast-result
 overflow_cast-result c =
-        record { fits = (ok_at (rw c.in-Is.is at c.parse_unsigned.ensures) (unsigned_ok 1 _ _ c.type_inv.input)).0 }
+    record { fits = (ok_at (rw c.in-Is.is at c.parse_unsigned.ensures) (unsigned_ok 1 _ _ c.type_inv.input)).0 }
 
 pub returns-in-Is : goal.returns-in-Is
 returns-in-Is c =
-            rw (← c.parse_unsigned.ensures, c.in-Is.is)
+    rw (← c.parse_unsigned.ensures, c.in-Is.is)
 
 pub returns-in-Refused : goal.returns-in-Refused
 returns-in-Refused c =
-            rw (← c.parse_unsigned.ensures, c.in-Refused.is)
+    rw (← c.parse_unsigned.ensures, c.in-Refused.is)

@@ -15,4 +15,4 @@ returns-in-Is c = rw c.from_be_bytes.ensures (raw_got _ _ _ (rw c.in-Is.is at c.
 pub returns-in-Refused : goal.returns-in-Refused
 unfolding raw_from bytes_at_claim then
 returns-in-Refused c =
-            rw (← c.take_n.ensures, c.in-Refused.is)
+    rw (← c.take_n.ensures, c.in-Refused.is)

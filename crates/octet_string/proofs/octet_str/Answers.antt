@@ -12,14 +12,14 @@ use Rattle.octet_string.proofs.octet_str.Goals as goal
 pub overflow_add-result : goal.overflow_add-result
 overflow_add-result c =
     let fits : c.args.span.start + c.args.span.len ≤ length c.args.input.now =
-      let a = c.args in
+    let a = c.args in
     within_end a.input.now a.span (sym c.is_within.ensures ∙ c.if-is_within.true) in
     let h = fits in search rules
 
 pub slice_bounds-result-end : goal.slice_bounds-result-end
 slice_bounds-result-end c =
     let fits : c.args.span.start + c.args.span.len ≤ length c.args.input.now =
-      let a = c.args in
+    let a = c.args in
     within_end a.input.now a.span (sym c.is_within.ensures ∙ c.if-is_within.true) in
     let h = fits in search rules
 

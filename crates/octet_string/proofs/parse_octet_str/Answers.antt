@@ -18,14 +18,14 @@ returns-then-short-ge1 c =
 pub returns-then-check_tlf : goal.returns-then-check_tlf
 unfolding octets_at then guard
 returns-then-check_tlf c =
-                        rw (← c.parse.ensures, c.in-Is.is, ← c.check_tlf.ensures, c.if-check_tlf.true, c.struct_known-1.given.1) c.take_n.ensures
+    rw (← c.parse.ensures, c.in-Is.is, ← c.check_tlf.ensures, c.if-check_tlf.true, c.struct_known-1.given.1) c.take_n.ensures
 
 pub returns-else-check_tlf : goal.returns-else-check_tlf
 unfolding octets_at then guard
 returns-else-check_tlf c =
-                rw (← c.parse.ensures, c.in-Is.is, ← c.check_tlf.ensures, c.if-check_tlf.false)
+    rw (← c.parse.ensures, c.in-Is.is, ← c.check_tlf.ensures, c.if-check_tlf.false)
 
 pub returns-in-Refused : goal.returns-in-Refused
 unfolding octets_at then guard
 returns-in-Refused c =
-            rw (← c.parse.ensures, c.in-Refused.is)
+    rw (← c.parse.ensures, c.in-Refused.is)

@@ -26,14 +26,14 @@ unfolding guard
 returns-then-longer-gt-LONGEST c =
     let a = c.args in
     let l = c.loop-has_more_bytes in
-        rw (c.invalid-then-longer-gt-LONGEST.ensures, ← l.invariant, c.loop-has_more_bytes-test.true, length_next a.input.now a.start l.next l.len (search rules), eq-eqb _ _ c.if-b-ne0.false, ← c.next_len-longer.ensures, lt-leb _ _ c.if-longer-gt-LONGEST.true)
+    rw (c.invalid-then-longer-gt-LONGEST.ensures, ← l.invariant, c.loop-has_more_bytes-test.true, length_next a.input.now a.start l.next l.len (search rules), eq-eqb _ _ c.if-b-ne0.false, ← c.next_len-longer.ensures, lt-leb _ _ c.if-longer-gt-LONGEST.true)
 
 pub loop-has_more_bytes-preserved : goal.loop-has_more_bytes-preserved
 unfolding guard
 loop-has_more_bytes-preserved c =
     let a = c.args in
     let l = c.loop-has_more_bytes in
-        rw (← l.invariant, c.loop-has_more_bytes-test.true, length_next a.input.now a.start l.next l.len (search rules), eq-eqb _ _ c.if-b-ne0.false, ← c.next_len-longer.ensures, le-leb _ _ c.if-longer-gt-LONGEST.false)
+    rw (← l.invariant, c.loop-has_more_bytes-test.true, length_next a.input.now a.start l.next l.len (search rules), eq-eqb _ _ c.if-b-ne0.false, ← c.next_len-longer.ensures, le-leb _ _ c.if-longer-gt-LONGEST.false)
 
 pub returns : goal.returns
 returns c =

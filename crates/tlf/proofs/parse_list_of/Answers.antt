@@ -15,14 +15,14 @@ returns-then-is_short_list c =
 pub returns-then-is_list_of : goal.returns-then-is_list_of
 unfolding list_of_at then guard
 returns-then-is_list_of c =
-                rw (← c.parse.ensures, c.in-Is.is, ← c.is_list_of.ensures, c.if-is_list_of.true)
+    rw (← c.parse.ensures, c.in-Is.is, ← c.is_list_of.ensures, c.if-is_list_of.true)
 
 pub returns-else-is_list_of : goal.returns-else-is_list_of
 unfolding list_of_at then guard
 returns-else-is_list_of c =
-                rw (← c.parse.ensures, c.in-Is.is, ← c.is_list_of.ensures, c.if-is_list_of.false)
+    rw (← c.parse.ensures, c.in-Is.is, ← c.is_list_of.ensures, c.if-is_list_of.false)
 
 pub returns-in-Refused : goal.returns-in-Refused
 unfolding list_of_at then guard
 returns-in-Refused c =
-            rw (← c.parse.ensures, c.in-Refused.is)
+    rw (← c.parse.ensures, c.in-Refused.is)

@@ -5,9 +5,9 @@ use Rattle.value.proofs.bytes_value.Goals as goal
 pub returns-in-Is : goal.returns-in-Is
 unfolding value_of_claim then
 returns-in-Is c =
-            rw (← c.parse_octet_str.ensures, c.in-Is.is)
+    rw (← c.parse_octet_str.ensures, c.in-Is.is)
 
 pub returns-in-Refused : goal.returns-in-Refused
 unfolding value_of_claim then
 returns-in-Refused c =
-            rw (← c.parse_octet_str.ensures, c.in-Refused.is)
+    rw (← c.parse_octet_str.ensures, c.in-Refused.is)

@@ -13,14 +13,14 @@ overflow_add-result c = let h = absent_room _ _ (sym c.is_absent.ensures ∙ c.i
 pub returns-then-is_absent : goal.returns-then-is_absent
 unfolding optional then
 returns-then-is_absent c =
-        rw (← c.is_absent.ensures, c.if-is_absent.true)
+    rw (← c.is_absent.ensures, c.if-is_absent.true)
 
 pub returns-in-Is : goal.returns-in-Is
 unfolding optional then
 returns-in-Is c =
-                    rw (← c.is_absent.ensures, c.if-is_absent.false, ← c.parse_i8.ensures, c.in-Is.is, to_z-of_z w8 c.in-Is.value (record { sfits = c.in-Is.known_told-1-own.given.0.1 }))
+    rw (← c.is_absent.ensures, c.if-is_absent.false, ← c.parse_i8.ensures, c.in-Is.is, to_z-of_z w8 c.in-Is.value (record { sfits = c.in-Is.known_told-1-own.given.0.1 }))
 
 pub returns-in-Refused : goal.returns-in-Refused
 unfolding optional then
 returns-in-Refused c =
-                    rw (← c.is_absent.ensures, c.if-is_absent.false, ← c.parse_i8.ensures, c.in-Refused.is)
+    rw (← c.is_absent.ensures, c.if-is_absent.false, ← c.parse_i8.ensures, c.in-Refused.is)

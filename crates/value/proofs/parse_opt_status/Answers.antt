@@ -11,14 +11,14 @@ overflow_add-result c = let h = absent_room _ _ (sym c.is_absent.ensures ∙ c.i
 pub returns-then-is_absent : goal.returns-then-is_absent
 unfolding optional then
 returns-then-is_absent c =
-        rw (← c.is_absent.ensures, c.if-is_absent.true)
+    rw (← c.is_absent.ensures, c.if-is_absent.true)
 
 pub returns-in-Is : goal.returns-in-Is
 unfolding optional then
 returns-in-Is c =
-                    rw (← c.is_absent.ensures, c.if-is_absent.false, ← c.parse_status.ensures, c.in-Is.is)
+    rw (← c.is_absent.ensures, c.if-is_absent.false, ← c.parse_status.ensures, c.in-Is.is)
 
 pub returns-in-Refused : goal.returns-in-Refused
 unfolding optional then
 returns-in-Refused c =
-                    rw (← c.is_absent.ensures, c.if-is_absent.false, ← c.parse_status.ensures, c.in-Refused.is)
+    rw (← c.is_absent.ensures, c.if-is_absent.false, ← c.parse_status.ensures, c.in-Refused.is)

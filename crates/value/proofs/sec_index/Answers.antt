@@ -2,8 +2,8 @@ use Rattle.value.proofs.sec_index.Goals as goal
 
 pub returns-in-Is : goal.returns-in-Is
 returns-in-Is c =
-        rw c.in-Is.is
+    rw c.in-Is.is
 
 pub returns-in-Refused : goal.returns-in-Refused
 returns-in-Refused c =
-        rw c.in-Refused.is
+    rw c.in-Refused.is

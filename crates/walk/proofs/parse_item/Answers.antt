@@ -17,19 +17,19 @@ returns-then-is_end_mark c = rw (← c.is_end_mark.ensures, c.if-is_end_mark.tru
 pub returns-then-is_list : goal.returns-then-is_list
 unfolding item_at then
 returns-then-is_list c =
-        rw (← c.is_end_mark.ensures, c.if-is_end_mark.false, ← c.parse.ensures, c.in-Is.is, ← c.is_list.ensures, c.if-is_list.true)
+    rw (← c.is_end_mark.ensures, c.if-is_end_mark.false, ← c.parse.ensures, c.in-Is.is, ← c.is_list.ensures, c.if-is_list.true)
 
 pub returns-in-Is-take_n : goal.returns-in-Is-take_n
 unfolding item_at then
 returns-in-Is-take_n c =
-            rw (← c.is_end_mark.ensures, c.if-is_end_mark.false, ← c.parse.ensures, c.in-Is.is, ← c.is_list.ensures, c.if-is_list.false, ← c.take_n.ensures, c.in-Is-take_n.is)
+    rw (← c.is_end_mark.ensures, c.if-is_end_mark.false, ← c.parse.ensures, c.in-Is.is, ← c.is_list.ensures, c.if-is_list.false, ← c.take_n.ensures, c.in-Is-take_n.is)
 
 pub returns-in-Refused-take_n : goal.returns-in-Refused-take_n
 unfolding item_at then
 returns-in-Refused-take_n c =
-            rw (← c.is_end_mark.ensures, c.if-is_end_mark.false, ← c.parse.ensures, c.in-Is.is, ← c.is_list.ensures, c.if-is_list.false, ← c.take_n.ensures, c.in-Refused-take_n.is)
+    rw (← c.is_end_mark.ensures, c.if-is_end_mark.false, ← c.parse.ensures, c.in-Is.is, ← c.is_list.ensures, c.if-is_list.false, ← c.take_n.ensures, c.in-Refused-take_n.is)
 
 pub returns-in-Refused : goal.returns-in-Refused
 unfolding item_at then
 returns-in-Refused c =
-        rw (← c.is_end_mark.ensures, c.if-is_end_mark.false, ← c.parse.ensures, c.in-Refused.is)
+    rw (← c.is_end_mark.ensures, c.if-is_end_mark.false, ← c.parse.ensures, c.in-Refused.is)

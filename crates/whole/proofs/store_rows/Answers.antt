@@ -29,7 +29,7 @@ loop-i-preserved c =
     let a = c.args in
     let l = c.loop-i in
     let w = c.store_row in
-        let e = list_entry c.in-Is.entry in
+    let e = list_entry c.in-Is.entry in
     let next = c.in-Is.next in (
       omega arith,
       row_put_length l.table w.new.table l.i (row_of l.place e next) w.ensures ∙ l.invariant.1,

@@ -2,7 +2,6 @@ use mathlib.Core.Path.{refl, sym, ◌∙◌}
 use Prim.Native.Nat.{◌^◌, ◌<◌}
 use native.Mathlib.Omega.{arith}
 use lib.ListN.{length}
-use borrow.Author.Tests.{not-true, not-false}
 use Rattle.common.specs.Answers.{close_response}
 use Rattle.crc_x25.specs.Crc.{start}
 use Rattle.writer.specs.Calls.{whole_to}

@@ -2,7 +2,6 @@ use mathlib.Core.Path.{refl, sym, ◌∙◌}
 use Prim.Native.Nat.{◌^◌, ◌<◌}
 use native.Mathlib.Omega.{arith}
 use lib.ListN.{length}
-use borrow.Author.Tests.{not-true, not-false}
 use Rattle.writer.specs.Calls.{end_to}
 use Rattle.writer.proofs.Puts.{puts_there}
 use Rattle.writer.proofs.Calls.{refuses_place, refuses_due, refuses_span, refuses_room, accepts_put, run_short, run_fits, room_fits, with_trailer, end_not_due, end_due_claim}

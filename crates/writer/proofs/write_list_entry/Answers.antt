@@ -2,7 +2,7 @@ use mathlib.Core.Path.{refl, sym, ◌∙◌}
 use Prim.Native.Nat.{◌^◌, ◌<◌}
 use native.Mathlib.Omega.{arith}
 use lib.ListN.{length}
-use borrow.Author.Tests.{not-true, not-false, leb-true, leb-false}
+use borrow.Author.Tests.{leb-true, leb-false}
 use borrow.Author.Rules.{rules}
 use Rattle.common.specs.Answers.{list_entry}
 use Rattle.streaming.specs.Meaning.{entry_means}
@@ -36,7 +36,7 @@ returns-then-not-entry_fits c =
 pub slice_bounds-update-count : goal.slice_bounds-update-count
 slice_bounds-update-count c =
     let there : WasPut c.args.out.now c.args.w.place (write_entry (entry_means c.args.strings.now (list_entry c.args.entry))) c.put_entry-p.new.out c.put_entry-p.result =
-      let a = c.args in
+    let a = c.args in
     let f = c.entry_fits in
     let small : length a.out.now < 2 ^ 63 = omega (arith, c.well_formed) in
     was_put _ _ _ c.put_entry-p.ensures (leb-true _ _ (sym f.ensures ∙ c.if-not-entry_fits.false)) small in
@@ -45,7 +45,7 @@ slice_bounds-update-count c =
 pub slice_bounds-update-start : goal.slice_bounds-update-start
 slice_bounds-update-start c =
     let there : WasPut c.args.out.now c.args.w.place (write_entry (entry_means c.args.strings.now (list_entry c.args.entry))) c.put_entry-p.new.out c.put_entry-p.result =
-      let a = c.args in
+    let a = c.args in
     let f = c.entry_fits in
     let small : length a.out.now < 2 ^ 63 = omega (arith, c.well_formed) in
     was_put _ _ _ c.put_entry-p.ensures (leb-true _ _ (sym f.ensures ∙ c.if-not-entry_fits.false)) small in
@@ -54,7 +54,7 @@ slice_bounds-update-start c =
 pub slice_bounds-update-end : goal.slice_bounds-update-end
 slice_bounds-update-end c =
     let there : WasPut c.args.out.now c.args.w.place (write_entry (entry_means c.args.strings.now (list_entry c.args.entry))) c.put_entry-p.new.out c.put_entry-p.result =
-      let a = c.args in
+    let a = c.args in
     let f = c.entry_fits in
     let small : length a.out.now < 2 ^ 63 = omega (arith, c.well_formed) in
     was_put _ _ _ c.put_entry-p.ensures (leb-true _ _ (sym f.ensures ∙ c.if-not-entry_fits.false)) small in
@@ -64,7 +64,7 @@ pub returns-else-not-entry_fits : goal.returns-else-not-entry_fits
 unfolding entry_to
 returns-else-not-entry_fits c =
     let there : WasPut c.args.out.now c.args.w.place (write_entry (entry_means c.args.strings.now (list_entry c.args.entry))) c.put_entry-p.new.out c.put_entry-p.result =
-      let a = c.args in
+    let a = c.args in
     let f = c.entry_fits in
     let small : length a.out.now < 2 ^ 63 = omega (arith, c.well_formed) in
     was_put _ _ _ c.put_entry-p.ensures (leb-true _ _ (sym f.ensures ∙ c.if-not-entry_fits.false)) small in

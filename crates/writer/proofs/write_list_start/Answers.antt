@@ -2,7 +2,6 @@ use mathlib.Core.Path.{refl, sym, ◌∙◌}
 use Prim.Native.Nat.{◌^◌, ◌<◌}
 use native.Mathlib.Omega.{arith}
 use lib.ListN.{length}
-use borrow.Author.Tests.{not-true, not-false}
 use borrow.Author.Rules.{rules}
 use Rattle.message.specs.Answers.{list_start}
 use Rattle.message.specs.Messages.{list_body}
@@ -31,7 +30,7 @@ returns-then-out-put_list_start c =
 pub slice_bounds-update-count : goal.slice_bounds-update-count
 slice_bounds-update-count c =
     let there : WasPut c.args.out.now c.args.at (write_start (start_means c.args.strings.now (start_with c.args.head (list_body (list_start c.args.list))))) c.put_list_start-p.new.out c.put_list_start-p.result =
-      let a = c.args in
+    let a = c.args in
     let small : length a.out.now < 2 ^ 63 = omega (arith, c.well_formed) in
     was_put _ _ _ c.put_list_start-p.ensures (run_fits _ _ c.put_list_start.ensures small c.if-out-put_list_start.false) small in
     let d = there in search rules
@@ -39,7 +38,7 @@ slice_bounds-update-count c =
 pub slice_bounds-update-start : goal.slice_bounds-update-start
 slice_bounds-update-start c =
     let there : WasPut c.args.out.now c.args.at (write_start (start_means c.args.strings.now (start_with c.args.head (list_body (list_start c.args.list))))) c.put_list_start-p.new.out c.put_list_start-p.result =
-      let a = c.args in
+    let a = c.args in
     let small : length a.out.now < 2 ^ 63 = omega (arith, c.well_formed) in
     was_put _ _ _ c.put_list_start-p.ensures (run_fits _ _ c.put_list_start.ensures small c.if-out-put_list_start.false) small in
     let d = there in search rules
@@ -47,7 +46,7 @@ slice_bounds-update-start c =
 pub slice_bounds-update-end : goal.slice_bounds-update-end
 slice_bounds-update-end c =
     let there : WasPut c.args.out.now c.args.at (write_start (start_means c.args.strings.now (start_with c.args.head (list_body (list_start c.args.list))))) c.put_list_start-p.new.out c.put_list_start-p.result =
-      let a = c.args in
+    let a = c.args in
     let small : length a.out.now < 2 ^ 63 = omega (arith, c.well_formed) in
     was_put _ _ _ c.put_list_start-p.ensures (run_fits _ _ c.put_list_start.ensures small c.if-out-put_list_start.false) small in
     let d = there in search rules
@@ -56,7 +55,7 @@ pub returns : goal.returns
 unfolding start_to
 returns c =
     let there : WasPut c.args.out.now c.args.at (write_start (start_means c.args.strings.now (start_with c.args.head (list_body (list_start c.args.list))))) c.put_list_start-p.new.out c.put_list_start-p.result =
-      let a = c.args in
+    let a = c.args in
     let small : length a.out.now < 2 ^ 63 = omega (arith, c.well_formed) in
     was_put _ _ _ c.put_list_start-p.ensures (run_fits _ _ c.put_list_start.ensures small c.if-out-put_list_start.false) small in
     let w = c.list_within in
