@@ -41,10 +41,10 @@ returns-in-End c =
 pub looking_for_escape-requires : goal.looking_for_escape-requires
 looking_for_escape-requires c =
     elim c.match-state.branch [
-      in-Init+else-n-lt8 w ↦ let e : c.match-state.run ≡ 0 = w.run-is in omega (arith, e)
-    | in-LookingForEscape+then-run-lt4 w ↦
-        let e : c.match-state.run ≡ w.in-LookingForEscape.run' = w.run-is in let h : w.in-LookingForEscape.run' < 4 = w.if-run-lt4.true in omega (arith, e, h)
-    | in-HandlingEscape+else-n-lt4 w ↦ let e : c.match-state.run ≡ 0 = w.run-is in omega (arith, e)
+      | in-Init+else-n-lt8 w ↦ let e : c.match-state.run ≡ 0 = w.run-is in omega (arith, e)
+      | in-LookingForEscape+then-run-lt4 w ↦
+          let e : c.match-state.run ≡ w.in-LookingForEscape.run' = w.run-is in let h : w.in-LookingForEscape.run' < 4 = w.if-run-lt4.true in omega (arith, e, h)
+      | in-HandlingEscape+else-n-lt4 w ↦ let e : c.match-state.run ≡ 0 = w.run-is in omega (arith, e)
     ]
 
 pub returns : goal.returns
@@ -54,7 +54,7 @@ returns c =
     let run : ℕ → Step = λ n. looked n a.place a.crc p in
     c.looking_for_escape.ensures
     ∙ elim c.match-state.branch [
-      in-Init+else-n-lt8 w ↦ ap run w.run-is ∙ behind_start a.place a.crc p a.state w.in-Init.n w.in-Init.is w.if-n-lt8.false
-    | in-LookingForEscape+then-run-lt4 w ↦ ap run w.run-is ∙ step_looks a.place a.crc p a.state w.in-LookingForEscape.run' w.in-LookingForEscape.is w.if-run-lt4.true
-    | in-HandlingEscape+else-n-lt4 w ↦ ap run w.run-is ∙ behind_escape a.place a.crc p a.state w.in-HandlingEscape.n w.in-HandlingEscape.is w.if-n-lt4.false
+      | in-Init+else-n-lt8 w ↦ ap run w.run-is ∙ behind_start a.place a.crc p a.state w.in-Init.n w.in-Init.is w.if-n-lt8.false
+      | in-LookingForEscape+then-run-lt4 w ↦ ap run w.run-is ∙ step_looks a.place a.crc p a.state w.in-LookingForEscape.run' w.in-LookingForEscape.is w.if-run-lt4.true
+      | in-HandlingEscape+else-n-lt4 w ↦ ap run w.run-is ∙ behind_escape a.place a.crc p a.state w.in-HandlingEscape.n w.in-HandlingEscape.is w.if-n-lt4.false
     ]
