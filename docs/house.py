@@ -21,7 +21,7 @@ def floors():
             out.append((name, what.strip(), {}))
         elif line.strip() and not line.startswith("#"):
             name, stands = line.split("#")[0].split(":")
-            out[-1][2][name.strip()] = [d for d in stands.split() if d not in KIT]
+            out[-1][2][name.split()[0]] = [d for d in stands.split() if d not in KIT]
     return out
 
 

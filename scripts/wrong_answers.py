@@ -1,6 +1,6 @@
 """The wrong readings of docs/WRONG-READINGS.md: what is told of each, and both answers to the command that tells it from ours. Ours are those of the library and the proved programs; the wrong one is that of
-the edited code, built and run without proof by `rt try`, on the interpreter and compiled three ways. bin/wrong, tests/test_answers.py and tests/test_forms.py share this."""
-import ast, glob, os, re, shutil, subprocess, tempfile
+the edited code, built and run without proof by `rt try`, which compiles it with a check at each index, sum, cast and access. bin/wrong, tests/test_answers.py and tests/test_forms.py share this."""
+import glob, os, re, shutil, subprocess, tempfile
 import clink, programs
 
 ROOT = programs.ROOT
@@ -8,12 +8,10 @@ ROOT = programs.ROOT
 LINE = re.compile(r"^Answers: `([^`]+)` gives `([^`]+)`; the wrong one `([^`]+)`\.$")
 # The program of tests/forms, and the crates that it asks; it reads lines and writes fields as replay_parts does.
 FORMS = "forms"
-ASKED = "crc_x25 encoder decoder decoder_slice in_place packed losses refusals tlf octet_string value walk common message streaming parser whole index bench io libc"
+ASKED = "crc_x25 encoder decoder decoder_slice in_place packed losses refusals tlf octet_string value walk common message streaming parser whole index bench"
 SHARED = ["line.rt", "fields.rt"]
 # Who answers a command, by its first word. A command that begins with no such word is told in words, and nothing runs it.
 PROGRAMS = programs.ANSWERS | dict.fromkeys(["limits", "chunks", "memory", "long_sum"], FORMS) | {"smlcat": "smlcat"}
-# The interpreter of `rt try` knows no arguments: in the copy smlcat is started without one.
-NO_ARGUMENT = ("smlcat/src/main.rt", "Decoder::with_way(4096, way_asked())", "Decoder::new(4096)")
 
 
 def told(name):
@@ -56,11 +54,6 @@ def replace(path, old, new):
     open(path, "w", encoding="utf-8").write(text.replace(old, new))
 
 
-def in_copy(copy, change):
-    target, old, new = change
-    replace(os.path.join(copy, "crates", target), old, new)
-
-
 def program_of(command):
     return PROGRAMS.get(command.split(" ")[0])
 
@@ -92,11 +85,11 @@ def built(name):
     return path if os.path.exists(path) else None
 
 
-def ours(told):
-    """Our answers, by command, of a dict that has those that are told: the library's and the proved programs', as they were built last. What isn't built, and the program of tests/forms, is run as the code stands."""
+def ours(commands):
+    """Our answers, by command: the library's and the proved programs', as they were built last. What isn't built, and the program of tests/forms, is run as the code stands."""
     found = {}
-    for name, alone in dict.fromkeys((program_of(c), takes_all(c)) for c in told):
-        asked = [c for c in told if (program_of(c), takes_all(c)) == (name, alone)]
+    for name, alone in dict.fromkeys((program_of(c), takes_all(c)) for c in commands):
+        asked = [c for c in commands if (program_of(c), takes_all(c)) == (name, alone)]
         for given in dict.fromkeys(map(input_of, asked)) if alone else [b"".join(map(input_of, asked))]:
             part = [c for c in asked if not alone or input_of(c) == given]
             path = built(name)
@@ -106,7 +99,7 @@ def ours(told):
                 if run.returncode != 0 or not alone and wrote.count("\n") != len(part):
                     raise ValueError(f"{os.path.basename(path)}: status {run.returncode}, {wrote.count(chr(10))} lines")
             else:
-                wrote = as_it_stands(name, given, wanted(part[0], told[part[0]]) if alone else "".join(wanted(c, told[c]) for c in part))
+                wrote = as_it_stands(name, given)
             lines = [wrote] * len(part) if alone else [line + "\n" for line in wrote.split("\n")]
             found.update((c, answer_in(c, line)) for c, line in zip(part, lines))
     return found
@@ -117,18 +110,10 @@ def takes_all(command):
     return command.split(" ")[0] in ("smlcat", "limits")
 
 
-def wanted(command, guess):
-    """what a program would write whose answer is this one; of `limits`, what ours writes"""
-    if command.startswith("limits "):
-        return limits()
-    lines = "" if guess == "nothing" else guess + "\n"
-    return lines.replace("; ", "\n") if command.startswith("smlcat ") else lines
-
-
-def as_it_stands(name, given, want):
+def as_it_stands(name, given):
     with tempfile.TemporaryDirectory() as tmp:
         copied(tmp)
-        return tried(tmp, in_rattle(name), given, want)
+        return tried(tmp, in_rattle(name), given)
 
 
 def in_rattle(name):
@@ -140,7 +125,6 @@ def copied(copy):
     """a repository that has the code alone, and the program of tests/forms as a crate of it"""
     for path in glob.glob(os.path.join(ROOT, "crates/*/src")):
         shutil.copytree(path, os.path.join(copy, os.path.relpath(path, ROOT)))
-    in_copy(copy, NO_ARGUMENT)
     crates = open(os.path.join(ROOT, "crates.txt"), encoding="utf-8").read()
     open(os.path.join(copy, "crates.txt"), "w", encoding="utf-8").write(f"{crates}{FORMS}: {ASKED}\n")
     src = os.path.join(copy, "crates", FORMS, "src")
@@ -151,43 +135,20 @@ def copied(copy):
         shutil.copy(os.path.join(ROOT, "crates/replay_parts/src", name), src)
 
 
-def runs(copy, name, given, want):
-    """what `rt try` says of the four runs of a program of the copy, the interpreter first"""
-    folder = os.path.join(copy, "crates", name)
-    open(os.path.join(folder, "stdin"), "wb").write(given)
-    open(os.path.join(folder, "stdout"), "w", encoding="utf-8").write(want)
-    said = subprocess.run(["rt", "try", name], cwd=copy, capture_output=True, text=True)
-    found = re.findall(r"^((?:ok|FAIL): the (?:interpreter|native program) .*\n(?:(?!ok: |FAIL: ).*\n)*)", said.stdout, re.M)
-    if len(found) != 4:
-        raise ValueError((said.stdout + said.stderr)[-2000:].replace(copy + os.sep, ""))
-    return found
-
-
-def tried(copy, name, given, want):
-    """What a program of the copy writes, or a line that says why it stops. `rt try` shows 200 bytes of what differs from what was wanted; where there is more, what is known by then is wanted next."""
-    four = runs(copy, name, given, want)
-    stop = re.search(r"undefined behavior \(.*?\): (.*)", four[0])
-    if stop:
-        return f"stops: {stop[1].replace('`', '')}\n"
-    # the interpreter has ten million steps; what takes more is seen by the compiled code alone
-    wrote = {(want, False) if run.startswith("ok") else differing(run, want) for run in four if " failed, " not in run}
-    if not wrote:
+def tried(copy, name, given):
+    """What a program of the copy writes, or a line that says why it stops."""
+    run = subprocess.run(["rt", "try"], cwd=os.path.join(copy, "crates", name), input=given, capture_output=True)
+    said = run.stderr.decode(errors="replace")
+    stop = re.search(r"^\w+: fault kind=\S+ in=(\S+?)(?: at=\S+)?: (.*?)(?:, called from .*)?$", said, re.M)
+    if run.returncode == 4 and stop:
+        return f"stops: {stop[2].replace('`', '')}, in {stop[1]}\n"
+    if run.returncode == 5:
+        return "no answer: its two runs differ\n"
+    if run.returncode == 6:
         return "never ends\n"
-    if len(wrote) > 1:
-        # code that reads what isn't its own finds something else there each time
-        return "no answer: its four runs differ\n"
-    found, cut = wrote.pop()
-    # of limits one line is asked for, and the first that differs is the one
-    return tried(copy, name, given, found) if cut and given != b"limits\n" else found
-
-
-def differing(run, want):
-    """what a run wrote, and whether more follows"""
-    said = re.search(r"at byte (\d+), expected .*, found (\"(?:[^\"\\]|\\.)*\")( \(200 of )?", run)
-    if not said:
-        raise ValueError("rt try doesn't say what differs: " + run[:500])
-    at, found, cut = said.groups()
-    return want.encode()[: int(at)].decode() + ast.literal_eval(found), cut is not None
+    if run.returncode != 0:
+        raise ValueError(f"rt try, status {run.returncode}: " + said[-2000:].replace(copy + os.sep, ""))
+    return run.stdout.decode()
 
 
 def limits():
@@ -195,18 +156,18 @@ def limits():
     return open(os.path.join(ROOT, "tests/expected/limits.txt"), encoding="utf-8").read() + "\n"
 
 
-def edited(crate, changed, command, guess):
+def edited(crate, changed, command):
     """the answer of the code with these changes of a crate"""
     with tempfile.TemporaryDirectory() as tmp:
         copied(tmp)
         for target, old, new in changed:
             if target.startswith("src/"):
                 replace(os.path.join(tmp, "crates", crate, target), old, new)
-        wrote = tried(tmp, in_rattle(program_of(command)), input_of(command), wanted(command, guess))
+        wrote = tried(tmp, in_rattle(program_of(command)), input_of(command))
     return wrote.strip() if re.match("stops: |never ends|no answer: ", wrote) else answer_in(command, wrote)
 
 
 def wrong(name):
     """the answer of the edited code"""
-    (crate, edit), (command, _, guess) = edits()[name], answers(name)
-    return edited(crate, changes(edit), command, guess)
+    (crate, edit), (command, _, _) = edits()[name], answers(name)
+    return edited(crate, changes(edit), command)

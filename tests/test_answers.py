@@ -9,7 +9,8 @@ import clink, programs, wrong_answers
 # a field (replay_parts), frames and limits (tests/forms), lines (smlcat), one whose code stops, and document 01's fifth 1b
 SAMPLE = ["full_width_refused", "pad_not_against_length", "first_byte_again", "slice_noise_without_matched", "pad_count_in_hex", "fifth_1b_keeps_four"]
 # an edit of the line that `later_type_not_tested` edits, the same for every byte
-EQUAL = "tlf", [("src/lib.rt", "if b / 16 % 8 != 0 {", "if b % 128 / 16 != 0 {")], "leaf oct 8014aabb", "err InvalidTlf TlfNextByteTypeMismatch"
+EQUAL = "tlf", [("src/lib.rt", "if b / 16 % 8 != 0 {", "if b % 128 / 16 != 0 {")], "leaf oct 8014aabb"
+SAME = "err InvalidTlf TlfNextByteTypeMismatch"
 # what bin/wrong is tried on: theorems, of which nothing is left to prove; the second by its name without fake_
 SHOWN = {"low_byte_first": "low_byte_first", "half_row_is_room": "fake_half_row_is_room"}
 bad, began = [], time.time()
@@ -36,7 +37,7 @@ bad += [f"{name}: both answers are the same" for name, (_, ours, theirs) in line
 asked = {name: line for name, line in lines.items() if wrong_answers.program_of(line[0])}
 programs.build(["replay_parts", "smlcat"], 300)
 clink.replay()
-answers = tried(wrong_answers.ours, {command: ours for command, ours, _ in asked.values()})
+answers = tried(wrong_answers.ours, [command for command, _, _ in asked.values()])
 for name, (command, ours, _) in asked.items():
     held(f"{name}, our code, {command}", answers[command] if isinstance(answers, dict) else answers, ours)
 runs = [name for name in lines if wrong_answers.can_run(name)]
@@ -45,9 +46,9 @@ with ThreadPoolExecutor(int(os.environ.get("RT_JOBS") or min(4, os.cpu_count() o
     equal = pool.submit(tried, wrong_answers.edited, *EQUAL)
     for name, got in zip(chosen, pool.map(lambda name: tried(wrong_answers.wrong, name), chosen)):
         held(f"{name}, the edited code, {lines[name][0]}", got, lines[name][2])
-    held("an edit that changes nothing", equal.result(), EQUAL[-1])
+    held("an edit that changes nothing", equal.result(), SAME)
 bad += [f"{name}: of the sample, and can't be run" for name in SAMPLE if name not in runs]
-if f"runs all {len(runs)} edits of code: " not in page:
+if f"runs all {len(runs)} edits of code " not in page:
     bad.append(f"docs/WRONG-READINGS.md: the figure of --all is not that of {len(runs)} edits of code")
 for asked_for, name in SHOWN.items():
     said = subprocess.run([os.path.join(wrong_answers.ROOT, "bin/wrong"), asked_for], capture_output=True, text=True)

@@ -78,8 +78,35 @@ def held(crate, paths):
     bad.extend(f"{crate}: no public function has the line {k}" for k in left)
 
 
+PARAMETER = re.compile(r"\w+(?=:)")
+
+
+def exported(crate):
+    """Each function of the crate is exported by a static library beside it, of its name and `_c`: with the same parameters and answer, word for word the same clause, and a body that is that call. Gives how many are."""
+    path = f"crates/{crate}_c/src/lib.rt"
+    if not os.path.isfile(path):
+        return 0
+    one = re.compile(r'^pub (extern "C" )?fn (\w+)\((.*?)\)( -> \S+)?\n(    ensures \{ [^\n]* \})\n\{\n(.*?)^\}', re.M | re.S)
+    exports, own = open(path, encoding="utf-8").read(), open(f"crates/{crate}/src/lib.rt", encoding="utf-8").read()
+    flat = lambda takes: " ".join(takes.replace(",", ", ").split()).strip(", ")
+    calls = {name: (flat(takes), gives, said) for _, name, takes, gives, said, _ in one.findall(own)}
+    found = {}
+    for extern, name, takes, gives, said, body in one.findall(exports):
+        found[name] = (flat(takes), gives, said)
+        call = f"{crate}::{name}({','.join(PARAMETER.findall(takes))})"
+        if not extern or "".join(body.split()).rstrip(";").replace(",)", ")") != call:
+            bad.append(f"{path}: {name} does more than to call that of {crate}")
+    if len(found) != len(re.findall(r"\bfn ", exports)) or len(found) != len(re.findall(r"^#\[unsafe\(no_mangle\)\]$", exports, re.M)):
+        bad.append(f"{path}: a function of another form, or one that is not exported")
+    bad.extend(f"{path}: {name} is not exported as {crate} has it" for name in sorted(calls.keys() | found.keys()) if calls.get(name) != found.get(name))
+    # both clauses mean the same definitions
+    here, there = imported(exports), imported(own)
+    bad.extend(f"{path}: {name}'s clause means other definitions than that of {crate}" for name, (_, _, said) in found.items() if meant(here, said) != meant(there, said))
+    return len(found)
+
+
 joined = open("crates/marks/specs/Decided.antt", encoding="utf-8").read().split("pub record Decided ")
-for crate in sorted(os.listdir("crates")):
+for crate in sorted(c for c in os.listdir("crates") if not c.endswith("_c")):
     count = len(list(held(crate, sorted(glob.glob(f"crates/{crate}/src/**/*.rt", recursive=True)))))
     seen += count
     name = re.search(rf"^use Rattle\.{crate}\.specs\.Decided as (\w+)$", joined[0], re.M)
@@ -117,7 +144,7 @@ def meant(names, said):
 
 def contracts():
     """Of every public function: crate, type or None, name, what its contract names, the contract."""
-    for path in sorted(glob.glob("crates/*/src/**/*.rt", recursive=True)):
+    for path in sorted(p for p in glob.glob("crates/*/src/**/*.rt", recursive=True) if not p.split(os.sep)[1].endswith("_c")):
         text = read(path)
         names = imported(text)
         for m in FN.finditer(text):
@@ -126,6 +153,7 @@ def contracts():
 
 
 CONTRACTS = list(contracts())
+exports = sum(exported(crate) for crate in sorted(os.listdir("crates")))
 for crate, _, name, cited, ensures in CONTRACTS:
     path = f"crates/{crate}/specs/Decided.antt"
     text = read(path) if os.path.isfile(path) else ""
@@ -193,5 +221,5 @@ for key in sorted(machines.keys() | way.keys()):
 if not rows or not machines:
     bad.append("docs/STATEMENTS.md: the way from a claim to the code is not found")
 print("\n".join(bad))
-print(f"{seen} public functions in Decided, {len(machines)} operations of ours and {rows} rows of the way to the code, {len(bad)} faults")
+print(f"{seen} public functions in Decided, {exports} exports of them, {len(machines)} operations of ours and {rows} rows of the way to the code, {len(bad)} faults")
 sys.exit(1 if bad or not seen else 0)

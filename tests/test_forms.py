@@ -1,4 +1,4 @@
-"""The forms that the library has no call for, by the program of tests/forms, which runs without proof (`rt try`: compiled at -O0, at -O3 and with the compiler's assumptions checked): a decoder by value, in place, by slices and by slices in place, an Encoder by value and in place,
+"""The forms that the library has no call for, by the program of tests/forms, which runs without proof (`rt try`: compiled with a check at each index, sum, cast and access): a decoder by value, in place, by slices and by slices in place, an Encoder by value and in place,
 the reader of messages by value and through Parser; a whole message, an index, a lookup, a walk and what begins at a place by value; and why bytes were lost, by place and by a watch. Each answers a part of the library's stored vectors as stored, and `limits` every refusal with the record that it leaves. With --all every stored vector, in batches.
 """
 import os, re, subprocess, sys, tempfile, time
@@ -13,7 +13,7 @@ from index_reading import VECTORS as INDEX
 from walk_reading import EndMark, Leaf, List
 from whole_reading import MORE, VECTORS as WHOLE
 
-# Of the commands that say the same kinds of things so many short ones are asked in the gate. A run has ten seconds and may write a megabyte, so that a batch has few lines and little to write.
+# Of the commands that say the same kinds of things so many short ones are asked in the gate. A run has a minute and may write a megabyte, so that a batch has few lines and little to write.
 SHORT, EACH, LINES, ROOM, LONGEST = 500, 3, 2000, 1 << 18, 70000
 SAID = re.compile(r"bad command|wrong buffer|refused \d+|noise|unfinished|hidden|cut|room|crc|misaligned \d|pads|payload|discarded|escape|memory|invalid \S+ \S+ \w+|reset|err \w+|none|(?:open|close|list) tid|entry name|end sig")
 # what must be among the answers of the commands that have more than one form
@@ -43,18 +43,21 @@ def batches(pairs):
     yield part
 
 
-def held(what, copy, pairs):
-    """Three compiled runs must answer as stored; where one runs out of time, each half of the commands must. The interpreter has ten million steps: what it has written by then must be the beginning of it. Gives how many answers that were."""
-    given, want = "".join(c + "\n" for c, _ in pairs), "".join(a + "\n" for _, a in pairs)
-    four = wrong_answers.runs(copy, wrong_answers.FORMS, given.encode(), want)
-    if len(pairs) > 1 and any("did not end within the time limit" in run for run in four[1:]):
-        half = len(pairs) // 2
-        return held(what, copy, pairs[:half]) + held(what, copy, pairs[half:])
-    bad.extend(f"{what}: {run[:1500]}" for run in four[1:] if not run.startswith("ok: "))
-    wrote = want if four[0].startswith("ok: ") else wrong_answers.differing(four[0], want)[0]
-    if not want.startswith(wrote) or wrote != want and "did not finish within" not in four[0]:
-        bad.append(f"{what}: {four[0][:1500]}")
-    return wrote.count("\n")
+def held(copy, parts):
+    """The program is built once, and each batch of commands must answer as stored. Gives how many batches did."""
+    cases = os.path.join(copy, "cases")
+    os.makedirs(cases)
+    for k, pairs in enumerate(parts):
+        for end, which in (("", 0), (".stdout", 1)):
+            with open(os.path.join(cases, f"batch{k}{end}"), "w", encoding="utf-8", newline="") as f:
+                f.write("".join(pair[which] + "\n" for pair in pairs))
+    run = subprocess.run(["rt", "try", "--cases", cases], cwd=os.path.join(copy, "crates", wrong_answers.FORMS), capture_output=True, text=True)
+    said = dict(re.findall(r"^case=batch(\d+) run=(.*) proved=no$", run.stdout + run.stderr, re.M))
+    well = [k for k in range(len(parts)) if re.fullmatch(r"ended status=0 .*output=expected", said.get(str(k), ""))]
+    bad.extend(f"batch {k}: {said.get(str(k), 'not run')}" for k in range(len(parts)) if k not in well)
+    if run.returncode != 0 or len(well) < len(parts):
+        bad.append(f"rt try, status {run.returncode}: " + (run.stdout + run.stderr)[-3000:].replace(copy + os.sep, ""))
+    return len(well)
 
 
 def begun(item):
@@ -96,12 +99,10 @@ chosen += walks + items
 chosen += asked([(why_reading.command(way, capacity, data), answer) for way, capacity, data, answer in why_reading.VECTORS + why_reading.MORE])
 with tempfile.TemporaryDirectory() as tmp:
     wrong_answers.copied(tmp)
-    layout = subprocess.run(["rt", "fmt", "--check"], cwd=tmp, capture_output=True, text=True)
-    if layout.returncode != 0:
-        bad.append("not in the layout of rt fmt, of crates and tests/forms: " + (layout.stdout + layout.stderr)[-500:])
-    interpreted = sum(held(f"batch {k}", tmp, part) for k, part in enumerate(batches([*chosen, ("limits", wrong_answers.limits()[:-1])])))
-if interpreted < 50:
-    bad.append(f"the interpreter gave {interpreted} answers")
+    layout = subprocess.run(["rt", "fmt"], cwd=os.path.join(tmp, "crates", wrong_answers.FORMS), capture_output=True, text=True)
+    if layout.returncode != 0 or layout.stdout:
+        bad.append("not in the layout of rt fmt, of tests/forms: " + (layout.stdout + layout.stderr)[-500:])
+    well = held(tmp, list(batches([*chosen, ("limits", wrong_answers.limits()[:-1])])))
 answers = {form + word: [a for c, a in chosen if c.startswith(form + word + " ")] for word in FORMS for form in FORMS[word]}
 bad += [f"{words}: no answer has {what}" for words, some in answers.items() for what in MUST[words.split(" ")[-1]] if not any(what in a for a in some)]
 counts = {word: sum(len(answers[form + word]) for form in FORMS[word]) for word in FORMS}
@@ -112,5 +113,5 @@ if not all(any(a.startswith(what) for _, a in index) for what in ("rows 6 next",
 if not all(any(a.startswith(what) for _, a in walks + items) for what in ("bytes ", "err UnexpectedEOF 10 @", "err InvalidTlf TlfLengthOverflow 11 @", "err TooDeep 19 @16", "end mark next ", "leaf string ", "leaf boolean ", "leaf integer ", "leaf unsigned ", "list 0 next ")):
     bad.append("walk, item: an answer of a kind that was to be there is missing")
 print("\n".join(bad))
-print(f"{len(chosen)} answers in {time.time() - began:.0f} s ({', '.join(f'{n} {word}' for word, n in counts.items())}), and those of limits; the first {interpreted} on the interpreter too; {len(bad)} faults")
+print(f"{len(chosen)} answers in {time.time() - began:.0f} s ({', '.join(f'{n} {word}' for word, n in counts.items())}), and those of limits, in {well} batches; {len(bad)} faults")
 sys.exit(1 if bad else 0)

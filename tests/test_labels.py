@@ -95,7 +95,7 @@ for path in sorted(glob.glob("crates/*/src/**/*.rt", recursive=True)):
     for name, said in FN.findall(text):
         contracts += 1
         rests = reached(meant(said, names, whole))
-        everywhere |= rests if crate != "bench" else set()
+        everywhere |= rests if crate not in ("bench", "bench_c") else set()
         for file in sorted({f for f, _ in rests if kind[f] not in ("rule", "view") and f.split("/")[0] != "bench" or kind[f] == "cut"}):
             bad.append(f"{path}: the contract of {name} rests on {file}, a {kind[file]}")
 claims = reached((f, n) for f in files if kind[f] == "claim" and f != "marks/Marks" for n in files[f][1][0])

@@ -1,6 +1,6 @@
 """The library as C links it (include/sartrogheo.h, libsartrogheo.a, examples/, scripts/install, docs/LIBRARY.md).
 
-The header says what the crate exports: each constant is the number that the definitions have, each prototype that of one export, each word of an event that of `eventWords`; C++ takes it too. The archive is for x86-64, defines the exports and nothing else, has nothing that can be
+The header says what the crate exports: each constant is the number that the definitions have, each prototype that of one export, each word of an event that of `event_words`; C++ takes it too. The archive is for x86-64, defines the exports and nothing else, has nothing that can be
 written, and asks for nothing but what a compiler asks for by itself. tests/library.c makes every call with good and bad input, and answers random commands, each as tests/push_rules.py, tests/places_reading.py, tests/walk_reading.py, tests/why_reading.py and oracle/sml.py do, which were written from the documents alone.
 The examples are built with the toolchain, and print of the captures and of a recording with noise and damaged frames what is stored in tests/expected, and what those readings say. An installed folder is moved, holds what docs/LIBRARY.md says, and is all that the programs of that page
 are built with; a run of scripts/install that fails leaves a folder as it was.
@@ -57,16 +57,16 @@ def said(what, words, data=b""):
 # ---- the header
 
 HEADER = re.sub(r"/\*.*?\*/", "", text("include/sartrogheo.h"), flags=re.S)
-EXPORTS = "".join(map(text, sorted(glob.glob("crates/sartrogheo/src/*.rt"))))
+EXPORTS = "".join(map(text, sorted(glob.glob("crates/sartrogheo_c/src/*.rt"))))
 WORDS = re.sub("--.*", "", text("crates/words/specs/Words.antt"))
 # what a term of a definition of words puts down
-PARTS = {"spanWords": [".start", ".len"], "numberWord": [""], "valueWords": [".kind", ".width", ".number", ".bytes.start", ".bytes.len"],
-         "fieldWords 2 spanWords": [".present", ".start", ".len"], "fieldWords 2 statusWords": [".present", ".width", ".value"], "fieldWords 1 numberWord": [".present", ".value"], "fieldWords 1 signedWord": [".present", ".value"]}
+PARTS = {"span_words": [".start", ".len"], "number_word": [""], "value_words": [".kind", ".width", ".number", ".bytes.start", ".bytes.len"],
+         "field_words 2 span_words": [".present", ".start", ".len"], "field_words 2 status_words": [".present", ".width", ".value"], "field_words 1 number_word": [".present", ".value"], "field_words 1 signed_word": [".present", ".value"]}
 # the definition and its cases, whose numbers are constants; where a case's fields stand in an event
-TAGS = {("startWords", "m"): "MESSAGE_START", ("endWords", "e"): "GET_LIST_RESPONSE_END", ("entryWords", "e"): "LIST_ENTRY", ("saidWords", "noEvent"): "NO_EVENT", ("saidWords", "failed f"): "REFUSED", ("saidWords", "alone number"): "REFUSED_ALONE",
-        ("bodyWords", "openBody b"): "OPEN_RESPONSE", ("bodyWords", "closeBody b"): "CLOSE_RESPONSE", ("bodyWords", "listBody b"): "GET_LIST_RESPONSE",
-        ("valueWords", "truth b"): "VALUE_BOOL", ("valueWords", "bytes s"): "VALUE_BYTES", ("valueWords", "signed width z"): "VALUE_SIGNED", ("valueWords", "unsigned width n"): "VALUE_UNSIGNED", ("valueWords", "listTime n"): "VALUE_TIME"}
-PLACED = {("startWords", "m"): "message.", ("bodyWords", "openBody b"): "message.open.", ("bodyWords", "closeBody b"): "message.close.", ("bodyWords", "listBody b"): "message.list.", ("endWords", "e"): "end.", ("entryWords", "e"): "entry.", ("saidWords", "failed f"): "refused."}
+TAGS = {("start_words", "m"): "MESSAGE_START", ("end_words", "e"): "GET_LIST_RESPONSE_END", ("entry_words", "e"): "LIST_ENTRY", ("said_words", "no_event"): "NO_EVENT", ("said_words", "failed f"): "REFUSED", ("said_words", "alone number"): "REFUSED_ALONE",
+        ("body_words", "open_body b"): "OPEN_RESPONSE", ("body_words", "close_body b"): "CLOSE_RESPONSE", ("body_words", "list_body b"): "GET_LIST_RESPONSE",
+        ("value_words", "truth b"): "VALUE_BOOL", ("value_words", "bytes s"): "VALUE_BYTES", ("value_words", "signed width z"): "VALUE_SIGNED", ("value_words", "unsigned width n"): "VALUE_UNSIGNED", ("value_words", "list_time n"): "VALUE_TIME"}
+PLACED = {("start_words", "m"): "message.", ("body_words", "open_body b"): "message.open.", ("body_words", "close_body b"): "message.close.", ("body_words", "list_body b"): "message.list.", ("end_words", "e"): "end.", ("entry_words", "e"): "entry.", ("said_words", "failed f"): "refused."}
 # the type of a parameter, and of an answer
 TYPES = {"&mut [u8; 28]": "sgh_decoder *", "&[u8; 28]": "const sgh_decoder *", "&mut [u64; 24]": "sgh_event *", "&[u64; 24]": "const sgh_event *", "&[u8]": "const uint8_t *, size_t", "&mut [u8]": "uint8_t *, size_t",
          "&mut [u64; 50]": "sgh_message *", "&mut [u64; 9]": "sgh_item *", "&mut [u32; 4]": "sgh_row *", "&mut [u32]": "uint32_t *, size_t", "&[u32]": "const uint32_t *, size_t", "&mut usize": "size_t *", "&mut u8": "uint8_t *", "u8": "uint8_t", "usize": "size_t", "u16": "uint16_t", "u32": "uint32_t", "": "void"}
@@ -83,8 +83,8 @@ def numbers_of(path, pattern):
 
 # those of the two documents that a call gives, by number; the kinds of 11, by name
 NUMBERED = [*range(1, 21)]
-REFUSALS = {n: upper(name) for name, n in numbers_of("crates/refusals/specs/Numbers.antt", r"^(\w+)No = (\d+)$").items() if n in NUMBERED}
-KINDS = numbers_of("crates/refusals/specs/Answers.antt", r"^kindOf (\w+) = (\d)$")
+REFUSALS = {n: upper(name) for name, n in numbers_of("crates/refusals/specs/Numbers.antt", r"^(\w+)_no = (\d+)$").items() if n in NUMBERED}
+KINDS = numbers_of("crates/refusals/specs/Answers.antt", r"^kind_of (\w+) = (\d)$")
 
 
 def terms(name, case):
@@ -97,33 +97,33 @@ def terms(name, case):
 
 def row():
     """The fields of a row in C, by what `flat` puts down for one."""
-    return [f"{part}_{field}" for part, field in re.findall(r"r \.(\w+) \.(\w+) ∷", re.search(r"^flat \(r ∷ rs\) = (.*)", text("crates/whole/specs/Whole.antt"), re.M).group(1))]
+    return [f"{part}_{field}" for part, field in re.findall(r"r\.(\w+)\.(\w+) ∷", re.search(r"^flat \(r ∷ rs\) = (.*)", text("crates/whole/specs/Whole.antt"), re.M).group(1))]
 
 
 def index():
-    """The fields of an index in C, by what `indexWords` puts down where one is built, and where the message is refused."""
-    built, broken = (re.search(rf"^indexWords \({case} .*\) = (.*) ∷ \[\]$", text("crates/sartrogheo/specs/Indexes.antt"), re.M).group(1).split(" ∷ ") for case in ("indexIs", "indexBroken"))
-    return [other.replace("f .", "refused.") if one == "0" else one for one, other in zip(built, broken)]
+    """The fields of an index in C, by what `index_words` puts down where one is built, and where the message is refused."""
+    built, broken = (re.search(rf"^index_words \({case} .*\) = (.*) ∷ \[\]$", text("crates/sartrogheo/specs/Indexes.antt"), re.M).group(1).split(" ∷ ") for case in ("index_is", "index_broken"))
+    return [re.sub(r"^f\.", "refused.", other) if one == "0" else one for one, other in zip(built, broken)]
 
 
 WALKS = text("crates/sartrogheo/specs/Walks.antt")
 
 
 def item_words(case):
-    """What `itemWords` puts down for a case."""
-    return re.search(rf"^itemWords \({case}\) = (.*) ∷ \[\]$", WALKS, re.M).group(1).split(" ∷ ")
+    """What `item_words` puts down for a case."""
+    return re.search(rf"^item_words \({case}\) = (.*) ∷ \[\]$", WALKS, re.M).group(1).split(" ∷ ")
 
 
 def item():
-    """The fields of an item in C: the kind, and by `itemWords` what is a leaf's, a list's or a refusal's."""
-    columns = list(zip(*map(item_words, (r"got \(leaf ty content\) next", r"got \(listItem count\) next", "refused f"))))
-    return ["kind"] + [next(word for word in column if word != "0").replace("tyNumber ", "").replace("f .", "refused.").replace(" .", ".") for column in columns[1:]]
+    """The fields of an item in C: the kind, and by `item_words` what is a leaf's, a list's or a refusal's."""
+    columns = list(zip(*map(item_words, (r"got \(leaf ty content\) next", r"got \(list_item count\) next", "refused f"))))
+    return ["kind"] + [re.sub(r"^f\.", "refused.", next(word for word in column if word != "0").replace("ty_number ", "")) for column in columns[1:]]
 
 
 def walked():
-    """The fields of a walk in C, by `walkWords`."""
-    done, broken = (re.search(rf"^walkWords \({case} .*\) = (.*) ∷ \[\]$", WALKS, re.M).group(1).split(" ∷ ") for case in ("walkIs", "walkBroken"))
-    return [other.replace("f .", "refused.") if one == "0" else one for one, other in zip(done, broken)]
+    """The fields of a walk in C, by `walk_words`."""
+    done, broken = (re.search(rf"^walk_words \({case} .*\) = (.*) ∷ \[\]$", WALKS, re.M).group(1).split(" ∷ ") for case in ("walk_is", "walk_broken"))
+    return [re.sub(r"^f\.", "refused.", other) if one == "0" else one for one, other in zip(done, broken)]
 
 
 LOSSES = text("crates/sartrogheo/specs/Losses.antt")
@@ -131,21 +131,21 @@ LOSSES = text("crates/sartrogheo/specs/Losses.antt")
 
 def causes():
     """The bits of causes, by the names that the words of bin/smlwhy have: those that stand alone, and those of an end."""
-    alone = {name.removeprefix("Unknown").removeprefix("No") if name != "Noise" else name: int(n) for name, n in re.findall(r"^causeBits (\w+) = (\d+)$", LOSSES, re.M)}
-    end = {name: int(n) for name, n in re.findall(r"bitIf (\w+) (\d+)", re.search(r"^causeBits \(Invalid .*", LOSSES, re.M).group(0))}
+    alone = {name.removeprefix("Unknown").removeprefix("No") if name != "Noise" else name: int(n) for name, n in re.findall(r"^cause_bits (\w+) = (\d+)$", LOSSES, re.M)}
+    end = {name: int(n) for name, n in re.findall(r"bit_if (\w+) (\d+)", re.search(r"^cause_bits \(Invalid .*", LOSSES, re.M).group(0))}
     return {name.lower(): n for name, n in (alone | end).items()}
 
 
 def loss_words(name):
     """The fields of a loss or a watch in C, by what a definition puts down."""
-    return [re.sub(r"causeBits \(\w+ \.cause\)", "causes", word).split(".")[-1].strip("«» ") for word in re.search(rf"^{name} \w = (.*) ∷ \[\]$", LOSSES, re.M).group(1).split(" ∷ ")]
+    return [re.sub(r"cause_bits \w+\.cause", "causes", word).split(".")[-1].strip() for word in re.search(rf"^{name} \w = (.*) ∷ \[\]$", LOSSES, re.M).group(1).split(" ∷ ")]
 
 
 def constants():
     """The header's constants by the definitions and the code that the proofs are about."""
     held("the numbers of refusals", sorted(REFUSALS), NUMBERED)
     wanted = {name: n for n, name in REFUSALS.items()} | {upper(name): n for name, n in KINDS.items()}
-    wanted |= {upper(name): n for name, n in numbers_of("crates/sartrogheo/specs/Calls.antt", r"^(good|payload|finished|notFound|lost)No = (\d+)$").items()}
+    wanted |= {upper(name): n for name, n in numbers_of("crates/sartrogheo/specs/Calls.antt", r"^(good|payload|finished|not_found|lost)_no = (\d+)$").items()}
     wanted |= numbers_of("crates/decoder/src/lib.rt", r"const (\w+_WAY): u8 = (\d);")
     wanted |= {case: int(terms(*words)[0]) for words, case in TAGS.items()}
     wanted["LIMIT"] = numbers_of("crates/refusals/specs/Numbers.antt", r"^(limit) = (\d+)$")["limit"]
@@ -155,12 +155,12 @@ def constants():
     wanted["INDEX_WORDS"] = int(re.search(r"index: &mut \[u64; (\d+)\]", EXPORTS).group(1))
     wanted["ITEM_WORDS"] = int(re.search(r"item: &mut \[u64; (\d+)\]", EXPORTS).group(1))
     wanted["WALKED_WORDS"] = int(re.search(r"element: &mut \[u64; (\d+)\]", EXPORTS).group(1))
-    wanted |= {name: int(item_words(case)[0]) for name, case in (("END_MARK", "got endMark next"), ("LEAF", r"got \(leaf ty content\) next"), ("LIST", r"got \(listItem count\) next"))}
-    wanted |= {"TY_" + upper(name): n for name, n in numbers_of("crates/tlf/specs/Written.antt", r"^tyNumber (\w+) = (\d)$").items() if name != "ListOf"}
+    wanted |= {name: int(item_words(case)[0]) for name, case in (("END_MARK", "got end_mark next"), ("LEAF", r"got \(leaf ty content\) next"), ("LIST", r"got \(list_item count\) next"))}
+    wanted |= {"TY_" + upper(name): n for name, n in numbers_of("crates/tlf/specs/Written.antt", r"^ty_number (\w+) = (\d)$").items() if name != "ListOf"}
     wanted |= {name.upper() + "_WORDS": int(re.search(rf"\b{name}: &mut \[u64; (\d+)\]", EXPORTS).group(1)) for name in ("watch", "loss")}
     wanted |= {"CAUSE_" + name.upper(): n for name, n in causes().items()}
     wanted["ROW_NUMBERS"] = len(row())
-    wanted["EVENT_WORDS"] = int(re.search(r"^eventWords s = withZeros (\d+)", WORDS, re.M).group(1))
+    wanted["EVENT_WORDS"] = int(re.search(r"^event_words s = with_zeros (\d+)", WORDS, re.M).group(1))
     found = {name: int(n) for name, n in re.findall(r"^#define SGH_(\w+) (\d+)u *$", HEADER, re.M)}
     held("constants: names", sorted(found), sorted(wanted))
     held("constants: numbers", {name: n for name, n in found.items() if n != wanted.get(name)}, {})
@@ -169,13 +169,13 @@ def constants():
 
 
 def layout():
-    """The words of an event by `eventWords`, each with the name that it has in C."""
+    """The words of an event by `event_words`, each with the name that it has in C."""
     words = {"kind": 0, "message.body": 5}
     for (name, case), place in PLACED.items():
-        at = 6 if name == "bodyWords" else 1
+        at = 6 if name == "body_words" else 1
         for term in terms(name, case)[1:]:
-            what, field = re.fullmatch(r"(?:(.*) )?\(?\w+ \.«?(\w+)»?\)?", term).groups()
-            if what == "bodyWords":
+            what, field = re.fullmatch(r"(?:(.*) )?\w+\.(\w+)", term).groups()
+            if what == "body_words":
                 held("layout: where a body begins", at, 5)
                 continue
             for part in PARTS[what] if what else [""]:
@@ -202,17 +202,17 @@ def structs_are(folder):
     """The header's structs have exactly the fields of the words, where C puts them; the plain arrays of the exports are as long."""
     flat = re.sub(r"^    \};\n", "", re.sub(r"^    union \{\n", "", HEADER, flags=re.M), flags=re.M)
     structs = {name: [" ".join(f.split()) for f in body.split(";") if f.strip() and "[" not in f] for body, name in re.findall(r"typedef struct \{(.*?)\} (\w+);", flat, re.S)}
-    words, words_of_event = layout(), int(re.search(r"^eventWords s = withZeros (\d+)", WORDS, re.M).group(1))
+    words, words_of_event = layout(), int(re.search(r"^event_words s = with_zeros (\d+)", WORDS, re.M).group(1))
     held("layout: fields of sgh_event", sorted(leaves("sgh_event", structs)), sorted(words))
     asked = [f"_Static_assert(offsetof(sgh_event, {path}) == {8 * at} && sizeof(((sgh_event *)0)->{path}) == 8, \"{path}\");" for path, at in words.items()]
-    # the parts of `messageWords`: two events, and two numbers
+    # the parts of `message_words`: two events, and two numbers
     parts = {"start": 0, "end": words_of_event, "rows": 2 * words_of_event, "next": 2 * words_of_event + 1}
     asked += [f"_Static_assert(offsetof(sgh_message, {name}) == {8 * at}, \"{name} of a message\");" for name, at in parts.items()]
     asked += [f"_Static_assert(offsetof(sgh_row, {name}) == {4 * k} && sizeof(((sgh_row *)0)->{name}) == 4, \"{name}\");" for k, name in enumerate(row())]
     asked += [f"_Static_assert(offsetof(sgh_index, {name}) == {8 * k} && sizeof(((sgh_index *)0)->{name}) == 8, \"{name} of an index\");" for k, name in enumerate(index())]
     held("layout: fields of sgh_row and sgh_message", (list(leaves("sgh_row", structs)), structs["sgh_message"]), (row(), ["sgh_event start, end", "uint64_t rows, next"]))
     held("layout: fields of sgh_index", list(leaves("sgh_index", structs)), index())
-    for name, fields in (("sgh_item", item()), ("sgh_walked", walked()), ("sgh_loss", loss_words("lossWords")), ("sgh_watch", loss_words("watchWords"))):
+    for name, fields in (("sgh_item", item()), ("sgh_walked", walked()), ("sgh_loss", loss_words("loss_words")), ("sgh_watch", loss_words("watch_words"))):
         asked += [f"_Static_assert(offsetof({name}, {field}) == {8 * k} && sizeof((({name} *)0)->{field}) == 8, \"{field} of {name}\");" for k, field in enumerate(fields)]
         held(f"layout: fields of {name}", list(leaves(name, structs)), fields)
     sizes = {"sgh_row": "4 * SGH_ROW_NUMBERS", "sgh_index": "8 * SGH_INDEX_WORDS", "sgh_item": "8 * SGH_ITEM_WORDS", "sgh_walked": "8 * SGH_WALKED_WORDS", "sgh_watch": "8 * SGH_WATCH_WORDS", "sgh_loss": "8 * SGH_LOSS_WORDS", "sgh_message": "8 * SGH_MESSAGE_WORDS", "sgh_decoder": "SGH_DECODER_LEN", "sgh_event": "8 * SGH_EVENT_WORDS", "sgh_encoder": "8 * 4", "sgh_reader": "8 * 3", "sgh_writer": "8 * 4"}
@@ -229,7 +229,7 @@ def prototypes():
     three, four = {"reader": "sgh_reader *", "loss": "sgh_loss *"}, {"values": "uint64_t [SGH_VALUES]", "encoder": "sgh_encoder *", "writer": "sgh_writer *", "watch": "sgh_watch *"}
     named = {"&mut [u64; 3]": three, "&mut [u64; 4]": four, "&mut [u64; 5]": {"index": "sgh_index *", "element": "sgh_walked *"}}
     wanted = {}
-    for name, parameters, answer in re.findall(r'#\[no_mangle\]\s*pub extern "C" fn (\w+)\(([^)]*)\)(?: -> (\w+))?', EXPORTS):
+    for name, parameters, answer in re.findall(r'#\[unsafe\(no_mangle\)\]\s*pub extern "C" fn (\w+)\(([^)]*)\)(?: -> (\w+))?', EXPORTS):
         pairs = [p.strip().split(": ", 1) for p in parameters.replace("\n", " ").split(",") if p.strip()]
         types = [TYPES.get(t) or named.get(t, {}).get(n, "?") for n, t in pairs]
         held(f"types of {name}", [t for n, t in pairs if t not in TYPES and n not in named.get(t, {})], [])

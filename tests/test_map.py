@@ -1,5 +1,5 @@
 """docs/STATEMENTS.md is true to the files: each file that it names is there, and each definition or law of a row stands in that row's file; each name by which a row says what promises it, or where it was tried, is a function, a law, an edit or a file that is there, and an equation told behind a function names what its contract names; each refusal of document 01 and each clause of BadState has its row; README names every crate; the forms of docs/DECISIONS.md stand at their lines; docs/house.svg is the house of crates.txt; the layout is rt fmt's."""
-import glob, os, re, subprocess, sys
+import glob, os, re, shutil, subprocess, sys
 
 os.chdir(os.path.join(os.path.dirname(os.path.abspath(__file__)), ".."))
 bad, rows = [], 0
@@ -88,7 +88,7 @@ bad += [f"docs/STATEMENTS.md: the refusals have {refusals.count(str(n))} rows of
 bad += [f"docs/STATEMENTS.md: BadState has no row of its clause {c}" for c in BAD_STATE.replace("\n", " ").split("; ") if c not in clauses]
 readme = open("README.md", encoding="utf-8").read()
 for line in open("crates.txt", encoding="utf-8"):
-    name = line.split("#")[0].split(":")[0].strip()
+    name = " ".join(line.split("#")[0].split(":")[0].split()[:1])  # a static library has a word behind its name
     if name and f"| `{name}` |" not in readme:
         bad.append(f"README.md's map lacks {name}")
 for path in ["NOTICE", "docs/DECISIONS.md", "docs/DIFFERENCES.md", "docs/WRONG-READINGS.md"]:
@@ -103,9 +103,11 @@ if not forms:
 house = subprocess.run([sys.executable, "-B", "docs/house.py", "--check"], capture_output=True, text=True)
 if house.returncode != 0:
     bad.append(house.stderr.strip()[-400:])
-fmt = subprocess.run(["rt", "fmt", "--check"], capture_output=True, text=True)
+kit = os.environ.get("RATTLE_HOME") or os.path.dirname(os.path.dirname(os.path.realpath(shutil.which("rt"))))
+laid = [path for part in ("src/**/*.rt", "specs/**/*.antt", "proofs/**/*.antt") for path in glob.glob("crates/*/" + part, recursive=True)]
+fmt = subprocess.run([os.path.join(kit, "bin/rattle"), "fmt", "--check", *sorted(laid)], capture_output=True, text=True)
 if fmt.returncode != 0:
-    bad.append("rt fmt --check: " + (fmt.stdout + fmt.stderr).strip()[-400:])
+    bad.append("rattle fmt --check: " + (fmt.stdout + fmt.stderr).strip()[-400:])
 print("\n".join(bad))
 print(f"{rows} rows of the map read, {promised} names in its tables, {len(bad)} faults")
 sys.exit(1 if bad or not rows or not promised else 0)

@@ -15,8 +15,9 @@ from places import length_field
 from programs import COMMANDS, LIBRARY, MAKING_READY, VECTORS
 
 SEED = 20250711
-if subprocess.run(["rt", "check", "smlcat", "replay_parts"], capture_output=True).returncode != 0:
-    sys.exit("test_robust: smlcat or replay_parts is not proved")
+for name in "smlcat", "replay_parts":
+    if subprocess.run(["rt", "check"], cwd=f"crates/{name}", capture_output=True).returncode != 0:
+        sys.exit(f"test_robust: {name} is not proved")
 faults, count = [], 0
 RUN = {"bin/replay": ["bin/replay"], LIBRARY: clink.replay()}
 

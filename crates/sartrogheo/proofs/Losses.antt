@@ -1,14 +1,14 @@
 -- Lost bytes in plain numbers, and the decoder that a watch leaves: packing accepts it, since it accepted the one before.
 use mathlib.Core.Path.{◌≡◌, refl, sym, ap, ◌∙◌}
-use mathlib.Core.Bool.{Bool, true, false, cond, ◌||◌}
+use mathlib.Core.Bool.{false, ◌||◌}
 use mathlib.Core.List.{List, [], ◌∷◌}
-use mathlib.Core.Option.{Option, some, none}
+use mathlib.Core.Option.{some, none}
 use Prim.Native.Nat.{ℕ, suc, ◌≤◌, ◌<◌}
 use native.Mathlib.Omega.{arith}
 use lib.ListN.{length, get_or}
 use lib.Dec.{ltb}
 use borrow.Author.Tests.{lt-ltb, le-ltb}
-use Rattle.decoder.specs.Record.{Left, setup, bad_decoder, wrong_buffer, push_record, finalize_record}
+use Rattle.decoder.specs.Record.{bad_decoder, wrong_buffer, push_record}
 use Rattle.decoder.specs.declared.Decoder.{Decoder}
 use Rattle.decoder.specs.declared.Setup.{Setup}
 use Rattle.decoder.proofs.Split.{cases}
@@ -21,7 +21,7 @@ use Rattle.packed.specs.declared.Unpacking.{Unpacking}
 use Rattle.packed.specs.declared.Unpacking.TheVariants as U
 use Rattle.packed.proofs.Held.{pack_good, holds_record, Stays}
 use Rattle.losses.specs.Loss.{loss_told, loss_after, next_loss}
-use Rattle.losses.specs.Watch.{look, watched, moved_on, seen_as, after_watch, WatchAfter, watches_from, bad_watch, watch_slice, EndAfter, after_end, watch_end}
+use Rattle.losses.specs.Watch.{look, watched, moved_on, seen_as, after_watch, watches_from, bad_watch, watch_slice, after_end, watch_end}
 use Rattle.losses.specs.declared.Told.{Told}
 use Rattle.losses.specs.declared.Watch.{Watch}
 use Rattle.losses.specs.declared.Watched.{Watched}

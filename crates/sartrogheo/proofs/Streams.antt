@@ -2,7 +2,7 @@
 use mathlib.Core.Path.{◌≡◌, refl, sym, ap, ◌∙◌}
 use mathlib.Core.Bool.{true, false}
 use mathlib.Core.List.{List, [], ◌∷◌}
-use Prim.Native.Nat.{ℕ, zero, suc, ◌+◌, ◌<◌, ◌≤◌}
+use Prim.Native.Nat.{ℕ, zero, suc, ◌+◌, ◌≤◌}
 use native.Mathlib.Omega.{arith}
 use lib.IntN.{ℤ, pos, negsuc, nat_abs, ◌-ℤ◌}
 use lib.Signed.{lt_z, non_neg}
@@ -10,11 +10,10 @@ use lib.ListN.{get_or}
 use lib.Dec.{T}
 use mir.Syntax.{w8, w64}
 use mir.Val.{Fits, SFits, to_z, of_z}
-use borrow.Author.Tests.{lt-ltb, le-ltb, ltb-true, ltb-false}
+use borrow.Author.Tests.{ltb-true, ltb-false}
 use Rattle.encoder.specs.Encoder.{step_of, next_step}
 use Rattle.encoder.specs.declared.Encoder.{Encoder}
-use Rattle.encoder.specs.declared.EncoderState.{EncoderState}
-use Rattle.encoder.specs.declared.EncoderState.TheVariants.{Init, LookingForEscape, HandlingEscape, End}
+use Rattle.encoder.specs.declared.EncoderState.TheVariants.{Init, End}
 use Rattle.encoder.specs.declared.Given.{Given}
 use Rattle.encoder.specs.declared.Item.TheVariants as I
 use Rattle.encoder.proofs.Ends.{end_read_back}
@@ -23,7 +22,7 @@ use Rattle.streaming.specs.Next.{next_at}
 use Rattle.streaming.specs.declared.Next.{Next}
 use Rattle.words.specs.Words.{event_words}
 use Rattle.sartrogheo.specs.Calls.{reply}
-use Rattle.sartrogheo.specs.Streams.{end_count, encoder_words, state_of_kind, encoder_of, encoder_in, sgh_encoder_next, reader_no, sgh_next_event}
+use Rattle.sartrogheo.specs.Streams.{end_count, encoder_words, state_of_kind, encoder_in, sgh_encoder_next, reader_no, sgh_next_event}
 
 -- ---- End's count
 

@@ -8,16 +8,15 @@ use lib.ListN.{length, take, length-take}
 use lib.Dec.{ltb}
 use lib.Seq.{sets}
 use borrow.Author.Tests.{lt-ltb, le-ltb, ltb-true, ltb-false}
-use Rattle.encoder.specs.Encode.{encode_answer, AfterEncode, after_encode, encode_to}
+use Rattle.encoder.specs.Encode.{encode_answer, after_encode, encode_to}
 use Rattle.encoder.specs.declared.Encoded.{Encoded}
 use Rattle.decoder.specs.Push.{in_way}
-use Rattle.decoder.specs.Record.{DecoderAnswer, answer_of, answer_asked, new_record}
+use Rattle.decoder.specs.Record.{answer_of, answer_asked, new_record}
 use Rattle.decoder.specs.declared.Asked.{Asked}
 use Rattle.decoder.specs.declared.Decoder.{Decoder}
 use Rattle.decoder.specs.declared.Event.{Event}
 use Rattle.decoder.specs.declared.Event.TheVariants.{Nothing, Payload, DiscardedBytes, InvalidEsc, OutOfMemory, InvalidMessage, BadState, WrongBuffer}
 use Rattle.decoder.proofs.Split.{cases}
-use Rattle.in_place.specs.declared.Taken.{Taken}
 use Rattle.packed.specs.Layout.{number_at_claim}
 use Rattle.packed.specs.Packed.{filled, pack_into, kept_push, push_packed, tried, plain_packed, kept_slice, slice_packed, kept_event, finalize_packed, kept_reset, reset_packed, payload_packed, ask_packed}
 use Rattle.packed.specs.declared.Packing.{Packing}

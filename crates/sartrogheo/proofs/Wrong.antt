@@ -8,7 +8,7 @@ use lib.ListN.{replicate, get_or}
 use Rattle.refusals.specs.Numbers.{bad_state_no}
 use Rattle.refusals.specs.Read.{Read, got, refused, then, guard, byte_at}
 use Rattle.refusals.specs.declared.Span.{Span}
-use Rattle.crc_x25.specs.Crc.{start, reflect, polynomial, bit_step, bit_steps, byte_step, register, final_xor, crc_of}
+use Rattle.crc_x25.specs.Crc.{reflect, polynomial, bit_step, bit_steps, byte_step, register, final_xor, crc_of}
 use Rattle.crc_x25.proofs.Laws.{check_value}
 use Rattle.frame.specs.Frame.{same, escaped, closed, frame_of}
 use Rattle.encoder.specs.Encode.{encode_to}

@@ -1,0 +1,20 @@
+use mathlib.Core.Path.{ap}
+use mathlib.Core.List.{List, ◌∷◌}
+use Prim.Native.Nat.{ℕ}
+use Rattle.sartrogheo.proofs.Indexes.{refusal_words}
+use Rattle.sartrogheo.proofs.index_words.Goals as goal
+
+pub returns-in-Is : goal.returns-in-Is
+returns-in-Is c = rw c.in-Is.is
+
+pub returns-in-Refused : goal.returns-in-Refused
+returns-in-Refused c = rw c.in-Refused.is (ap (λ (l : List ℕ). 0 ∷ 0 ∷ l) (refusal_words _ _ c.event_words-w.ensures))
+
+pub returns-in-InputTooLong : goal.returns-in-InputTooLong
+returns-in-InputTooLong c = rw c.in-InputTooLong.is
+
+pub returns-in-BadState : goal.returns-in-BadState
+returns-in-BadState c = rw c.in-BadState.is
+
+pub returns-in-TooManyEntries : goal.returns-in-TooManyEntries
+returns-in-TooManyEntries c = rw c.in-TooManyEntries.is
