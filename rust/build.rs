@@ -39,7 +39,7 @@ fn found() -> PathBuf {
     let to_do = "install it by scripts/install, or set SARTROGHEO_LIB_DIR";
     match beside() {
         Some(folder) if folder.join(ARCHIVE).is_file() => folder,
-        Some(folder) => refuse(&format!("no {ARCHIVE} in {}: build it by `rt staticlib sartrogheo`, {to_do}", folder.display())),
+        Some(folder) => refuse(&format!("no {ARCHIVE} in {}: build it by scripts/native, {to_do}", folder.display())),
         None => refuse(&format!("no {ARCHIVE} belongs to a crate at this place: {to_do}")),
     }
 }

@@ -6,15 +6,15 @@ The toolchain's own compiler, linker and C library do it, so that nothing else i
 the words have the emulator where one is needed. The first run proves and builds the library. Status: 1 no proof, or not compiled; 2 usage.
 Try: $(scripts/clink.py examples/collector.c target/collector) captures/two-byte-length.bin
 """
-import functools, glob, os, shutil, subprocess, sys
+import functools, glob, hashlib, os, shutil, subprocess, sys
 
 sys.dont_write_bytecode = True
 import programs
 
 ROOT = programs.ROOT
 LIBRARY = "sartrogheo"
-# what a run of rt does, and how long that takes on two cores that have nothing else to do
-DOING, SECONDS = {"check": "proving", "staticlib": "compiling"}, {"check": 240, "staticlib": 40}
+# how long proving and compiling the library takes on four cores that have nothing else to do
+SECONDS = 900
 REPLAY, SMLMETER, SMLWALK, SMLWHY = (os.path.join(ROOT, "target/library", name) for name in ("replay", "smlmeter", "smlwalk", "smlwhy"))
 # C11 as any compiler takes it; the toolchain's has no headers of its own, and must not find the machine's
 PLAIN = ["-Wall", "-Wextra", "-Werror", "-O2", "-nostdinc", "-isystem", os.path.join(ROOT, "scripts/headers")]
@@ -22,41 +22,50 @@ C11 = ["-std=c11", *PLAIN]
 INCLUDE = ["-I", os.path.join(ROOT, "include")]
 
 
-def tools(*path):
-    """A file of the toolchain, whose folder lib/ stands before the program in the words that run one."""
-    return os.path.join(os.path.dirname(programs.program("")[-2]), *path)
+def sources(name):
+    """A checksum of what a crate is proved of: its own files, those of the crates that it stands on, and the toolchain."""
+    lines = {}
+    for line in open(os.path.join(ROOT, "crates.txt"), encoding="utf-8"):
+        head, colon, below = line.split("#")[0].partition(":")
+        if colon:
+            lines[head.split()[0]] = head.split(), below.split()
+    found, asked = {}, [name]
+    while asked:
+        crate = asked.pop()
+        if crate in lines and crate not in found:
+            found[crate] = lines[crate]
+            asked += lines[crate][1]
+    kit = os.path.join(programs.kit(), "KIT-ID")
+    paths = sorted(path for crate in found for part in ("src", "specs", "proofs") for path in glob.glob(os.path.join(ROOT, "crates", crate, part, "**/*.*"), recursive=True) if os.path.isfile(path))
+    sum = hashlib.sha256(repr(sorted(found.items())).encode())
+    for path in [kit] * os.path.exists(kit) + paths:
+        content = open(path, "rb").read()
+        sum.update(f"{os.path.relpath(path, ROOT)} {len(content)}\n".encode() + content)
+    return sum.hexdigest()
 
 
-def rt(command, name):
-    """A run of rt, check or staticlib, which both may have to prove; its words are shown where it fails."""
-    try:
-        run = subprocess.Popen(["rt", command, name], cwd=ROOT, stdin=subprocess.DEVNULL, stdout=subprocess.PIPE, stderr=subprocess.STDOUT)
-    except FileNotFoundError:
-        programs.refuse("rt, the command of the Rattle toolchain, is not at hand")
-    try:
-        said = run.communicate(timeout=5)[0]
-    except subprocess.TimeoutExpired:
-        print(f"{DOING[command]} {name}, once; about {SECONDS[command]} seconds", file=sys.stderr, flush=True)
-        said = run.communicate()[0]
-    if run.returncode != 0:
-        print(b"\n".join(said.split(b"\n")[-20:]).decode(errors="replace"), file=sys.stderr)
-        sys.exit(1)
-
-
-def fresh(path, proof):
-    """Whether an archive is there and not older than its crate's last proof."""
-    return os.path.exists(path) and os.path.exists(proof) and os.path.getmtime(path) >= os.path.getmtime(proof)
+def fresh(path, proof, wanted=None):
+    """Whether an archive is there and not older than its crate's last proof, and where a checksum is wanted that was a proof of these sources."""
+    there = os.path.exists(path) and os.path.exists(proof) and os.path.getmtime(path) >= os.path.getmtime(proof)
+    return there and wanted in (None, open(proof, encoding="utf-8").read())
 
 
 @functools.lru_cache(maxsize=None)
 def archive(name=LIBRARY):
-    """The path of a crate's archive, which is proved and written unless it is younger than the crate's last proof; without rt only such a one is taken. It is asked for once a run."""
+    """The path of the archive that the exports of a crate are in, NAME_c, which is proved and built unless that was done of the same sources; without rt only an archive is taken that isn't older than its last proof. It is asked for once a run."""
     lock = programs.turn()
-    path, proof = os.path.join(ROOT, "target/staticlib", f"lib{name}.a"), os.path.join(ROOT, "target/stamp", name)
+    path, proof, exports = os.path.join(ROOT, "target/staticlib", f"lib{name}.a"), os.path.join(ROOT, "target/stamp", name), name + "_c"
     if shutil.which("rt"):
-        rt("check", name)
-        if not fresh(path, proof):
-            rt("staticlib", name)
+        wanted = sources(exports)
+        if not fresh(path, proof, wanted):
+            programs.rt("lib", exports, "proving", SECONDS)
+            for made in path, proof:
+                os.makedirs(os.path.dirname(made), exist_ok=True)
+            with open(proof, "w", encoding="utf-8") as f:
+                f.write(wanted)
+            # under another name first: who reads the archive meanwhile has a whole one
+            shutil.copyfile(os.path.join(ROOT, "crates", exports, "out", f"lib{exports}.a"), path + ".new")
+            os.replace(path + ".new", path)
     elif fresh(path, proof):
         print(f"rt is not at hand: {path} is taken, of the last proof; whether the sources have changed since is not looked at", file=sys.stderr, flush=True)
     else:
@@ -74,15 +83,15 @@ def ran(*words):
 
 def compiled(source, out, flags):
     """An object file for x86-64, which may be linked anywhere."""
-    ran(tools("bin/clang"), "--target=x86_64-unknown-linux-gnu", "-fPIE", *flags, "-c", source, "-o", out)
+    ran(programs.tools("bin/clang"), "--target=x86_64-unknown-linux-gnu", "-fPIE", *flags, "-c", source, "-o", out)
     return out
 
 
 def linked(parts, out):
     """A program of object files, archives and the toolchain's C library; the words that run it."""
     begin, end = ("Scrt1.o", "crti.o", "crtbeginS.o"), ("libc.so.6", "libc_nonshared.a", "libgcc.a", "crtendS.o", "crtn.o")
-    lib = lambda names: [tools("lib", n) for n in names]
-    ran(tools("bin/ld.lld"), "-pie", "-dynamic-linker", tools("lib/ld-linux-x86-64.so.2"), *lib(begin), *parts, *lib(end), "-o", out)
+    lib = lambda names: [programs.tools("lib", n) for n in names]
+    ran(programs.tools("bin/ld.lld"), "-pie", "-dynamic-linker", programs.tools("lib/ld-linux-x86-64.so.2"), *lib(begin), *parts, *lib(end), "-o", out)
     return programs.program(os.path.abspath(out))
 
 

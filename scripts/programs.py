@@ -1,5 +1,5 @@
 """What the commands of bin/ share: a program is proved and built where that hasn't been done, and run as `rt` runs it. Its input is standard input, or a file."""
-import fcntl, os, platform, shutil, subprocess, sys, time
+import fcntl, os, shutil, subprocess, sys, time
 
 ROOT = os.path.dirname(os.path.dirname(os.path.abspath(__file__)))
 # who answers a command of bin/replay, by its first word: the library's calls, through replay/replay.c, or a program in Rattle
@@ -28,37 +28,52 @@ def turn():
             time.sleep(0.05)
 
 
-def build(names, seconds):
-    """Proves and builds what isn't. Where nothing is left to do that takes less than a second, and nothing is said."""
-    lock = turn()
-    left = [name for name in names if not os.path.exists(os.path.join(ROOT, "target/bin", name))]
-    try:
-        check = subprocess.Popen(["rt", "check", *names], cwd=ROOT, stdin=subprocess.DEVNULL, stdout=subprocess.PIPE, stderr=subprocess.STDOUT)
-    except FileNotFoundError:
+def kit():
+    """The toolchain's folder, which rt stands in."""
+    found = shutil.which("rt")
+    if not found:
         refuse("rt, the command of the Rattle toolchain, is not at hand")
+    return os.path.dirname(os.path.dirname(os.path.realpath(found)))
+
+
+def tools(*path):
+    """A file of the toolchain's compiler, linker and C library."""
+    return os.path.join(kit(), "toolchain", *path)
+
+
+def rt(command, name, doing, seconds, at_once=False):
+    """A run of rt in a crate's folder, which proves what it works on where that hasn't been done; its words are shown where it fails."""
+    if not shutil.which("rt"):
+        refuse("rt, the command of the Rattle toolchain, is not at hand")
+    run = subprocess.Popen(["rt", command], cwd=os.path.join(ROOT, "crates", name), stdin=subprocess.DEVNULL, stdout=subprocess.PIPE, stderr=subprocess.STDOUT)
     try:
-        said = check.communicate(timeout=0 if left else 5)[0]
+        said = run.communicate(timeout=0 if at_once else 5)[0]
     except subprocess.TimeoutExpired:
-        print(f"proving {' and '.join(left or names)}, once; about {seconds} seconds", file=sys.stderr, flush=True)
-        said = check.communicate()[0]
-    if check.returncode != 0:
+        print(f"{doing} {name}, once; about {seconds} seconds where nothing of it was proved before", file=sys.stderr, flush=True)
+        said = run.communicate()[0]
+    if run.returncode != 0:
         print(b"\n".join(said.split(b"\n")[-20:]).decode(errors="replace"), file=sys.stderr)
         sys.exit(1)
-    for name in left:
-        if not os.path.exists(os.path.join(ROOT, "target/bin", name)):
-            refuse(f"target/bin/{name} is gone, though it is proved: remove target/ and start again")
+
+
+def built(name):
+    """Where rt leaves a program."""
+    return os.path.join(ROOT, "crates", name, "out", name)
+
+
+def build(names, seconds):
+    """Proves and builds what isn't. Where nothing is left to do that takes less than a second, and nothing is said. `rt run` runs the program too, on an empty input."""
+    lock = turn()
+    for name in names:
+        rt("run", name, "proving", seconds, not os.path.exists(built(name)))
     os.close(lock)
 
 
 def program(name):
-    """The words that run a built program: under the toolchain's loader, and its emulator where it has one, since programs are x86-64."""
-    if not os.environ.get("RATTLE_HOME") and not shutil.which("rt"):
-        refuse("rt, the command of the Rattle toolchain, is not at hand")
-    kit = os.environ.get("RATTLE_HOME") or os.path.dirname(os.path.dirname(os.path.realpath(shutil.which("rt"))))
-    tools = os.path.join(kit, "on", platform.machine(), "toolchain")
-    emulator = os.path.join(tools, "bin/qemu-x86_64")
-    loader = [os.path.join(tools, "lib/ld-linux-x86-64.so.2"), "--library-path", os.path.join(tools, "lib")]
-    return [emulator] * os.access(emulator, os.X_OK) + loader + [os.path.join(ROOT, "target/bin", name)]
+    """The words that run a built program, one of a crate's or one of a path: under the toolchain's loader, and its emulator where it has one, since programs are x86-64."""
+    emulator = tools("bin/qemu-x86_64")
+    loader = [tools("lib/ld-linux-x86-64.so.2"), "--library-path", tools("lib")]
+    return [emulator] * os.access(emulator, os.X_OK) + loader + [name if os.path.isabs(name) else built(name)]
 
 
 def refuse(said):

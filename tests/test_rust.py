@@ -1,6 +1,6 @@
 """The Rust crate (rust/) over the library: its own tests and the examples in its comments; what it says beside the unchanged crate sml-rs on the same bytes; the collector's output, which is that of the C one; no call that panics in what is compiled; a build by cargo; declarations as in the header.
 
-All else is built by rustc alone. Linked is what scripts/native gives: on x86-64 the library, on aarch64 the same proved module compiled for that. Where rustc or an archive is not at hand the test is skipped (status 77), and where sml-rs or cargo is not, the comparison or that build.
+All else is built by rustc alone. Linked is what scripts/native gives, on x86-64 the library. Where rustc or an archive is not at hand the test is skipped (status 77), and where sml-rs or cargo is not, the comparison or that build.
 """
 import glob, os, platform, random, re, shutil, subprocess, sys
 

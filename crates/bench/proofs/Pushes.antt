@@ -17,7 +17,7 @@ use Rattle.decoder.specs.declared.Event.TheVariants.{Nothing, Payload, Discarded
 use Rattle.decoder_slice.specs.Slice.{Took, after_slice, slice_record}
 use Rattle.decoder_slice.specs.declared.Sliced.{Sliced}
 use Rattle.decoder_slice.proofs.Taken.{taken_le, none_took, none_taken, goes_on_claim}
-use Rattle.bench.specs.Bench.{CountedIn, counted, one, payloads_from}
+use Rattle.bench.specs.Bench.{counted, one, payloads_from}
 
 -- an event is a payload whatever its bytes
 same_one : (e : Event) (bytes : List ℕ) → one (answer_of e []) ≡ one (answer_of e bytes)

@@ -1,12 +1,12 @@
 -- The bytes that an Encoder still gives, and their sum.
 use mathlib.Core.Path.{◌≡◌, refl, ap, sym, ◌∙◌, subst}
-use mathlib.Core.Bool.{true, false, cond}
+use mathlib.Core.Bool.{true, false}
 use mathlib.Core.List.{List, [], ◌∷◌, ◌++◌, map}
-use Prim.Native.Nat.{ℕ, zero, suc, ◌+◌, ◌-◌, ◌*◌, ◌<◌, ◌≤◌}
+use Prim.Native.Nat.{ℕ, suc, ◌+◌, ◌<◌, ◌≤◌}
 use native.Mathlib.Omega.{arith}
 use native.Mathlib.Nat.{zero-add}
 use native.Mathlib.Numerals.{add-one}
-use lib.ListN.{length, drop, get_or, replicate, drop_of_length-le}
+use lib.ListN.{length, drop, get_or, drop_of_length-le}
 use lib.Seq.{drop-cons}
 use borrow.Author.Tests.{lt-leb, le-leb}
 use Rattle.frame.specs.Frame.{frame_of}
@@ -15,10 +15,9 @@ use Rattle.encoder.specs.declared.Encoder.{Encoder}
 use Rattle.encoder.specs.declared.Given.{Given}
 use Rattle.refusals.specs.Numbers.{limit}
 use Rattle.refusals.proofs.Places.{from_place}
-use Rattle.encoder.specs.Encoder.{NextAnswer, byte, finished, no_byte, Step, step_of, fresh_encoder, next_step, next_answer}
+use Rattle.encoder.specs.Encoder.{NextAnswer, byte, finished, Step, step_of, fresh_encoder, next_step, next_answer}
 use Rattle.encoder.specs.Calls.{calls}
 use Rattle.encoder.proofs.Calls.{gives_the_frame}
-use Rattle.encoder.proofs.Encodes.{frame_short}
 use Rattle.decoder.proofs.Split.{split}
 use Rattle.bench.specs.Bench.{sum, streamed}
 use Rattle.bench.specs.Given.{is_byte, given}

@@ -1,11 +1,11 @@
 -- An entry written again and again: what is still to be written makes the whole.
-use mathlib.Core.Path.{◌≡◌, refl, sym, ap, ◌∙◌}
+use mathlib.Core.Path.{◌≡◌, refl}
 use mathlib.Core.List.{List}
-use Prim.Native.Nat.{ℕ, zero, suc, ◌+◌, ◌-◌, ◌≤◌, ◌<◌}
+use Prim.Native.Nat.{ℕ, suc, ◌+◌, ◌-◌, ◌≤◌, ◌<◌}
 use native.Mathlib.Omega.{arith}
 use Rattle.refusals.specs.declared.Span.{Span}
 use Rattle.common.specs.Fields.{ListEntry}
-use Rattle.writer.specs.Calls.{to, not_written, AfterWrite, entry_to}
+use Rattle.writer.specs.Calls.{to, not_written, entry_to}
 use Rattle.writer.specs.Answers.{after_write}
 use Rattle.writer.specs.declared.ListWriter.{ListWriter}
 use Rattle.bench.specs.Bench.{CountedIn, counted, written_times}

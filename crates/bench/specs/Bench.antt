@@ -88,9 +88,9 @@ is_event (alone n) = false
 
 -- the events of k calls, up to the first that brings none
 unfoldable pub events_from : ℕ → List ℕ → ℕ → ℕ → ℕ → ℕ
-events_from zero input at start pending = 0
-events_from (suc k) input at start pending =
-    let a : N.ReaderAfter = next_at input at start pending in
+events_from zero input at begun pending = 0
+events_from (suc k) input at begun pending =
+    let a : N.ReaderAfter = next_at input at begun pending in
     cond (is_event a.answer) (suc (events_from k input a.place a.start a.pending)) 0
 
 -- from a new reader; an event takes a byte at least, so there are no more of them than bytes

@@ -1,7 +1,7 @@
 -- Slices, cut anyhow, say what single pushes say.
 use mathlib.Core.Path.{◌≡◌, refl, ap, sym, ◌∙◌}
 use mathlib.Core.List.{List, [], ◌∷◌, ◌++◌, append_assoc, map, map-append}
-use Prim.Native.Nat.{ℕ, zero, suc, ◌+◌, ◌-◌, ◌≤◌, ◌<◌}
+use Prim.Native.Nat.{ℕ, zero, suc, ◌-◌, ◌≤◌, ◌<◌}
 use native.Mathlib.Omega.{arith}
 use native.Mathlib.Nat.{sub-zero}
 use lib.ListN.{length, take, drop, length-drop, length-take, take-append-drop}
@@ -17,7 +17,7 @@ use Rattle.decoder_slice.specs.Slice.{Took, says_nothing, pushes_from, slice_rec
 use Rattle.decoder_slice.proofs.Taken.{slice_pushes, taken_le, is_nothing}
 use Rattle.marks.specs.Decoders.{Machine, LeftBehind, ours, answers, left_behind}
 use Rattle.marks.specs.Chunks.{our_slicer, each_byte, by_slices, SlicesSay, Chunks}
-use Rattle.marks.proofs.Hides.{kept_is}
+use Rattle.marks.proofs.HidesStart.{kept_is}
 
 abbrev heard_of : Decoder → List ℕ → List ℕ → List DecoderAnswer
 heard_of d m bytes = answers ours d m (map push bytes)

@@ -13,7 +13,7 @@ use Rattle.refusals.specs.declared.Span.{Span}
 use Rattle.common.specs.Fields.{entry_at}
 use Rattle.message.specs.Messages.{MessageStart, ListStart, Body, open_body, close_body, list_body, start_at, list_end_at}
 use Rattle.trailer.specs.Trailer.{trailer_at}
-use Rattle.streaming.specs.Next.{MessageEvent, start_event, entry_event, end_event, Said, event, no_event, failed, alone}
+use Rattle.streaming.specs.Next.{next_at, MessageEvent, start_event, entry_event, end_event, Said, event, no_event, failed, alone}
 use Rattle.events.specs.Events.{Answers, nth, answer, says_first, at_start_claim, inside, entries_from, content_from, messages_from, events_of}
 use Rattle.events.specs.Calls.{call}
 use Rattle.events.proofs.Calls.{calls_from, calls_are_events}
@@ -28,13 +28,17 @@ use Rattle.marks.specs.Events.{Reader, our_reader, our_parser, says_at, hears, R
 reader_calls : (s : List ℕ) (at start pending k : ℕ) → says_at our_reader s (record { place = at; start = start; pending = pending }) k ≡ call k s at start pending
 unfolding says_at call
 reader_calls s at start pending zero = refl
-reader_calls s at start pending (suc k) = reader_calls s _ _ _ k
+reader_calls s at start pending (suc k) =
+    let n = next_at s at start pending in
+    reader_calls s n.place n.start n.pending k
 
 parser_calls : (i : Bor (List ℕ)) (at start pending k : ℕ)
     → says_at our_parser i (record { input = i; place = at; start = start; pending = pending }) k ≡ call k i.now at start pending
 unfolding says_at call
 parser_calls i at start pending zero = refl
-parser_calls i at start pending (suc k) = parser_calls i _ _ _ k
+parser_calls i at start pending (suc k) =
+    let n = next_at i.now at start pending in
+    parser_calls i n.place n.start n.pending k
 
 pub reader_gives : ReaderGives our_reader
 reader_gives s k = reader_calls s 0 0 0 k ∙ calls_are_events s k

@@ -1,35 +1,31 @@
 -- What a caller of the library hears of a whole message is what ours says, and each entry is heard again at its row.
 use mathlib.Core.Path.{◌≡◌, refl, sym, ap, ◌∙◌, subst}
-use mathlib.Core.Bool.{Bool, true, false, cond}
 use mathlib.Core.List.{List, [], ◌∷◌, ◌++◌}
 use mathlib.Core.Option.{Option, some, none}
-use Prim.Native.Nat.{ℕ, zero, suc, ◌+◌, ◌≤◌, ◌<◌}
+use Prim.Native.Nat.{ℕ, ◌+◌, ◌≤◌}
 use native.Mathlib.Omega.{arith}
-use lib.ListN.{length, take, drop, get_or, length-append}
+use lib.ListN.{length, take, drop, get_or}
 use lib.Seq.{take_at, drop_at, get_or-append-add}
-use Rattle.refusals.specs.Numbers.{bad_state_no, input_too_long_no, too_many_entries_no, limit}
-use Rattle.refusals.specs.Read.{Read, got, refused, Refusal}
+use Rattle.refusals.specs.Numbers.{limit}
+use Rattle.refusals.specs.Read.{got, Refusal}
 use Rattle.refusals.specs.declared.Span.{Span}
 use Rattle.common.specs.Fields.{ListEntry, entry_at}
 use Rattle.message.specs.Messages.{MessageStart, ListEnd}
-use Rattle.streaming.specs.Next.{start_event, entry_event, end_event, Said, event, no_event, failed, alone, ReaderAfter, onward, entry_next, step_at, next_at}
-use Rattle.events.specs.Message.{Message}
+use Rattle.streaming.specs.Next.{start_event, entry_event, Said, event, no_event, failed, alone, onward, entry_next, step_at, next_at}
 use Rattle.events.proofs.Calls.{SoundReader, sound_next}
 use Rattle.words.specs.Words.{with_zeros, event_words}
 use Rattle.words.specs.Back.{word_at}
 use Rattle.words.proofs.Laws.{event_words_length}
 use Rattle.whole.specs.Whole.{EntryRow, WholeSaid, whole_is, broken, refused_alone, AfterWhole, read_to, Fair, rows_of}
-use Rattle.whole.specs.Answers.{after_whole}
 use Rattle.whole.proofs.Outcomes.{WholeOutcome, too_long, place_beyond, broken_at, table_full, taken_whole, whole_outcome}
-use Rattle.sartrogheo.specs.Calls.{good_no, Reply, reply}
 use Rattle.sartrogheo.specs.Streams.{reader_no}
 use Rattle.sartrogheo.specs.Wholes.{start_said, list_end_said, end_said, rows_said, next_said, message_words, sgh_read_message}
-use Rattle.one_call.specs.Readers.{WholeReader, our_whole_reader, RunsTo, RowIs, RowsAre, ReadAs, GoodWholeReader}
+use Rattle.one_call.specs.Readers.{WholeReader, our_whole_reader, RowsAre, GoodWholeReader}
 use Rattle.one_call.proofs.Runs.{failed_or}
 use Rattle.one_call.proofs.Readers.{ours_good}
-use Rattle.marks.specs.Events.{our_reader, says_at}
-use Rattle.marks.specs.Library.{Library, our_library, lent_at, heard_event, reader_by, HearsReader, whole_heard, end_among, end_heard, whole_reader_by, HearsWhole, EntriesHeard, RowsHeard}
-use Rattle.marks.proofs.HeardEvent.{IsRefusal, Tellable, said_words_back, end_back, heard_is, stands_refuses}
+use Rattle.marks.specs.Events.{says_at}
+use Rattle.marks.specs.Library.{Library, our_library, lent_at, heard_event, HearsReader, whole_heard, end_among, end_heard, whole_reader_by, HearsWhole, EntriesHeard, RowsHeard}
+use Rattle.marks.proofs.HeardEvent.{IsRefusal, said_words_back, end_back, heard_is, stands_refuses}
 
 -- ---- the words
 

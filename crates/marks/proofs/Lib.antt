@@ -2,7 +2,7 @@ pub mod RoundTrip
 pub mod Searched
 pub mod Recovery
 pub mod Soundness
-pub mod Hides
+pub mod HidesStart
 pub mod Chunks
 pub mod Less
 pub mod Completeness

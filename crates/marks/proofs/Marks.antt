@@ -30,7 +30,7 @@ use Rattle.marks.specs.Marks.{Marks}
 use Rattle.marks.proofs.Decided.{views, decided}
 use Rattle.marks.proofs.Soundness.{soundness}
 use Rattle.marks.proofs.Completeness.{completeness, new_searches, reached_searches}
-use Rattle.marks.proofs.Hides.{hides}
+use Rattle.marks.proofs.HidesStart.{hides}
 use Rattle.marks.proofs.Chunks.{chunks}
 use Rattle.marks.proofs.Larger.{larger, larger_by_slices, larger_asked, larger_cut_anyhow}
 use Rattle.marks.proofs.Second.{begins_exactly, searches_again, second_searches, reached_counts, hears_behind_noise}

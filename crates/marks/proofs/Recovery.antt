@@ -8,7 +8,7 @@ use lib.ListN.{length, replicate, drop, length-append}
 use lib.Seq.{drop-append-le, take_at}
 use borrow.Author.Tests.{ne_eqb, le-leb}
 use Rattle.frame.specs.Frame.{restart_seq, frame_of, closed}
-use Rattle.decoder.specs.Push.{Mem, State, search, body, escape, done, silent, memory, Out, searching, says, put, step, noticed, fresh, stopped}
+use Rattle.decoder.specs.Push.{Mem, State, search, body, escape, done, silent, Out, searching, says, put, step, noticed, fresh, stopped}
 use Rattle.decoder.specs.Record.{DecoderAnswer, nothing, payload, count, refusal, numbered, new_record}
 use Rattle.decoder.specs.Run.{Op, push, act, run}
 use Rattle.decoder.proofs.States.{run_state, state_behind, act_state, answer_state}

@@ -1,5 +1,5 @@
 -- The bytes since the last payload, refusal, finalize or reset are, outside a frame, those since the search began.
-use mathlib.Core.Path.{◌≡◌, refl, ap, sym, ◌∙◌, subst}
+use mathlib.Core.Path.{◌≡◌, refl, sym, subst}
 use mathlib.Core.List.{List, [], ◌∷◌, ◌++◌}
 use Prim.Native.Nat.{ℕ}
 use Rattle.decoder.specs.Push.{Mem, State, search, body, escape, done, Out, put, fresh, step}

@@ -36,7 +36,7 @@ use Rattle.marks.proofs.RoundTrip.{quiet_replicate, round_trip}
 use Rattle.marks.proofs.Searched.{Heard, heard_fresh, heard_behind_lem}
 use Rattle.marks.proofs.Recovery.{run_state_append, wrote_is, answers_run, answers_new}
 use Rattle.marks.proofs.Completeness.{eighth_is}
-use Rattle.marks.proofs.Hides.{looking_back, done_back, kept_is}
+use Rattle.marks.proofs.HidesStart.{looking_back, done_back, kept_is}
 
 -- ---- a step of a search
 
