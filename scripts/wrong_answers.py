@@ -81,7 +81,7 @@ def answer_in(command, wrote):
 
 def built(name):
     """the path of what answers, as it was built last, or None"""
-    path = clink.REPLAY if name == programs.LIBRARY else os.path.join(ROOT, "target/bin", name)
+    path = clink.REPLAY if name == programs.LIBRARY else programs.built(name)
     return path if os.path.exists(path) else None
 
 
