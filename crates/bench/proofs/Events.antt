@@ -24,8 +24,8 @@ module _ (s : List ℕ) (p start pending n m : ℕ) (a : ReaderAfter) (h : n < m
   pub events_more : is_event a.answer ≡ true → n + 1 + events_from (m - (n + 1)) s a.place a.start a.pending ≡ n + events_from (m - n) s p start pending
   events_more f = omega (arith, step true f)
 
-  pub no_more : is_event a.answer ≡ false → n ≡ n + events_from (m - n) s p start pending
-  no_more f = omega (arith, step false f)
+  pub no_more_lem : is_event a.answer ≡ false → n ≡ n + events_from (m - n) s p start pending
+  no_more_lem f = omega (arith, step false f)
 
 pub none_left_lem : (s : List ℕ) (p start pending n m : ℕ) → m ≤ n → n ≡ n + events_from (m - n) s p start pending
 unfolding events_from

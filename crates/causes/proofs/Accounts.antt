@@ -13,9 +13,9 @@ use Rattle.decoder.specs.Run.{KnownWay, is_first, is_second}
 use Rattle.decoder.specs.declared.Setup.{Setup}
 use Rattle.since.specs.Bytes.{grown_since}
 use Rattle.since.specs.Since.{frame_head, InSearch, AllBytes}
-use Rattle.since.specs.Exactly.{ReadExactly, SoundWithin, SaysExactly, goes_on, start_found, start_inside, no_room, no_escape, no_message, frame_ends}
+use Rattle.since.specs.Exactly.{ReadExactly, SoundWithin, SaysExactly, goes_on_exactly, start_found_exactly, start_inside_exactly, no_room_exactly, no_escape_exactly, no_message_exactly, frame_ends_exactly}
 use Rattle.since.proofs.Lists.{matched_long}
-use Rattle.since.proofs.KeptExactly.{kept, reads_fresh}
+use Rattle.since.proofs.KeptExactly.{kept_exactly, reads_fresh_exactly}
 use Rattle.losses.specs.Loss.{begins_in_start, has_start, cause_of, piece_of, loss_at, LossSaid, lost_is, none_lost, loss_refused}
 use Rattle.losses.specs.declared.Loss.{Loss}
 use Rattle.losses.specs.declared.Cause.{Cause}
@@ -207,11 +207,11 @@ module _ (C : Setup) (known : KnownWay C.way) (rest : List ℕ) (ih : AccountsFr
 
   stepped : (e : PushEvent) → step C s b ≡ says t e → ReadExactly C (grown_since (numbered e) h b) t → SaysExactly C g e → Accounts C.way C.capacity all at (next_in_state C s at h (b ∷ rest))
   unfolding cause_of
-  stepped e is r goes_on =
+  stepped e is r goes_on_exactly =
       let on : next_in_state C s at h (b ∷ rest) ≡ next_in_state C t at g rest = next_step_lem C s at h b rest (says t e) is in
       let more : next_in_state C fresh at [] (g ++ rest) ≡ next_in_state C t at g rest = ap (next_in_state C fresh at []) (sym grouped) ∙ same' ∙ on in
       rw (grouped, on) (ih at g t r (subst AllBytes grouped bytes) more)
-  stepped e is r (start_found k x found misses none some c) =
+  stepped e is r (start_found_exactly k x found misses none some c) =
       let eight : take (length g - 8) g ≡ x = rw found (take_at x start_seq (length (x ++ start_seq) - 8) (simp length-append (omega arith))) in
       push_lost e 6 (k ∷ []) x (start_seq ++ rest) (cond (has_start x) Hidden Noise) is refl eight (grouped ∙ rw found (append_assoc x start_seq rest)) (rw (searched known)) (found_named C.way C.capacity x rest known misses none some)
     where
@@ -221,17 +221,17 @@ module _ (C : Setup) (known : KnownWay C.way) (rest : List ℕ) (ih : AccountsFr
       searched : KnownWay C.way → begins_in_start h ≡ false
       searched (is_first f) = rw before (search_not (misses f) 7 (omega arith))
       searched (is_second z) = rw before (none_at_first (x ++ take 7 start_seq) (none z))
-  stepped e is r (start_inside k D found clean fits c) =
+  stepped e is r (start_inside_exactly k D found clean fits c) =
       let w : List ℕ = frame_head D in
       let eight : take (length g - 8) g ≡ w = rw found (take_at w start_seq (length (w ++ start_seq) - 8) (simp length-append (omega arith))) in
       let before : begins_in_start h ≡ true = rw (all_but_last h w b found) (head_begins D (take 7 start_seq)) in
       push_lost e 6 (k ∷ []) w (start_seq ++ rest) Cut is refl eight (grouped ∙ rw found (append_assoc w start_seq rest)) (rw before)
       (named_cut (record { D = D; is = refl; clean = clean; fits = fits; rest = rest; start = refl }))
-  stepped e is r (no_room f) = push_lost e 3 [] g rest NoRoom is refl refl grouped refl (named_room f)
-  stepped e is r (no_escape {a = w} {b = x} {c = y} {d = z} f) = push_lost e 7 (w ∷ x ∷ y ∷ z ∷ []) g rest UnknownEscape is refl refl grouped refl (named_escape (w ∷ x ∷ y ∷ z ∷ [], f))
-  stepped e is r (no_message {read = read} {computed = computed} {mis = mis} {p = p} D f sum aligned wrong) =
+  stepped e is r (no_room_exactly f) = push_lost e 3 [] g rest NoRoom is refl refl grouped refl (named_room f)
+  stepped e is r (no_escape_exactly {a = w} {b = x} {c = y} {d = z} f) = push_lost e 7 (w ∷ x ∷ y ∷ z ∷ []) g rest UnknownEscape is refl refl grouped refl (named_escape (w ∷ x ∷ y ∷ z ∷ [], f))
+  stepped e is r (no_message_exactly {read = read} {computed = computed} {mis = mis} {p = p} D f sum aligned wrong) =
       push_lost e 8 (read ∷ computed ∷ flag mis ∷ p ∷ []) g rest _ is refl refl grouped refl (invalid_named C.way C.capacity g rest D read computed mis p f sum aligned wrong)
-  stepped e is r (frame_ends P f) =
+  stepped e is r (frame_ends_exactly P f) =
       let on : next_in_state C s at h (b ∷ rest) ≡ next_in_state C t (at + length g) [] rest = next_step_lem C s at h b rest (says t e) is in
       let fine : AllBytes (g ++ rest) = subst AllBytes grouped bytes in
       rw (grouped, on) (behind_frame_lem C.way C.capacity g rest at P (f (bytes_front g rest fine)) (next_in_state C t (at + length g) [] rest)
@@ -240,9 +240,9 @@ module _ (C : Setup) (known : KnownWay C.way) (rest : List ℕ) (ih : AccountsFr
 pub accounts_from : (C : Setup) (known : KnownWay C.way) (rest : List ℕ) → AccountsFrom C rest
 accounts_from C known [] at h s r bytes same' = closes_with C at known h s r same'
 accounts_from C known (b ∷ rest) at h s r bytes same' =
-    let o = kept C h s b r in
+    let o = kept_exactly C h s b r in
     stepped C known rest (accounts_from C known rest) at h b s (step C s b).state bytes same' (step C s b).event refl o.reads o.told
 
 -- any bytes, pushed to a new decoder
 pub accounts_new : (C : Setup) → KnownWay C.way → (bytes : List ℕ) (at : ℕ) → AllBytes bytes → Accounts C.way C.capacity bytes at (next_in_state C fresh at [] bytes)
-accounts_new C known bytes at all' = accounts_from C known bytes at [] fresh (reads_fresh C) all' refl
+accounts_new C known bytes at all' = accounts_from C known bytes at [] fresh (reads_fresh_exactly C) all' refl

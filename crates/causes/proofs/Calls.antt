@@ -23,7 +23,7 @@ use Rattle.decoder.proofs.Runs.{acts, leads, new_fit, run_new}
 use Rattle.since.specs.Bytes.{grown_since}
 use Rattle.since.specs.Since.{frame_head, AllBytes}
 use Rattle.since.specs.Exactly.{ReadExactly, SaysExactly, none_for_data, none_behind_escape}
-use Rattle.since.proofs.KeptExactly.{kept, reads_fresh}
+use Rattle.since.proofs.KeptExactly.{kept_exactly, reads_fresh_exactly}
 use Rattle.losses.specs.Loss.{piece_of, loss_at, LossSaid, lost_is, none_lost, loss_refused, LossAfter, loss_after, is_refusal, hands_out, next_behind, next_loss}
 use Rattle.losses.specs.declared.Loss.{Loss}
 use Rattle.causes.specs.Causes.{Reason, is_noise, is_unfinished, is_hidden, is_cut, is_escape, is_room_claim, is_crc, is_misaligned, is_pads, TrueOf, open_in_data, open_behind_escape}
@@ -89,14 +89,14 @@ module _ (C : Setup) (bytes : List ℕ) (ih : (s : State) (at : ℕ) (h : List �
       let last : suc (at + length h) - 8 ≡ at + length (take (length g - 8) g) = omega (arith, size, long, grew) in
       rw last (places_lost o.state (loss_at false (refusal 6 (k ∷ [])) at h (take (length g - 8) g)) (at + length (take (length g - 8) g)) (suc (at + length h)) start_seq r refl refl (omega (arith, size, long, grew)))
   places_event o (gone_left e k v q ne of) r said' =
-      let r' : ReadExactly C [] fresh = reads_fresh C in
+      let r' : ReadExactly C [] fresh = reads_fresh_exactly C in
       rw (q, ne, grew) (places_lost fresh (loss_at false (refusal k v) at h g) (at + length g) (at + length g) [] r' refl refl (omega arith))
 
 places_is : (C : Setup) (bytes : List ℕ) (s : State) (at : ℕ) (h : List ℕ) → ReadExactly C h s → Places C s at h bytes
 unfolding run_state state_behind act_state answer_state losses_in
 places_is C [] s at h r = final_places at (at + length h) h (numbered (finalized s)) refl
 places_is C (b ∷ bytes) s at h r =
-    let o = kept C h s b r in
+    let o = kept_exactly C h s b r in
     places_event C bytes (places_is C bytes) at h b (step C s b) (left_saw C s b (step C s b) (saw C s b)) o.reads o.told
 
 -- ---- over the record
@@ -196,7 +196,7 @@ module _ (recording : List ℕ) (way : ℕ) (capacity : ℕ) (fine : AllBytes re
       record {
         is = (λ i. loss_after (said' i) (left' i));
         accounts = subst (λ (n : ℕ). Accounts way n bytes at (next_in_state C fresh at [] bytes)) size (subst (Accounts way (length m) bytes at) said' (our_tool.accounts recording way m at fine known fits));
-        linked = linked_from C bytes fresh at [] m (reads_fresh C);
+        linked = linked_from C bytes fresh at [] m (reads_fresh_exactly C);
       }
 
   -- the buffer keeps its length
@@ -270,8 +270,8 @@ our_tells_all recording way m fine known le =
     record {
       losses = losses_in C fresh 0 [] recording;
       calls = our_calls recording way m fine known le;
-      each = sym (rw (run_new C m (map push recording) (known_is way known) refl le, final) (places_is C recording fresh 0 [] (reads_fresh C)));
-      counted = rw (run_new C m (map push recording) (known_is way known) refl le, final) (counts_from C known recording fresh 0 [] (reads_fresh C));
+      each = sym (rw (run_new C m (map push recording) (known_is way known) refl le, final) (places_is C recording fresh 0 [] (reads_fresh_exactly C)));
+      counted = rw (run_new C m (map push recording) (known_is way known) refl le, final) (counts_from C known recording fresh 0 [] (reads_fresh_exactly C));
       seen = seen_in C fresh 0 [] recording;
       final = end_in C fresh 0 [] recording;
       among = seen_losses C recording fresh 0 [];

@@ -16,8 +16,8 @@ use Rattle.decoder.proofs.Saw.{saw}
 use Rattle.decoder.proofs.States.{run_state, state_behind, act_state, answer_state}
 use Rattle.since.specs.Bytes.{grown_since}
 use Rattle.since.specs.Since.{frame_head}
-use Rattle.since.specs.Exactly.{ReadExactly, SaysExactly, start_found, start_inside}
-use Rattle.since.proofs.KeptExactly.{kept, reads_fresh}
+use Rattle.since.specs.Exactly.{ReadExactly, SaysExactly, start_found_exactly, start_inside_exactly}
+use Rattle.since.proofs.KeptExactly.{kept_exactly, reads_fresh_exactly}
 use Rattle.losses.specs.Loss.{begins_in_start, has_start, cause_of, piece_of, loss_over, loss_at, is_refusal, hands_out}
 use Rattle.losses.specs.declared.Loss.{Loss}
 use Rattle.losses.specs.declared.Cause.{Cause}
@@ -72,7 +72,7 @@ module _ (C : Setup) (known : KnownWay C.way) (at : ℕ) (h : List ℕ) (b : ℕ
   -- a 6 of a push
   counts_start : (k : ℕ) → SaysExactly C g (discarded k) → CountsPiece (loss_at false (refusal 6 (k ∷ [])) at h (take (length g - 8) g)) (refusal 6 (k ∷ []))
   unfolding cause_of
-  counts_start k (start_found j x found misses none some c) =
+  counts_start k (start_found_exactly j x found misses none some c) =
       let w = less_eight_claim g x found in
       let dull : begins_in_start h ≡ false = searched known in
       counts_six k (cause_of false (begins_in_start h) (has_start (take (length g - 8) g)) (length (take (length g - 8) g)) (refusal 6 (k ∷ []))) at (length (take (length g - 8) g)) (six_of false (begins_in_start h) (has_start (take (length g - 8) g)) (length (take (length g - 8) g)) (k ∷ []))
@@ -84,7 +84,7 @@ module _ (C : Setup) (known : KnownWay C.way) (at : ℕ) (h : List ℕ) (b : ℕ
       searched : KnownWay C.way → begins_in_start h ≡ false
       searched (is_first f) = rw before (search_not (misses f) 7 (omega arith))
       searched (is_second z) = rw before (none_at_first (x ++ take 7 start_seq) (none z))
-  counts_start k (start_inside j D found clean fits c) =
+  counts_start k (start_inside_exactly j D found clean fits c) =
       let w = less_eight_claim g (frame_head D) found in
       let bright : begins_in_start h ≡ true = rw (all_but_last h (frame_head D) b found) (head_begins D (take 7 start_seq)) in
       let long : length g ≡ length (frame_head D) + 8 = ap length found ∙ simp length-append in
@@ -125,11 +125,11 @@ module _ (C : Setup) (known : KnownWay C.way) (bytes : List ℕ) (ih : CountsFro
   counts_event o (quiet_left t) r said' = ih t at (h ++ b ∷ []) r
   counts_event o (paid_left P) r said' = ih (done P) (at + length (h ++ b ∷ [])) [] r
   counts_event o (start_left k) r said' = (counts_start C known at h b k said', ih begun (at + length (take (length (h ++ b ∷ []) - 8) (h ++ b ∷ []))) start_seq r)
-  counts_event o (gone_left e k v q ne of) r said' = rw (q, ne) (counts_other (loss_at false (refusal k v) at h (h ++ b ∷ [])) k v ne (of (begins_in_start h) (has_start (h ++ b ∷ [])) (length (h ++ b ∷ []))), ih fresh (at + length (h ++ b ∷ [])) [] (reads_fresh C))
+  counts_event o (gone_left e k v q ne of) r said' = rw (q, ne) (counts_other (loss_at false (refusal k v) at h (h ++ b ∷ [])) k v ne (of (begins_in_start h) (has_start (h ++ b ∷ [])) (length (h ++ b ∷ []))), ih fresh (at + length (h ++ b ∷ [])) [] (reads_fresh_exactly C))
 
 pub counts_from : (C : Setup) → KnownWay C.way → (bytes : List ℕ) → CountsFrom C bytes
 unfolding run_state state_behind act_state answer_state losses_in
 counts_from C known [] s at h r = final_counts C known at h s r
 counts_from C known (b ∷ bytes) s at h r =
-    let o = kept C h s b r in
+    let o = kept_exactly C h s b r in
     counts_event C known bytes (counts_from C known bytes) at h b (step C s b) (left_saw C s b (step C s b) (saw C s b)) o.reads o.told

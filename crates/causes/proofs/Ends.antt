@@ -18,8 +18,8 @@ use Rattle.decoder.specs.Saw.{Passed}
 use Rattle.decoder.specs.declared.Setup.{Setup}
 use Rattle.decoder.proofs.Saw.{passed, passes}
 use Rattle.since.specs.Since.{frame_head}
-use Rattle.since.specs.Exactly.{OpensExactly, tidy, early_end, InEscapeExactly, EndOf, SoundWithin}
-use Rattle.since.proofs.KeptExactly.{reads_fresh, computed_all, before_crc}
+use Rattle.since.specs.Exactly.{OpensExactly, tidy_exactly, early_end_exactly, InEscapeExactly, EndOf, SoundWithin}
+use Rattle.since.proofs.KeptExactly.{reads_fresh_exactly, computed_all, before_crc}
 use Rattle.losses.specs.Loss.{wrong_pads, cause_of}
 use Rattle.losses.specs.declared.Cause.TheVariants.{Invalid}
 use Rattle.losses.proofs.Starts.{never_true}
@@ -31,8 +31,8 @@ use Rattle.causes.proofs.Next.{next_in_state, next_step_lem, next_silent, done_n
 use Rattle.causes.proofs.Forward.{TellsOf, by_event, tells_noise, tells_hidden, tells_cut, tells_unfinished, tells_escape, tells_room, Fourth, fourth_byte}
 
 opens_three : {D : List ℕ} {p lo hi : ℕ} → OpensExactly D (0x1a ∷ p ∷ lo ∷ hi ∷ []) → OpensExactly D (0x1a ∷ p ∷ lo ∷ [])
-opens_three (tidy e) = tidy e
-opens_three {p = p} {lo = lo} (early_end k al e) = early_end (p ∷ lo ∷ []) al refl
+opens_three (tidy_exactly e) = tidy_exactly e
+opens_three {p = p} {lo = lo} (early_end_exactly k al e) = early_end_exactly (p ∷ lo ∷ []) al refl
 
 -- what is computed where the last of the four is judged
 sum_is : (C : Setup) (D : List ℕ) (p lo hi : ℕ) (f : Fourth C D 0x1a p lo) → length D + 4 ≤ C.capacity → OpensExactly D (0x1a ∷ p ∷ lo ∷ hi ∷ [])
@@ -41,7 +41,7 @@ sum_is : (C : Setup) (D : List ℕ) (p lo hi : ℕ) (f : Fourth C D 0x1a p lo) �
 sum_is C D p lo hi f fits o =
     let m : Mem = f.m in
     let h : List ℕ = frame_head D ++ esc_seq ++ 0x1a ∷ p ∷ lo ∷ [] in
-    let k : InEscapeExactly C h 3 m = reads_silent f.quietly [] (reads_fresh C) in
+    let k : InEscapeExactly C h 3 m = reads_silent f.quietly [] (reads_fresh_exactly C) in
     let one : k.D ≡ D = (same_back k.D D k.l (0x1a ∷ p ∷ lo ∷ []) (sym k.has ∙ f.has) k.count).0 in
     let n : length (m.stored ++ hi ∷ []) ≡ length D + 4 = ap (λ (l : List ℕ). length (l ++ hi ∷ [])) f.has ∙ simp length-append (omega arith) in
     let here : h ++ hi ∷ [] ≡ frame_head D ++ esc_seq ++ 0x1a ∷ p ∷ lo ∷ hi ∷ [] = append_assoc (frame_head D ++ esc_seq) (0x1a ∷ p ∷ lo ∷ []) (hi ∷ []) in
@@ -135,7 +135,7 @@ sound_end {C} {w} {P} s =
       hi = x / 256;
       is = is ∙ append_assoc (frame_head D ++ esc_seq) (0x1a ∷ p ∷ []) (x % 256 ∷ x / 256 ∷ []);
       reads = ap crc_of front ∙ sym (mod-add-div x 256);
-      opens = early_end (p ∷ x % 256 ∷ x / 256 ∷ []) s.sound.aligned refl;
+      opens = early_end_exactly (p ∷ x % 256 ∷ x / 256 ∷ []) s.sound.aligned refl;
       fits = s.fits;
     }
 

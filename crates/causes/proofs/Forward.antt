@@ -16,9 +16,9 @@ use Rattle.decoder.specs.Record.{refusal, numbered}
 use Rattle.decoder.specs.Run.{KnownWay, is_first, is_second}
 use Rattle.decoder.specs.declared.Setup.{Setup}
 use Rattle.since.specs.Since.{frame_head, Misses, InSearch}
-use Rattle.since.specs.Exactly.{OpensExactly, tidy, early_end, none_for_data, none_behind_escape, Meaningless}
+use Rattle.since.specs.Exactly.{OpensExactly, tidy_exactly, early_end_exactly, none_for_data, none_behind_escape, Meaningless}
 use Rattle.since.proofs.Lists.{matched_long, head_other}
-use Rattle.since.proofs.KeptExactly.{reads_fresh}
+use Rattle.since.proofs.KeptExactly.{reads_fresh_exactly}
 use Rattle.since.proofs.Rules.{Silent, and_then, step_judge}
 use Rattle.since.proofs.Starts.{Fours, sevens, fours_none, fours_any, start_silent}
 use Rattle.since.proofs.Arrives.{stored_data, waits_for, ArrivesAt, arrives_at, arrives_open}
@@ -84,7 +84,7 @@ module _ (C : Setup) (at : ℕ) (known : KnownWay C.way) (w rest : List ℕ) (n 
   at_start r named =
       let v = sevens C (search n noise raw) told fours in
       let all : Silent C fresh (w ++ take 7 start_seq) (search 7 told v.raw) = and_then quietly v.quietly in
-      let k : InSearch C (w ++ take 7 start_seq) 7 told v.raw = reads_silent all [] (reads_fresh C) in
+      let k : InSearch C (w ++ take 7 start_seq) 7 told v.raw = reads_silent all [] (reads_fresh_exactly C) in
       let not : begins_in_start (w ++ take 7 start_seq) ≡ false = search_begins C (w ++ take 7 start_seq) 7 told v.raw known k in
       let ev : noticed told ≡ discarded told = rw (ne_eqb told 0 (λ e. omega arith)) in
       by_event C at (w ++ take 7 start_seq) (search 7 told v.raw) all 0x01 rest w (start_seq ++ rest) begun (discarded told) 6 (told ∷ []) r
@@ -103,7 +103,7 @@ lost_at_end : (C : Setup) (at : ℕ) → KnownWay C.way → (w rest : List ℕ) 
     → Names (cause_of true false (has_start w) (length w) (refusal 6 (q.raw ∷ []))) r → TellsOf C at w rest r
 lost_at_end C at known w rest q r none pos named =
     let s : State = search q.n q.noise q.raw in
-    let k : InSearch C w q.n q.noise q.raw = reads_silent q.quietly [] (reads_fresh C) in
+    let k : InSearch C w q.n q.noise q.raw = reads_silent q.quietly [] (reads_fresh_exactly C) in
     by_end C at w s q.quietly rest 6 (q.raw ∷ []) r none (search_left C w q.n q.noise q.raw k pos) (rw (search_begins C w q.n q.noise q.raw known k) named)
 
 -- the first way passes a piece over, with nothing matched behind it
@@ -114,7 +114,7 @@ first_start : (C : Setup) (at : ℕ) → C.way ≡ first_way → (w rest : List 
     → ((told : ℕ) → Names (cause_of false false (has_start w) (length w) (refusal 6 (told ∷ []))) r) → TellsOf C at w (start_seq ++ rest) r
 first_start C at f w rest m pos r named =
     let (noise, raw, q) = passes_over C (first_other C f) m 0 0 in
-    let k : InSearch C w 0 noise raw = reads_silent q [] (reads_fresh C) in
+    let k : InSearch C w 0 noise raw = reads_silent q [] (reads_fresh_exactly C) in
     let l : length w ≡ length k.passed = ap length (k.here ∙ append-nil k.passed) in
     at_start C at (is_first f) w rest 0 noise raw q noise (fours_none C noise raw) (let d = k.dropped in omega arith) r (named noise)
 
@@ -123,7 +123,7 @@ second_start : (C : Setup) (at : ℕ) → C.way ≡ second_way → (w rest : Lis
     → ((told : ℕ) → Names (cause_of false false (has_start w) (length w) (refusal 6 (told ∷ []))) r) → TellsOf C at w (start_seq ++ rest) r
 second_start C at s w rest none pos r named =
     let q = seeks_none C w none in
-    let k : InSearch C w q.n q.noise q.raw = reads_silent q.quietly [] (reads_fresh C) in
+    let k : InSearch C w q.n q.noise q.raw = reads_silent q.quietly [] (reads_fresh_exactly C) in
     let l : length w ≡ length k.passed + q.n = ap length k.here ∙ simp (length-append, matched_long q.n k.most) in
     at_start C at (is_second s) w rest q.n q.noise q.raw q.quietly (stopped (q.noise + q.n))
     (fours_any C q.n q.noise q.raw s k.most (let d = k.dropped in omega arith)) (let d = k.dropped in omega arith) r (named (stopped (q.noise + q.n)))
@@ -175,7 +175,7 @@ behind_silent C D l a = subst (λ (b : List ℕ). Silent C fresh b (escape a.k a
 arrived_by : (C : Setup) (D l : List ℕ) → KnownWay C.way → ArrivesAt C begun (escaped 0 D ++ (esc_seq ++ l)) D l → Arrived C D l
 arrived_by C D l known a =
     let q : Silent C fresh (frame_head D ++ esc_seq ++ l) (escape a.k a.m) = behind_silent C D l a in
-    record { k = a.k; m = a.m; quietly = q; has = a.has; begins = frame_begins C (frame_head D ++ esc_seq ++ l) (escape a.k a.m) known (reads_silent q [] (reads_fresh C)) }
+    record { k = a.k; m = a.m; quietly = q; has = a.has; begins = frame_begins C (frame_head D ++ esc_seq ++ l) (escape a.k a.m) known (reads_silent q [] (reads_fresh_exactly C)) }
 
 arrived_here : (C : Setup) (D l : List ℕ) → KnownWay C.way → OpensExactly D l → length l ≤ 3 → length D + length l ≤ C.capacity → Arrived C D l
 arrived_here C D l known o few fits = arrived_by C D l known (arrives_at C D l o few fits)
@@ -200,7 +200,7 @@ module _ (C : Setup) (at : ℕ) (known : KnownWay C.way) (w rest : List ℕ) whe
   unfolding cause_of judge same
   tells_cut t =
       let D : List ℕ = t.D in
-      let f = fourth_byte C D 0x01 0x01 0x01 known (tidy t.clean) t.fits in
+      let f = fourth_byte C D 0x01 0x01 0x01 known (tidy_exactly t.clean) t.fits in
       let h : List ℕ = frame_head D ++ esc_seq ++ take 3 restart_seq in
       let whole : h ++ 0x01 ∷ [] ≡ w ++ start_seq = rw t.is (simp append_assoc) in
       by_event C at h (escape 3 f.m) f.quietly 0x01 t.rest w rest begun (discarded (stopped (suc f.m.raw) - 8)) 6 ((stopped (suc f.m.raw) - 8) ∷ []) is_cut
@@ -227,7 +227,7 @@ module _ (C : Setup) (at : ℕ) (known : KnownWay C.way) (w rest : List ℕ) whe
       by_open (open_in_data E r is clean few fits) =
           let (m, q, has) = left_in_data E r clean few fits in
           let h : List ℕ = frame_head E ++ replicate r 0x1b in
-          rw is (by_end C at h (body r m) q rest 6 (m.raw ∷ []) is_unfinished t.0 refl (rw (frame_begins C h (body r m) known (reads_silent q [] (reads_fresh C))) names_unfinished))
+          rw is (by_end C at h (body r m) q rest 6 (m.raw ∷ []) is_unfinished t.0 refl (rw (frame_begins C h (body r m) known (reads_silent q [] (reads_fresh_exactly C))) names_unfinished))
       by_open (open_behind_escape D l is o few fits) =
           let a = arrived_here C D l known o few fits in
           rw is (by_end C at (frame_head D ++ esc_seq ++ l) (escape a.k a.m) a.quietly rest 6 (a.m.raw ∷ []) is_unfinished t.0 refl (rw a.begins names_unfinished))
@@ -267,8 +267,8 @@ module _ (C : Setup) (at : ℕ) (known : KnownWay C.way) (w rest : List ℕ) whe
   tells_room (none_behind_escape D l is o some most fits) = by_last l (last_of' l some) o is most fits
     where
       shorter : (l : List ℕ) (x : ℕ) (k : List ℕ) → OpensExactly D ((x ∷ l) ++ k) → OpensExactly D (x ∷ l)
-      shorter l x k (tidy e) = tidy e
-      shorter l x k (early_end j al e) = early_end l al (let q : x ≡ 0x1a = ap (λ (t : List ℕ). get_or t 0 0) e in rw q)
+      shorter l x k (tidy_exactly e) = tidy_exactly e
+      shorter l x k (early_end_exactly j al e) = early_end_exactly l al (let q : x ≡ 0x1a = ap (λ (t : List ℕ). get_or t 0 0) e in rw q)
 
       by_front : (i : List ℕ) (z : ℕ) → OpensExactly D (i ++ z ∷ []) → w ≡ frame_head D ++ esc_seq ++ (i ++ z ∷ []) → length (i ++ z ∷ []) ≤ 4 → length D + length (i ++ z ∷ []) ≡ suc C.capacity → TellsOf C at w rest is_room_claim
       by_front [] z o is most fits =
@@ -295,7 +295,7 @@ module _ (C : Setup) (at : ℕ) (known : KnownWay C.way) (w rest : List ℕ) whe
   unfolding cause_of
   unknown_four a b c d t =
       let D : List ℕ = t.D in
-      let f = fourth_byte C D a b c known (tidy t.clean) t.fits in
+      let f = fourth_byte C D a b c known (tidy_exactly t.clean) t.fits in
       let h : List ℕ = frame_head D ++ esc_seq ++ a ∷ b ∷ c ∷ [] in
       let on : h ++ d ∷ [] ≡ w = append_assoc (frame_head D ++ esc_seq) (a ∷ b ∷ c ∷ []) (d ∷ []) ∙ sym t.is in
       let n : length (f.m.stored ++ d ∷ []) ≡ length D + 4 = ap (λ (l : List ℕ). length (l ++ d ∷ [])) f.has ∙ simp length-append (omega arith) in

@@ -13,7 +13,7 @@ use Rattle.decoder.specs.declared.DecodeState.TheVariants.{LookingForMessageStar
 use Rattle.decoder.specs.declared.Decoder.{Decoder}
 use Rattle.decoder.proofs.Search.{known_is}
 use Rattle.since.specs.Bytes.{since_from}
-use Rattle.since.proofs.CountsExactly.{record_reads}
+use Rattle.since.proofs.CountsExactly.{record_reads_exactly}
 use Rattle.since.specs.Since.{frame_head}
 use Rattle.since.specs.Exactly.{none_for_data, none_behind_escape}
 use Rattle.losses.specs.Loss.{begins_in_start}
@@ -72,7 +72,7 @@ pub runs_from : AlwaysRunsFromAStart
 runs_from C m os known l le =
     let a : After = behind (after nothing (new_record C) m) os in
     let h : List ℕ = since_from [] os (run (new_record C) m os) in
-    let e : begins_in_start h ≡ runs a.decoder.state = frame_begins C h (state_of a.decoder a.memory) known (record_reads C m os (known_is C.way known) l le) ∙ runs_as a.decoder a.memory a.decoder.state in
+    let e : begins_in_start h ≡ runs a.decoder.state = frame_begins C h (state_of a.decoder a.memory) known (record_reads_exactly C m os (known_is C.way known) l le) ∙ runs_as a.decoder a.memory a.decoder.state in
     record {
       then = λ t. record { rest = drop 8 h; is = begins_true h (e ∙ t) };
       only_then = λ f. sym e ∙ ap begins_in_start f.is ∙ begins_start f.rest;

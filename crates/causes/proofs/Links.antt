@@ -18,8 +18,8 @@ use Rattle.decoder.proofs.Saw.{saw}
 use Rattle.decoder.proofs.Faithful.{contents}
 use Rattle.since.specs.Bytes.{grown_since}
 use Rattle.since.specs.Since.{frame_head}
-use Rattle.since.specs.Exactly.{ReadExactly, SaysExactly, goes_on, start_found, start_inside, no_room, no_escape, no_message, frame_ends}
-use Rattle.since.proofs.KeptExactly.{kept}
+use Rattle.since.specs.Exactly.{ReadExactly, SaysExactly, goes_on_exactly, start_found_exactly, start_inside_exactly, no_room_exactly, no_escape_exactly, no_message_exactly, frame_ends_exactly}
+use Rattle.since.proofs.KeptExactly.{kept_exactly}
 use Rattle.since.proofs.Rules.{Silent, stop, silent_on}
 use Rattle.since.proofs.Starts.{seek_on, seek_last, start_silent}
 use Rattle.losses.specs.Loss.{cause_of, piece_of, loss_at, LossSaid, lost_is, none_lost, loss_refused, is_refusal, hands_out}
@@ -58,13 +58,13 @@ left_saw C s b o (W.judges fit ge j) = left_judged _ _ o j
 left_saw C s b o (W.full' h) = gone_left memory 3 [] refl refl (λ r h n. refl)
 
 pub ends_start : (C : Setup) (g : List ℕ) (k : ℕ) (e : PushEvent) → e ≡ discarded k → SaysExactly C g e → (w : List ℕ) × (g ≡ w ++ start_seq)
-ends_start C g k e q goes_on = absurd (let z : ◌≡◌ {A = ℕ} 0 1 = cc in omega arith)
-ends_start C g k e q (start_found u x is m n pos c) = (x, is)
-ends_start C g k e q (start_inside u D is t f c) = (frame_head D, is)
-ends_start C g k e q (no_room f) = absurd (let z : ◌≡◌ {A = ℕ} 0 1 = cc in omega arith)
-ends_start C g k e q (no_escape f) = absurd (let z : ◌≡◌ {A = ℕ} 0 1 = cc in omega arith)
-ends_start C g k e q (no_message D f₁ f₂ f₃ f₄) = absurd (let z : ◌≡◌ {A = ℕ} 0 1 = cc in omega arith)
-ends_start C g k e q (frame_ends P f) = absurd (let z : ◌≡◌ {A = ℕ} 0 1 = cc in omega arith)
+ends_start C g k e q goes_on_exactly = absurd (let z : ◌≡◌ {A = ℕ} 0 1 = cc in omega arith)
+ends_start C g k e q (start_found_exactly u x is m n pos c) = (x, is)
+ends_start C g k e q (start_inside_exactly u D is t f c) = (frame_head D, is)
+ends_start C g k e q (no_room_exactly f) = absurd (let z : ◌≡◌ {A = ℕ} 0 1 = cc in omega arith)
+ends_start C g k e q (no_escape_exactly f) = absurd (let z : ◌≡◌ {A = ℕ} 0 1 = cc in omega arith)
+ends_start C g k e q (no_message_exactly D f₁ f₂ f₃ f₄) = absurd (let z : ◌≡◌ {A = ℕ} 0 1 = cc in omega arith)
+ends_start C g k e q (frame_ends_exactly P f) = absurd (let z : ◌≡◌ {A = ℕ} 0 1 = cc in omega arith)
 
 -- ---- all losses of the one run, and its buffer, over the state of the push rules
 
@@ -233,5 +233,5 @@ pub linked_from : (C : Setup) (bytes : List ℕ) → LinksFrom C bytes
 unfolding next_in_state losses_in next_memory memory_of
 linked_from C [] s at h m r = linked_final C at h m (numbered (finalized s))
 linked_from C (b ∷ bytes) s at h m r =
-    let o = kept C h s b r in
+    let o = kept_exactly C h s b r in
     linked_event C bytes (linked_from C bytes) at h b (wrote_to C s m b) (step C s b) (left_saw C s b (step C s b) (saw C s b)) o.reads o.told

@@ -16,9 +16,9 @@ use Rattle.decoder.proofs.Saw.{saw}
 use Rattle.decoder_slice.specs.Slice.{says_nothing}
 use Rattle.since.specs.Bytes.{grown_since}
 use Rattle.since.specs.Since.{AllBytes}
-use Rattle.since.specs.Exactly.{ReadExactly, SoundWithin, SaysExactly, frame_ends}
+use Rattle.since.specs.Exactly.{ReadExactly, SoundWithin, SaysExactly, frame_ends_exactly}
 use Rattle.since.proofs.Lists.{empty, matched_long}
-use Rattle.since.proofs.KeptExactly.{kept, reads_fresh}
+use Rattle.since.proofs.KeptExactly.{kept_exactly, reads_fresh_exactly}
 use Rattle.since.proofs.Starts.{start_silent}
 use Rattle.losses.specs.Loss.{loss_at, LossSaid, lost_is, none_lost, is_refusal}
 use Rattle.losses.specs.Watch.{WatchSaid, lost_over, over_of}
@@ -39,15 +39,15 @@ record PieceOf (way C : ℕ) (bytes : List ℕ) (at : ℕ) (l : Loss) (rest : Li
   none_kept : account.frames ≡ []
   behind : account.rest ≡ rest
 
-piece_of : (way C : ℕ) (bytes : List ℕ) (at : ℕ) (l : Loss) (w rest : List ℕ) → bytes ≡ w ++ rest → l.first ≡ suc at → l.last ≡ at + length w → LostNext way C bytes at l → PieceOf way C bytes at l rest
-piece_of way C bytes at l w rest e first last a =
+piece_of_lem : (way C : ℕ) (bytes : List ℕ) (at : ℕ) (l : Loss) (w rest : List ℕ) → bytes ≡ w ++ rest → l.first ≡ suc at → l.last ≡ at + length w → LostNext way C bytes at l → PieceOf way C bytes at l rest
+piece_of_lem way C bytes at l w rest e first last a =
     let none : a.frames ≡ [] = empty a.frames (let q = a.first' in omega arith) in
     let size : length w ≡ length a.piece = let q = a.last' in let z : length a.frames ≡ 0 = ap length none in omega arith in
     let is : a.piece ++ a.rest ≡ w ++ rest = sym (a.is ∙ ap (λ (x : List ℕ). x ++ (a.piece ++ a.rest)) none) ∙ e in
     record { account = a; none_kept = none; behind = (front_same a.piece w a.rest rest is (sym size)).1 }
 
 sound_of : {C : Setup} {g P : List ℕ} → SaysExactly C g (pays_out P) → AllBytes g → SoundWithin C.capacity g P
-sound_of (frame_ends P f) bs = f bs
+sound_of (frame_ends_exactly P f) bs = f bs
 
 abbrev PartsFrom : Setup → List ℕ → Type 0
 PartsFrom C bytes = (s : State) (at : ℕ) (h : List ℕ) → ReadExactly C h s → AllBytes (h ++ bytes) → next_in_state C fresh at [] (h ++ bytes) ≡ next_in_state C s at h bytes
@@ -60,7 +60,7 @@ parted_final way C at h nothing k none = rw (none refl) parted_over
 parted_final way C at h (payload P) k none = rw (none refl) parted_over
 parted_final way C at h (count n) k none = rw (none refl) parted_over
 parted_final way C at h (refusal n v) k none =
-    let p = piece_of way C (h ++ []) at (loss_at true (refusal n v) at h h) h [] refl refl refl k in
+    let p = piece_of_lem way C (h ++ []) at (loss_at true (refusal n v) at h h) h [] refl refl refl k in
     parted_left p.account p.none_kept p.behind
 
 final_none : (C : Setup) (h : List ℕ) (s : State) → ReadExactly C h s → is_refusal (numbered (finalized s)) ≡ false → h ≡ []
@@ -100,7 +100,7 @@ module _ (C : Setup) (known : KnownWay C.way) (bytes : List ℕ) (ih : PartsFrom
       → ReadExactly C x t → next_in_state C fresh l.last [] (x ++ bytes) ≡ next_in_state C t l.last x bytes → (n : ℕ) → n ≡ l.last
       → Parted C.way C.capacity at (h ++ (b ∷ bytes)) (lost_over l ∷ seen_in C t n x bytes) (end_in C t n x bytes) (payloads_of (run_state C t (map push bytes)))
   parted_lost_lem l w x t told e first last r again n is =
-      let p = piece_of C.way C.capacity (h ++ (b ∷ bytes)) at l w (x ++ bytes) e first last (subst (Accounts C.way C.capacity (h ++ (b ∷ bytes)) at) told account') in
+      let p = piece_of_lem C.way C.capacity (h ++ (b ∷ bytes)) at l w (x ++ bytes) e first last (subst (Accounts C.way C.capacity (h ++ (b ∷ bytes)) at) told account') in
       let more : AllBytes (x ++ bytes) = bytes_rest w (x ++ bytes) (subst AllBytes e fine) in
       rw is (parted_lost {final = end_in C t l.last x bytes} p.account p.none_kept (subst (λ (y : List ℕ). Parted C.way C.capacity l.last y (seen_in C t l.last x bytes) (end_in C t l.last x bytes) (payloads_of (run_state C t (map push bytes)))) (sym p.behind) (ih t l.last x r more again)))
 
@@ -120,14 +120,14 @@ module _ (C : Setup) (known : KnownWay C.way) (bytes : List ℕ) (ih : PartsFrom
       (next_silent (start_silent C) _ [] bytes) (at + (length g - 8)) (ap (λ (n : ℕ). at + n) size)
   parted_event o (gone_left e k v q ne of) is r said' =
       let told : next_in_state C s at h (b ∷ bytes) ≡ lost_is (loss_at false (refusal k v) at h g) = next_step_lem C s at h b bytes o is ∙ rw (q, ne) in
-      rw (q, ne) (parted_lost_lem (loss_at false (refusal k v) at h g) g [] fresh told grouped refl refl (reads_fresh C) refl (at + length g) refl)
+      rw (q, ne) (parted_lost_lem (loss_at false (refusal k v) at h g) g [] fresh told grouped refl refl (reads_fresh_exactly C) refl (at + length g) refl)
 
 parted_from : (C : Setup) → KnownWay C.way → (bytes : List ℕ) → PartsFrom C bytes
 unfolding seen_in end_in next_in_state run_state act_state answer_state payloads_of
 parted_from C known [] s at h r fine same' = parted_final C.way C.capacity at h (numbered (finalized s)) (accounts_from C known [] at h s r fine same') (final_none C h s r)
 parted_from C known (b ∷ bytes) s at h r fine same' =
-    let o = kept C h s b r in
+    let o = kept_exactly C h s b r in
     parted_event C known bytes (parted_from C known bytes) s at h b fine same' (accounts_from C known (b ∷ bytes) at h s r fine same') (step C s b) (left_saw C s b (step C s b) (saw C s b)) refl o.reads o.told
 
 pub parted_new : (C : Setup) → KnownWay C.way → (recording : List ℕ) → AllBytes recording → Parted C.way C.capacity 0 recording (seen_in C fresh 0 [] recording) (end_in C fresh 0 [] recording) (payloads_of (run_state C fresh (map push recording)))
-parted_new C known recording fine = parted_from C known recording fresh 0 [] (reads_fresh C) fine refl
+parted_new C known recording fine = parted_from C known recording fresh 0 [] (reads_fresh_exactly C) fine refl

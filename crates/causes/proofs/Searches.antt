@@ -15,7 +15,7 @@ use Rattle.decoder.proofs.Search.{matched_none, matched_eight}
 use Rattle.since.specs.Since.{Misses, none_passed, miss, InSearch}
 use Rattle.since.specs.Exactly.{ReadExactly}
 use Rattle.since.proofs.Lists.{starts_is}
-use Rattle.since.proofs.KeptExactly.{kept, reads_fresh}
+use Rattle.since.proofs.KeptExactly.{kept_exactly, reads_fresh_exactly}
 use Rattle.since.proofs.Rules.{Silent, stop, silent_on, and_then}
 use Rattle.since.proofs.Starts.{seek_on}
 use Rattle.causes.specs.Causes.{Overlooks}
@@ -25,7 +25,7 @@ use Rattle.causes.proofs.Overlooked.{starts_at_lem}
 pub reads_silent : {C : Setup} {s t : State} {a : List ℕ} → Silent C s a t → (h : List ℕ) → ReadExactly C h s → ReadExactly C (h ++ a) t
 reads_silent {C} {s} stop h k = subst (λ (l : List ℕ). ReadExactly C l s) (sym (append-nil h)) k
 reads_silent {C} {s} (silent_on {t = t} {u = u} {b = b} {l = l} e q) h k =
-    let r : ReadExactly C (h ++ b ∷ []) t = rw e at (kept C h s b k).reads in
+    let r : ReadExactly C (h ++ b ∷ []) t = rw e at (kept_exactly C h s b k).reads in
     subst (λ (x : List ℕ). ReadExactly C x u) (append_assoc h (b ∷ []) l) (reads_silent q (h ++ b ∷ []) r)
 
 -- over the bytes to a search, n of a start matched
@@ -51,12 +51,12 @@ seeks_from C (b ∷ bytes) h n noise raw k none =
     let on : h ++ b ∷ [] ≡ k.passed ++ start_seq = rw (k.here, append_assoc, starts_is n b k.most t, e) in
     none (subst HasStart (sym one) (has_more bytes (ends_has (record { before = k.passed; is = on })))) in
     let s = step_sought C n noise raw b ne in
-    let r : InSearch C (h ++ b ∷ []) j (more_noise noise n j) (stopped (suc raw)) = rw s at (kept C h (search n noise raw) b k).reads in
+    let r : InSearch C (h ++ b ∷ []) j (more_noise noise n j) (stopped (suc raw)) = rw s at (kept_exactly C h (search n noise raw) b k).reads in
     let q = seeks_from C bytes (h ++ b ∷ []) j (more_noise noise n j) (stopped (suc raw)) r (subst NoneWhole one none) in
     record { n = q.n; noise = q.noise; raw = q.raw; quietly = silent_on s q.quietly }
 
 pub seeks_none : (C : Setup) (w : List ℕ) → NoneWhole w → Seeks C fresh w
-seeks_none C w none = seeks_from C w [] 0 0 0 (reads_fresh C) none
+seeks_none C w none = seeks_from C w [] 0 0 0 (reads_fresh_exactly C) none
 
 -- ---- the first way passes starts by
 

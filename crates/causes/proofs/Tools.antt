@@ -19,8 +19,8 @@ use Rattle.decoder.proofs.Faithful.{Fit}
 use Rattle.decoder.proofs.Runs.{Acts, acts, new_fit}
 use Rattle.since.specs.Bytes.{grown_since}
 use Rattle.since.specs.Since.{AllBytes, frame_head}
-use Rattle.since.specs.Exactly.{ReadExactly, SaysExactly, goes_on, start_found, start_inside, no_room, no_escape, no_message, frame_ends}
-use Rattle.since.proofs.KeptExactly.{kept, reads_fresh}
+use Rattle.since.specs.Exactly.{ReadExactly, SaysExactly, goes_on_exactly, start_found_exactly, start_inside_exactly, no_room_exactly, no_escape_exactly, no_message_exactly, frame_ends_exactly}
+use Rattle.since.proofs.KeptExactly.{kept_exactly, reads_fresh_exactly}
 use Rattle.losses.specs.Loss.{begins_in_start, has_start, cause_of, piece_of, loss_at, LossSaid, lost_is, none_lost, loss_refused, LossAfter, loss_after, is_refusal, hands_out, next_behind, next_loss}
 use Rattle.losses.specs.declared.Loss.{Loss}
 use Rattle.causes.specs.Tools.{Tool, Accounts, AccountsExactly, ends_at_start, pushed_for, buffer_behind, GoodTool}
@@ -159,13 +159,13 @@ module _ (from many : ℕ) (bytes : List ℕ) (ih : LeavesFrom from many bytes) 
   leaves_event : (e : PushEvent) → (push_record d m b).answer ≡ numbered e → ReadExactly (setup d) (grown_since (numbered e) h b) (step (setup d) (state_of d m) b).state → SaysExactly (setup d) g e
       → Leaves n from many d m (b ∷ bytes) (next_behind d m begun h (b ∷ bytes))
   unfolding cause_of frame_head
-  leaves_event e is r goes_on = leaves_on (numbered e) is begun g refl r (omega (arith, long_g, place)) le
-  leaves_event e is r (start_found k x found misses none some c) = leaves_start (k ∷ []) is (let l : length g ≡ length x + 8 = ap length found ∙ simp length-append in omega arith)
-  leaves_event e is r (start_inside k D found clean fits c) = leaves_start (k ∷ []) is (let l : length g ≡ length (frame_head D) + 8 = ap length found ∙ simp length-append in omega arith)
-  leaves_event e is r (no_room f) = leaves_alone 3 [] is refl refl
-  leaves_event e is r (no_escape {a = w} {b = x} {c = y} {d = z} f) = leaves_alone 7 (w ∷ x ∷ y ∷ z ∷ []) is refl refl
-  leaves_event e is r (no_message D f sum aligned wrong) = leaves_alone 8 _ is refl refl
-  leaves_event e is r (frame_ends P f) = leaves_on (numbered e) is (begun + length g) [] refl r (omega (arith, long_g, place)) (omega (arith, le))
+  leaves_event e is r goes_on_exactly = leaves_on (numbered e) is begun g refl r (omega (arith, long_g, place)) le
+  leaves_event e is r (start_found_exactly k x found misses none some c) = leaves_start (k ∷ []) is (let l : length g ≡ length x + 8 = ap length found ∙ simp length-append in omega arith)
+  leaves_event e is r (start_inside_exactly k D found clean fits c) = leaves_start (k ∷ []) is (let l : length g ≡ length (frame_head D) + 8 = ap length found ∙ simp length-append in omega arith)
+  leaves_event e is r (no_room_exactly f) = leaves_alone 3 [] is refl refl
+  leaves_event e is r (no_escape_exactly {a = w} {b = x} {c = y} {d = z} f) = leaves_alone 7 (w ∷ x ∷ y ∷ z ∷ []) is refl refl
+  leaves_event e is r (no_message_exactly D f sum aligned wrong) = leaves_alone 8 _ is refl refl
+  leaves_event e is r (frame_ends_exactly P f) = leaves_on (numbered e) is (begun + length g) [] refl r (omega (arith, long_g, place)) (omega (arith, le))
 
 leaves_from : (from many : ℕ) (bytes : List ℕ) → LeavesFrom from many bytes
 unfolding behind next_behind act_state answer_state act
@@ -178,7 +178,7 @@ leaves_from from many [] n d m begun h fit reads place le all = by_final (finali
     by_final (refusal k v) = record { more = 0; counted = counted_last many from (loss_at true (refusal k v) begun h h) (omega (arith, place, all)) ∙ omega (arith, place); left = refl }
 leaves_from from many (b ∷ bytes) n d m begun h fit reads place le all =
     let s : State = state_of d m in
-    let o = kept (setup d) h s b reads in
+    let o = kept_exactly (setup d) h s b reads in
     leaves_event from many bytes (leaves_from from many bytes) n d m begun h b fit place le (all ∙ omega arith) (step (setup d) s b).event (acts d m (push b) fit).answer o.reads o.told
 
 -- ---- ours
@@ -192,7 +192,7 @@ our_tool = record {
   pushes = λ recording way m from fine known le.
       let C : Setup = in_way way (length m) in
       let bytes : List ℕ = drop from recording in
-      let k = leaves_from from (length bytes) bytes 0 (new_record C) m from [] (new_fit C m (known_is way known) refl le) (reads_fresh C) (omega arith) (omega arith) (omega arith) in
+      let k = leaves_from from (length bytes) bytes 0 (new_record C) m from [] (new_fit C m (known_is way known) refl le) (reads_fresh_exactly C) (omega arith) (omega arith) (omega arith) in
       let e : pushed_for (length bytes) from (new_next recording way m from).said ≡ k.more = k.counted ∙ omega arith in
       rw (loss_new recording way m from known le, e) k.left;
 }

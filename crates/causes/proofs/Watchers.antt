@@ -18,7 +18,7 @@ use Rattle.decoder.proofs.Faithful.{Fit, Steps, push_is_step}
 use Rattle.decoder.proofs.Runs.{acts, new_fit, run_new}
 use Rattle.decoder_slice.specs.Slice.{says_nothing}
 use Rattle.since.specs.Bytes.{grown_since}
-use Rattle.since.proofs.KeptExactly.{reads_fresh, kept}
+use Rattle.since.proofs.KeptExactly.{reads_fresh_exactly, kept_exactly}
 use Rattle.losses.specs.Loss.{lost_is, none_lost, is_refusal, cause_of}
 use Rattle.losses.specs.Watch.{WatchSaid, quietly, kept_over, lost_over, WatchAfter, watch_after, watch_new, over_of, moved_on, watch_behind, sight_at, watches_from, bad_watch, watch_slice, said_at_end, watch_end, loss_seen, watch_refused}
 use Rattle.losses.specs.declared.Loss.{Loss}
@@ -134,7 +134,7 @@ slice_loud_lem b c rest n w m at h k q seen' =
     let a : After = push_record w.decoder m b in
     let o : Out = step (setup w.decoder) (state_of w.decoder m) b in
     let is : a.answer ≡ numbered o.event = (push_is_step w.decoder m b k.fit).answer in
-    let told = (kept (setup w.decoder) h (state_of w.decoder m) b k.reads).told in
+    let told = (kept_exactly (setup w.decoder) h (state_of w.decoder m) b k.reads).told in
     let loud : Loud (suc w.pushed) (sight_at w a.answer) = subst (λ (x : DecoderAnswer). Loud (suc w.pushed) (sight_at w x)) (sym is) (sight_loud w m at h k b o.event told (ap says_nothing (sym is) ∙ q)) in
     subst (λ (j : ℕ). SliceOf w m (b ∷ c) rest n (watch_after (sight_at w a.answer) (watch_behind w a) j a.memory)) (let i : n + suc 0 ≡ suc n = omega arith in i)
     (slice_loud (sight_at w a.answer) (watch_behind w a) a.memory _ _ 0 (subst (λ (j : ℕ). Loud j (sight_at w a.answer)) (let i : suc w.pushed ≡ w.pushed + suc 0 = omega arith in i) loud) (omega arith) (push_loud w m at h k b q)
@@ -362,7 +362,7 @@ pub watches_as_called : WatchesAsCalled our_watcher
 watches_as_called recording way m chunks fine small known le join =
     let C : Setup = in_way way (length m) in
     let w : Watch = watch_new (length m) way 0 in
-    let k : WatchReads w m 0 [] = record { tracks = tracks_new (new_record C) 0; fit = new_fit C m (known_is way known) refl le; reads = reads_fresh C } in
+    let k : WatchReads w m 0 [] = record { tracks = tracks_new (new_record C) 0; fit = new_fit C m (known_is way known) refl le; reads = reads_fresh_exactly C } in
     let x : SeenBytes = seen_over w m recording in
     let s = seen_as_lem recording w m 0 [] k in
     let all : AllSeen way m w m [] chunks recording = subst (AllSeen way m w m [] chunks) join (watches_from_lem (suc (length (joined chunks) + length chunks)) way m [] chunks w m 0 [] k (new_stands way m) (rw join (omega arith)) (omega arith)) in

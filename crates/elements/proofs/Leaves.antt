@@ -18,7 +18,7 @@ use Rattle.numbers.specs.Numbers.{bytes_at_claim, is_number, raw_from, raw_at, u
 use Rattle.octet_string.specs.Strings.{is_octets, octets_at}
 use Rattle.octet_string.specs.Optional.{absent_at, optional}
 use Rattle.value.specs.Values.{is_bare_time, time_at}
-use Rattle.elements.proofs.Spans.{EndsHere, none_ends, another_ends, leaf_of, head_of, Walks}
+use Rattle.elements.proofs.Spans.{EndsHere, none_ends, another_ends, leaf_of, head_of_lem, Walks}
 
 octets_no_list : (ty : Ty) → is_octets ty ≡ true → is_list ty ≡ false
 octets_no_list OctetString e = refl
@@ -95,7 +95,7 @@ unfolding time_at
 time_walks d s at =
     ok_then _ _ (ok_any (tlf_at s at)) (λ t n e. ok_cond (is_bare_time t) _ _ (λ g. unsigned_walks 4 (suc d) s at)
     (λ g. ok_guard _ _ _ (λ g₂. ok_then _ _ (unsigned_walks 1 d s n) (λ tag n₁ w₁. ok_guard _ _ _ (λ g₃.
-    ok_weak (λ v n₂ w₂. head_of 2 e g₂ d n₂ (another_ends w₁ (another_ends w₂ none_ends))) (unsigned_walks 4 d s n₁))))))
+    ok_weak (λ v n₂ w₂. head_of_lem 2 e g₂ d n₂ (another_ends w₁ (another_ends w₂ none_ends))) (unsigned_walks 4 d s n₁))))))
 
 pub opt_octets_walk : (d : ℕ) (s : List ℕ) (at : ℕ) → Ok (Walks d s at) (optional octets_at s at)
 opt_octets_walk d s at = optional_walks octets_at d s at (octets_walks d s at)

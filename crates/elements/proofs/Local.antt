@@ -79,8 +79,8 @@ tlf_by b len m ty t u q zs r e g l o =
     let y : q + suc m - q ≡ suc m = omega arith in
     rw (lt-ltb q (length u) h, rest_byte r, e, g, (rest_next r).bytes, l, x, y) (o q (q + suc m))
 
-rest_of : (u : List ℕ) (q b : ℕ) (zs : List ℕ) → drop q u ≡ b ∷ zs → Rest u q (b ∷ zs)
-rest_of u q b zs e = record { inside = omega (arith, length-drop q u, ap length e); bytes = e }
+rest_of_lem : (u : List ℕ) (q b : ℕ) (zs : List ℕ) → drop q u ≡ b ∷ zs → Rest u q (b ∷ zs)
+rest_of_lem u q b zs e = record { inside = omega (arith, length-drop q u, ap length e); bytes = e }
 
 same_by : (s : List ℕ) (p b next end len : ℕ) (ty : Ty) (t : TypeLengthField) → p < length s → b ≡ get_or s p 0 → next ≡ p + 1 → next ≤ end → ty_of (type_bits b) ≡ some ty → not (is_boolean ty && more_follow b) ≡ true
     → SameLength (drop next s) next (more_follow b) (length_bits b) len end → ((start n : ℕ) → less_own ty (end - p) len start n ≡ got t n) → SameTlf s p t end
@@ -88,7 +88,7 @@ same_by s p b next end len ty t h eb en le e g l o u q k =
     let z : end - p ≡ suc (end - next) = omega arith in
     let d : drop p s ≡ b ∷ drop next s = rw (eb, en) (from_place s p h) in
     let w = starts_with (end - next) b (drop next s) (drop q u) (rw (d, z) at k) in
-    rw z (tlf_by b len (end - next) ty t u q w.tail (rest_of u q b w.tail w.is) e g (l (length u) q w.tail (q + 1) w.same) (rw z at o))
+    rw z (tlf_by b len (end - next) ty t u q w.tail (rest_of_lem u q b w.tail w.is) e g (l (length u) q w.tail (q + 1) w.same) (rw z at o))
 
 pub tlf_same : (s : List ℕ) (p : ℕ) → Ok (SameTlf s p) (tlf_at s p)
 unfolding tlf_at

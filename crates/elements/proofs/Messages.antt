@@ -9,7 +9,7 @@ use Rattle.refusals.proofs.Read.{Ok, ok_any, ok_got, ok_guard, ok_cond, ok_weak,
 use Rattle.message.specs.Messages.{ListStart, Body, list_body, list_start_at, list_end_at, content_at, body_at, start_at}
 use Rattle.trailer.specs.Trailer.{trailer_at}
 use Rattle.events.specs.Message.{entries_at, content_of, message_at}
-use Rattle.elements.proofs.Spans.{EndsHere, SeveralEnd, none_ends, another_ends, Walks, list_of, head_walks}
+use Rattle.elements.proofs.Spans.{EndsHere, SeveralEnd, none_ends, another_ends, Walks, list_of_lem, head_walks}
 use Rattle.elements.proofs.Leaves.{octets_walks, unsigned_walks, opt_octets_walk, opt_time_walk}
 use Rattle.elements.proofs.Fields.{entry_walks, open_walks, close_walks, end_walks}
 
@@ -45,7 +45,7 @@ start_walks d s at =
     ok_then _ _ (opt_octets_walk (in_list d) s n₂) (λ name n₃ w₃.
     ok_then _ _ (opt_time_walk (in_entries d) s n₃) (λ time n₄ w₄.
     ok_then _ _ (ok_any (tlf_at s n₄)) (λ t n₅ e. ok_guard _ _ _ (λ g.
-    ok_got _ _ (λ m₁ m₂ m₃ r x y. h (in_list d) m₃ (another_ends w₁ (another_ends w₂ (another_ends w₃ (another_ends w₄ (another_ends (list_of e g r) (another_ends x (another_ends y none_ends)))))))))))))))
+    ok_got _ _ (λ m₁ m₂ m₃ r x y. h (in_list d) m₃ (another_ends w₁ (another_ends w₂ (another_ends w₃ (another_ends w₄ (another_ends (list_of_lem e g r) (another_ends x (another_ends y none_ends)))))))))))))))
 
 -- behind a body, or a list's head in it, the content that follows makes an element of depth D that began at `start`
 pub record OpensElement (d D : ℕ) (s : List ℕ) (start at : ℕ) (b : Body Span) : Type 0 where

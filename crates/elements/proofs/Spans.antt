@@ -37,9 +37,9 @@ unfolding element_by item_at behind_item then
 leaf_of {d} {s} {at} e f l = record { leaves = 1; walks = rw (element_is d s at, no_mark s at e, e, f, l) }
 
 -- a list of the elements behind its length bytes
-pub list_of : {d : ℕ} {s : List ℕ} {at : ℕ} {t : TypeLengthField} {n m : ℕ} → tlf_at s at ≡ got t n → is_list t.ty ≡ true → SeveralEnd d s t.len n m → EndsHere (suc d) s at m
+pub list_of_lem : {d : ℕ} {s : List ℕ} {at : ℕ} {t : TypeLengthField} {n m : ℕ} → tlf_at s at ≡ got t n → is_list t.ty ≡ true → SeveralEnd d s t.len n m → EndsHere (suc d) s at m
 unfolding element_by item_at behind_item then need
-list_of {d} {s} {at} e f r =
+list_of_lem {d} {s} {at} e f r =
     let (l, w) = run_row r 0 in
     record { leaves = l; walks = rw (element_is (suc d) s at, no_mark s at e, e, f) w }
 
@@ -47,13 +47,13 @@ list_of {d} {s} {at} e f r =
 abbrev pub Heads : ℕ → List ℕ → ℕ → ℕ → Type 0
 Heads k s at n = (d m : ℕ) → SeveralEnd d s k n m → EndsHere (suc d) s at m
 
-pub head_of : (k : ℕ) {s : List ℕ} {at : ℕ} {t : TypeLengthField} {n : ℕ} → tlf_at s at ≡ got t n → is_list_of k t ≡ true → Heads k s at n
-head_of k {s} {at} {t} {n} e g d m r =
-    list_of e (and_left _ (eqb t.len k) g) (rw (eqb-true t.len k (and_right (is_list t.ty) _ g)) r)
+pub head_of_lem : (k : ℕ) {s : List ℕ} {at : ℕ} {t : TypeLengthField} {n : ℕ} → tlf_at s at ≡ got t n → is_list_of k t ≡ true → Heads k s at n
+head_of_lem k {s} {at} {t} {n} e g d m r =
+    list_of_lem e (and_left _ (eqb t.len k) g) (rw (eqb-true t.len k (and_right (is_list t.ty) _ g)) r)
 
 pub head_walks : (k : ℕ) (s : List ℕ) (at : ℕ) → Ok (λ u n. Heads k s at n) (list_of_at k s at)
 unfolding list_of_at
-head_walks k s at = ok_then _ _ (ok_any (tlf_at s at)) (λ t n e. ok_guard _ _ _ (λ g. ok_got _ _ (head_of k e g)))
+head_walks k s at = ok_then _ _ (ok_any (tlf_at s at)) (λ t n e. ok_guard _ _ _ (λ g. ok_got _ _ (head_of_lem k e g)))
 
 -- the element at `at` ends where the reading of it does
 abbrev pub Walks : {A : Type 0} → ℕ → List ℕ → ℕ → A → ℕ → Type 0

@@ -82,8 +82,8 @@ never_by_number (refused f) at n e = let z : ◌≡◌ {A = ℕ} 1 2 = ap walk_k
 
 -- ---- elements that are whole
 
-rest_of : (s : List ℕ) (at : ℕ) (l : List ℕ) → at ≤ length s → drop at s ≡ l → Rest s at l
-rest_of s at l h e = record { inside = h; bytes = e }
+rest_of_lem : (s : List ℕ) (at : ℕ) (l : List ℕ) → at ≤ length s → drop at s ≡ l → Rest s at l
+rest_of_lem s at l h e = record { inside = h; bytes = e }
 
 one_read : (r : Read ℕ) (v n leaves m : ℕ) → (then r λ a i. got (0 + a) i) ≡ got v n → v ≡ leaves → n ≡ m → r ≡ got leaves m
 unfolding then
@@ -107,7 +107,7 @@ none_beyond s at b rest e h = omega (arith, length-drop at s, ap length e, lengt
 stands_walks : (s : List ℕ) (at bytes leaves : ℕ) → length s ≤ limit → ElementStands s at bytes leaves → walk_at s at ≡ walk_is bytes leaves
 unfolding elements_at
 stands_walks s at bytes leaves h w =
-    let r = rest_of s at (w.element ++ w.rest) (none_beyond s at w.element w.rest w.there (some_bytes w.is)) w.there in
+    let r = rest_of_lem s at (w.element ++ w.rest) (none_beyond s at w.element w.rest w.there (some_bytes w.is)) w.there in
     let g = elements_get w.is s at w.rest 0 r in
     let e : element_at deepest s at ≡ got leaves (at + length w.element) =
     one_read (element_at deepest s at) g.value g.next leaves (at + length w.element) g.is (omega (arith, g.has)) (rest_place w.element r g.left) in
@@ -139,7 +139,7 @@ up_to_none (inside_list {b = b} t head content h f few w u) z = absurd (omega (a
 broken_within : (s : List ℕ) (at : ℕ) (f : Refusal) → at ≤ length s → ElementBroken s at f → element_at deepest s at ≡ refused f
 broken_within s at f h b =
     let g = b.begins in
-    let a = arrives g.up_to s at g.rest (rest_of s at (g.before ++ g.rest) h g.there) b.p g.place in
+    let a = arrives g.up_to s at g.rest (rest_of_lem s at (g.before ++ g.rest) h g.there) b.p g.place in
     refused_there a f (item_wrong s b.d b.p f b.judged_to b.wrong)
 
 broken_beyond : (s : List ℕ) (at : ℕ) (f : Refusal) → length s < at → ElementBroken s at f → element_at deepest s at ≡ refused f

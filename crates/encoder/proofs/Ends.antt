@@ -82,8 +82,8 @@ module _ (n : ℤ) (pad crc : ℕ) where
       low (pos n) e = absurd (omega (arith, ltb-true n 0 e))
       low (negsuc n) e = refl
 
-  pub byte_at : (k j : ℕ) → n ≡ pos k → k ≡ j → end_byte (pos j) pad crc ≡ end_byte n pad crc
-  byte_at k j e f = ap (λ (z : ℤ). end_byte z pad crc) (ap pos (sym f) ∙ sym e)
+  pub byte_at_lem : (k j : ℕ) → n ≡ pos k → k ≡ j → end_byte (pos j) pad crc ≡ end_byte n pad crc
+  byte_at_lem k j e f = ap (λ (z : ℤ). end_byte z pad crc) (ap pos (sym f) ∙ sym e)
 
   pub escape_byte : (k : ℕ) → n ≡ pos k → k < 4 → 0x1b ≡ end_byte n pad crc
   escape_byte k e h = small k h ∙ ap (λ (z : ℤ). end_byte z pad crc) (sym e)
@@ -98,7 +98,7 @@ module _ (n : ℤ) (pad crc : ℕ) where
   pub last_byte_claim : (k : ℕ) → n ≡ pos k → last_end n ≡ false → 4 ≤ k → (k ≡ 4 → ⊥) → (k ≡ 5 → ⊥) → (k ≡ 6 → ⊥) → crc / 256 ≡ end_byte n pad crc
   last_byte_claim k e l a b c d =
       let h : k < 8 = leb-false 8 k (ap last_end (sym e) ∙ l) in
-      byte_at k 7 e (omega arith)
+      byte_at_lem k 7 e (omega arith)
 
 pub not_last : (pad : ℕ) → last_end (neg_ℤ (pos pad)) ≡ false
 not_last zero = refl

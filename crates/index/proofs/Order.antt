@@ -25,7 +25,7 @@ key x y a b = cond (lower x y) true (cond (lower y x) false (ltb a b))
 
 -- not behind: by name, or the names are the same and it starts no later
 data KeyUpto (x y : List ℕ) (a b : ℕ) : Type 0 where
-  by_name : Lower x y → KeyUpto x y a b
+  by_name_lem : Lower x y → KeyUpto x y a b
   by_place_claim : x ≡ y → a ≤ b → KeyUpto x y a b
 
 key_name : (x y : List ℕ) (a b : ℕ) → Lower x y → key x y a b ≡ true
@@ -41,21 +41,21 @@ unfolding key
 key_behind x y a b r = rw (not_lower x y (λ t. lower_asym t r), true_lower r)
 
 upto_key : (x y : List ℕ) (a b : ℕ) → KeyUpto x y a b → key y x b a ≡ false
-upto_key x y a b (by_name r) = key_behind y x b a r
+upto_key x y a b (by_name_lem r) = key_behind y x b a r
 upto_key x y a b (by_place_claim e h) = key_place y x b a (sym e) ∙ le-ltb b a h
 
 key_upto : (x y : List ℕ) (a b : ℕ) → key y x b a ≡ false → KeyUpto x y a b
 key_upto x y a b f = go (comparing x y)
   where
     go : Compared x y → KeyUpto x y a b
-    go (L.less_name r) = by_name r
+    go (L.less_name r) = by_name_lem r
     go (L.equal_names e) = by_place_claim e (ltb-false b a (sym (key_place y x b a (sym e)) ∙ f))
     go (L.greater_name r) = absurd (true≢false (sym (key_name y x b a r) ∙ f))
 
 upto_trans : (x y z : List ℕ) (a b c : ℕ) → KeyUpto x y a b → KeyUpto y z b c → KeyUpto x z a c
-upto_trans x y z a b c (by_name r) (by_name t) = by_name (lower_trans r t)
-upto_trans x y z a b c (by_name r) (by_place_claim e h) = by_name (subst (λ (w : List ℕ). Lower x w) e r)
-upto_trans x y z a b c (by_place_claim e h) (by_name t) = by_name (subst (λ (w : List ℕ). Lower w z) (sym e) t)
+upto_trans x y z a b c (by_name_lem r) (by_name_lem t) = by_name_lem (lower_trans r t)
+upto_trans x y z a b c (by_name_lem r) (by_place_claim e h) = by_name_lem (subst (λ (w : List ℕ). Lower x w) e r)
+upto_trans x y z a b c (by_place_claim e h) (by_name_lem t) = by_name_lem (subst (λ (w : List ℕ). Lower w z) (sym e) t)
 upto_trans x y z a b c (by_place_claim e h) (by_place_claim f i) = by_place_claim (e ∙ f) (omega arith)
 
 key_asym : (x y : List ℕ) (a b : ℕ) → key x y a b ≡ true → key y x b a ≡ false

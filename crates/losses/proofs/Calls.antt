@@ -13,7 +13,7 @@ use Rattle.decoder.proofs.Faithful.{Fit}
 use Rattle.decoder.proofs.Runs.{new_fit}
 use Rattle.decoder.specs.Push.{in_way, finalized}
 use Rattle.decoder.specs.Record.{new_record, unknown_way, bad_decoder, wrong_buffer, finalize_record}
-use Rattle.since.proofs.KeptExactly.{reads_fresh}
+use Rattle.since.proofs.KeptExactly.{reads_fresh_exactly}
 use Rattle.losses.specs.Loss.{LossSaid, loss_after, lost_is, none_lost, loss_refused, next_behind, next_loss}
 use Rattle.losses.specs.Watch.{WatchSaid, quietly, kept_over, lost_over, watch_refused, WatchAfter, after_watch, watch_new, watch_slice, watches_from, EndAfter, said_at_end, watch_end}
 use Rattle.losses.specs.Cut.{next_seen}
@@ -69,7 +69,7 @@ module _ (recording : List ℕ) (way : ℕ) (m : List ℕ) (from : ℕ) where
       new_reads = record {
         tracks = tracks_new (new_record (in_way way (length m))) from;
         fit = new_fit (in_way way (length m)) m known refl (ltb-false 1048576 (length m) short);
-        reads = reads_fresh (in_way way (length m));
+        reads = reads_fresh_exactly (in_way way (length m));
       }
 
       pub new_next_lem : next_seen (watch_new (length m) way from) m (drop from recording) ≡ next_loss recording way m from

@@ -19,8 +19,8 @@ use Rattle.decoder_slice.specs.Slice.{says_nothing}
 use Rattle.decoder_slice.proofs.Taken.{is_nothing}
 use Rattle.since.specs.Bytes.{grown_since}
 use Rattle.since.specs.Since.{frame_head}
-use Rattle.since.specs.Exactly.{ReadExactly, SaysExactly, start_found, start_inside}
-use Rattle.since.proofs.KeptExactly.{KeptExactly, kept}
+use Rattle.since.specs.Exactly.{ReadExactly, SaysExactly, start_found_exactly, start_inside_exactly}
+use Rattle.since.proofs.KeptExactly.{KeptExactly, kept_exactly}
 use Rattle.losses.specs.Loss.{begins_in_start, has_start, cause_of, piece_of, loss_over, loss_at, loss_after, lost_is, none_lost, is_refusal, hands_out, next_behind}
 use Rattle.losses.specs.Watch.{no_look, over_of, look_behind, loss_seen, watched, moved_on, watch_behind}
 use Rattle.losses.specs.Cut.{next_seen}
@@ -37,8 +37,8 @@ pub record WatchReads (w : Watch) (m : List ℕ) (begun : ℕ) (h : List ℕ) : 
 -- ---- a DiscardedBytes comes with the last byte of a start
 
 says_start : {C : Setup} {w : List ℕ} {k : ℕ} → SaysExactly C w (discarded k) → EndsInStart w
-says_start (start_found k x is p q r s) = record { before = x; is = is }
-says_start (start_inside k D is p q r) = record { before = frame_head D; is = is }
+says_start (start_found_exactly k x is p q r s) = record { before = x; is = is }
+says_start (start_inside_exactly k D is p q r) = record { before = frame_head D; is = is }
 
 -- ---- a push, by its event
 
@@ -95,7 +95,7 @@ module _ (w : Watch) (m : List ℕ) (begun : ℕ) (h : List ℕ) (k : WatchReads
   steps = push_is_step w.decoder m b k.fit
 
   said : KeptExactly (setup w.decoder) h b out
-  said = kept (setup w.decoder) h (state_of w.decoder m) b k.reads
+  said = kept_exactly (setup w.decoder) h (state_of w.decoder m) b k.reads
 
   -- its answer is that of an event
   pub push_event : (e : PushEvent) × (pushed.answer ≡ numbered e)

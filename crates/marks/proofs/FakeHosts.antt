@@ -80,9 +80,9 @@ only_answers_run : AnswersAlike only_answers → ⊥
 unfolding answers act unpack_of pack_into bad_decoder packed_in packed_bytes low_first record_in number_at_claim state_in same push_packed reset_packed push_record reset_record reset_count pushed wrong_buffer wrote step searching second_of
 only_answers_run h = let n : ◌≡◌ {A = ℕ} 0 1 = ap second_of (h (sized 8) eight_bytes (push 0 ∷ reset ∷ []) (is_first refl) (omega arith) (zeros_bytes 8) (omega arith, tt)).0 in omega (arith, n)
 
-says_nothing : Serves says_nothing_ever → ⊥
+says_nothing_lem : Serves says_nothing_ever → ⊥
 unfolding unpack_of pack_into bad_decoder packed_in packed_bytes low_first record_in number_at_claim state_in same code_of
-says_nothing h =
+says_nothing_lem h =
     let n : ◌≡◌ {A = ℕ} 100 5 = ap (λ (g : Gave (List ℕ)). code_of g.answer) ((h new_bytes [] host_new 0 refl).2 (λ e. let z : ◌≡◌ {A = ℕ} 0 8 = e in omega (arith, z))) in
     omega (arith, n)
 
@@ -125,7 +125,7 @@ fall_hosts =
       only_answers_claim = only_answers_claim;
       only_answers_slice = only_answers_slice;
       only_answers_run = only_answers_run;
-      says_nothing = says_nothing;
+      says_nothing = says_nothing_lem;
       hands_nothing_claim = hands_nothing_claim;
       clears_refused_claim = clears_refused_claim;
       grows_output_claim = grows_output_claim;

@@ -75,13 +75,13 @@ scaler_back none h = refl
 
 -- ---- events
 
-pub end_back : (e : ListEnd Span) → event_in (with_zeros 24 (end_words e)) ≡ end_event e
+pub end_back_heard : (e : ListEnd Span) → event_in (with_zeros 24 (end_words e)) ≡ end_event e
 unfolding with_zeros
-end_back e = rw (span_words_lem e.list_signature, number_words e.act_gateway_time, span_back e.list_signature, number_back_lem e.act_gateway_time)
+end_back_heard e = rw (span_words_lem e.list_signature, number_words e.act_gateway_time, span_back e.list_signature, number_back_lem e.act_gateway_time)
 
-body_back : (m : MessageStart Span) (b : Body Span) → m.message_body ≡ b → event_in (with_zeros 24 (start_words m)) ≡ start_event m
+body_back_heard : (m : MessageStart Span) (b : Body Span) → m.message_body ≡ b → event_in (with_zeros 24 (start_words m)) ≡ start_event m
 unfolding with_zeros
-body_back m (open_body b) e =
+body_back_heard m (open_body b) e =
     rw (
       e,
       span_words_lem b.codepage,
@@ -93,8 +93,8 @@ body_back m (open_body b) e =
       number_back_lem b.ref_time,
       number_back_lem b.sml_version,
     )
-body_back m (close_body b) e = rw (e, span_words_lem b.global_signature, span_back b.global_signature)
-body_back m (list_body b) e =
+body_back_heard m (close_body b) e = rw (e, span_words_lem b.global_signature, span_back b.global_signature)
+body_back_heard m (list_body b) e =
     rw (e, span_words_lem b.client_id, span_words_lem b.list_name, number_words b.act_sensor_time, span_back b.client_id, span_back b.list_name, number_back_lem b.act_sensor_time)
 
 -- a value, in the five words that it takes
@@ -166,8 +166,8 @@ Tellable (alone n) = IsRefusal n
 
 pub said_words_back : (x : Said) → Tellable x → ((f : Refusal) → x ≡ failed f → IsRefusal f.number) → said_by (reader_no x) (event_words x) ≡ x
 unfolding with_zeros
-said_words_back (event (start_event m)) h g = ap event (body_back m m.message_body refl)
-said_words_back (event (end_event e)) h g = ap event (end_back e)
+said_words_back (event (start_event m)) h g = ap event (body_back_heard m m.message_body refl)
+said_words_back (event (end_event e)) h g = ap event (end_back_heard e)
 said_words_back (event (entry_event e)) h g = ap event (entry_words_back e h)
 said_words_back no_event h g = refl
 said_words_back (failed f) h g = rw (not_good f.number (g f refl), not_finished f.number (g f refl))

@@ -25,7 +25,7 @@ use Rattle.one_call.proofs.Runs.{failed_or}
 use Rattle.one_call.proofs.Readers.{ours_good}
 use Rattle.marks.specs.Events.{says_at}
 use Rattle.marks.specs.Library.{Library, our_library, lent_at, heard_event, HearsReader, whole_heard, end_among, end_heard, whole_reader_by, HearsWhole, EntriesHeard, RowsHeard}
-use Rattle.marks.proofs.HeardEvent.{IsRefusal, said_words_back, end_back, heard_is, stands_refuses}
+use Rattle.marks.proofs.HeardEvent.{IsRefusal, said_words_back, end_back_heard, heard_is, stands_refuses}
 
 -- ---- the words
 
@@ -65,7 +65,7 @@ start_heard (refused_alone n) h = heard_is _ _ _ (said_words_back (alone n) h (�
 
 end_words_heard : (o : Option (ListEnd Span)) → end_heard (event_words (list_end_said o)) ≡ o
 unfolding with_zeros
-end_words_heard (some e) = ap end_among (end_back e)
+end_words_heard (some e) = ap end_among (end_back_heard e)
 end_words_heard none = refl
 
 end_heard_lem : (x : WholeSaid) → end_heard (event_words (end_said x)) ≡ end_told_by x

@@ -59,23 +59,23 @@ body_from (open_body b) = BodyC.OpenResponse (open_from b)
 body_from (close_body b) = BodyC.CloseResponse (close_from b)
 body_from (list_body b) = BodyC.GetListResponse (list_start_from b)
 
-body_back : (x : MessageBody) → body_from (message_body x) ≡ x
+body_back_lem : (x : MessageBody) → body_from (message_body x) ≡ x
 unfolding body_from
-body_back (BodyC.OpenResponse x) = ap BodyC.OpenResponse (open_back_lem x)
-body_back (BodyC.CloseResponse x) = ap BodyC.CloseResponse (close_back_lem x)
-body_back (BodyC.GetListResponse x) = ap BodyC.GetListResponse (list_start_back x)
+body_back_lem (BodyC.OpenResponse x) = ap BodyC.OpenResponse (open_back_lem x)
+body_back_lem (BodyC.CloseResponse x) = ap BodyC.CloseResponse (close_back_lem x)
+body_back_lem (BodyC.GetListResponse x) = ap BodyC.GetListResponse (list_start_back x)
 
 pub start_from : MessageStart Span → Starts.MessageStart
 start_from x = record { transaction_id = x.transaction_id; group_no = x.group_no; abort_on_error = x.abort_on_error; message_body = body_from x.message_body }
 
-pub start_back : (x : Starts.MessageStart) → start_from (message_start x) ≡ x
+pub start_back_lem : (x : Starts.MessageStart) → start_from (message_start x) ≡ x
 unfolding start_from
-start_back x =
+start_back_lem x =
     λ i. record {
       transaction_id = x.transaction_id;
       group_no = x.group_no;
       abort_on_error = x.abort_on_error;
-      message_body = body_back x.message_body i;
+      message_body = body_back_lem x.message_body i;
     }
 
 pub list_start_one : Injective list_start_read
@@ -87,11 +87,11 @@ list_end_one =
     reads list_end_read ListEndR.Is ListEndR.Refused list_end list_end_from list_end_back (λ r. elim r as (λ k. OneReading ListEndR.Is ListEndR.Refused list_end k (list_end_read k)) [ ListEndR.Is x next ↦ it_is x next | ListEndR.Refused f ↦ it_lost f ])
 
 pub body_one : Injective body_read
-body_one = reads body_read BodyR.Is BodyR.Refused message_body body_from body_back (λ r. elim r as (λ k. OneReading BodyR.Is BodyR.Refused message_body k (body_read k)) [ BodyR.Is x next ↦ it_is x next | BodyR.Refused f ↦ it_lost f ])
+body_one = reads body_read BodyR.Is BodyR.Refused message_body body_from body_back_lem (λ r. elim r as (λ k. OneReading BodyR.Is BodyR.Refused message_body k (body_read k)) [ BodyR.Is x next ↦ it_is x next | BodyR.Refused f ↦ it_lost f ])
 
 pub start_one : Injective start_read
 start_one =
-    reads start_read StartR.Is StartR.Refused message_start start_from start_back (λ r. elim r as (λ k. OneReading StartR.Is StartR.Refused message_start k (start_read k)) [ StartR.Is x next ↦ it_is x next | StartR.Refused f ↦ it_lost f ])
+    reads start_read StartR.Is StartR.Refused message_start start_from start_back_lem (λ r. elim r as (λ k. OneReading StartR.Is StartR.Refused message_start k (start_read k)) [ StartR.Is x next ↦ it_is x next | StartR.Refused f ↦ it_lost f ])
 
 pub views : Views
 views =

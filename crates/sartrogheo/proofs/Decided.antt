@@ -11,67 +11,67 @@ equal : {R : Type 0} (x : R) → One (λ (r : R). r ≡ x)
 equal x r r' h h' = h ∙ sym h'
 
 -- the content of the thing at place i, and of a single number there
-lent_at : ℕ → Reply → List ℕ
-lent_at i x = get_or x.lent i []
+lent_at_lem : ℕ → Reply → List ℕ
+lent_at_lem i x = get_or x.lent i []
 
 single : ℕ → Reply → ℕ
-single i x = get_or (lent_at i x) 0 0
+single i x = get_or (lent_at_lem i x) 0 0
 
 number_of : Reply → ℕ
 number_of x = x.number
 
 module _ (x : Reply) where
   one_list : One (λ (r : Beside ℕ (List ℕ)). reply r.answer (r.lent ∷ []) ≡ x)
-  unfolding lent_at number_of
-  one_list r r' h h' = λ i. record { answer = ap number_of (h ∙ sym h') i; lent = ap (lent_at 0) (h ∙ sym h') i }
+  unfolding lent_at_lem number_of
+  one_list r r' h h' = λ i. record { answer = ap number_of (h ∙ sym h') i; lent = ap (lent_at_lem 0) (h ∙ sym h') i }
 
   one_number : One (λ (r : Beside ℕ ℕ). reply r.answer ((r.lent ∷ []) ∷ []) ≡ x)
-  unfolding lent_at single number_of
+  unfolding lent_at_lem single number_of
   one_number r r' h h' = λ i. record { answer = ap number_of (h ∙ sym h') i; lent = ap (single 0) (h ∙ sym h') i }
 
   two_lists : One (λ (r : Beside (Beside ℕ (List ℕ)) (List ℕ)). reply r.answer.answer (r.answer.lent ∷ r.lent ∷ []) ≡ x)
-  unfolding lent_at number_of
-  two_lists r r' h h' = λ i. record { answer = record { answer = ap number_of (h ∙ sym h') i; lent = ap (lent_at 0) (h ∙ sym h') i }; lent = ap (lent_at 1) (h ∙ sym h') i }
+  unfolding lent_at_lem number_of
+  two_lists r r' h h' = λ i. record { answer = record { answer = ap number_of (h ∙ sym h') i; lent = ap (lent_at_lem 0) (h ∙ sym h') i }; lent = ap (lent_at_lem 1) (h ∙ sym h') i }
 
   list_number : One (λ (r : Beside (Beside ℕ (List ℕ)) ℕ). reply r.answer.answer (r.answer.lent ∷ (r.lent ∷ []) ∷ []) ≡ x)
-  unfolding lent_at single number_of
-  list_number r r' h h' = λ i. record { answer = record { answer = ap number_of (h ∙ sym h') i; lent = ap (lent_at 0) (h ∙ sym h') i }; lent = ap (single 1) (h ∙ sym h') i }
+  unfolding lent_at_lem single number_of
+  list_number r r' h h' = λ i. record { answer = record { answer = ap number_of (h ∙ sym h') i; lent = ap (lent_at_lem 0) (h ∙ sym h') i }; lent = ap (single 1) (h ∙ sym h') i }
 
   three_lists : One (λ (r : Beside (Beside (Beside ℕ (List ℕ)) (List ℕ)) (List ℕ)). reply r.answer.answer.answer (r.answer.answer.lent ∷ r.answer.lent ∷ r.lent ∷ []) ≡ x)
-  unfolding lent_at number_of
+  unfolding lent_at_lem number_of
   three_lists r r' h h' = λ i.
       record {
-        answer = record { answer = record { answer = ap number_of (h ∙ sym h') i; lent = ap (lent_at 0) (h ∙ sym h') i }; lent = ap (lent_at 1) (h ∙ sym h') i };
-        lent = ap (lent_at 2) (h ∙ sym h') i;
+        answer = record { answer = record { answer = ap number_of (h ∙ sym h') i; lent = ap (lent_at_lem 0) (h ∙ sym h') i }; lent = ap (lent_at_lem 1) (h ∙ sym h') i };
+        lent = ap (lent_at_lem 2) (h ∙ sym h') i;
       }
 
   slice_told_all : One (λ (r : Beside (Beside (Beside (Beside ℕ (List ℕ)) (List ℕ)) ℕ) (List ℕ)). reply r.answer.answer.answer.answer (r.answer.answer.answer.lent ∷ r.answer.answer.lent ∷ (r.answer.lent ∷ []) ∷ r.lent ∷ []) ≡ x)
-  unfolding lent_at single number_of
+  unfolding lent_at_lem single number_of
   slice_told_all r r' h h' = λ i.
       record {
         answer =
             record {
-              answer = record { answer = record { answer = ap number_of (h ∙ sym h') i; lent = ap (lent_at 0) (h ∙ sym h') i }; lent = ap (lent_at 1) (h ∙ sym h') i };
+              answer = record { answer = record { answer = ap number_of (h ∙ sym h') i; lent = ap (lent_at_lem 0) (h ∙ sym h') i }; lent = ap (lent_at_lem 1) (h ∙ sym h') i };
               lent = ap (single 2) (h ∙ sym h') i;
             };
-        lent = ap (lent_at 3) (h ∙ sym h') i;
+        lent = ap (lent_at_lem 3) (h ∙ sym h') i;
       }
 
   watch_told_all : One (λ (r : Beside (Beside (Beside (Beside (Beside ℕ (List ℕ)) (List ℕ)) (List ℕ)) ℕ) (List ℕ)).
       reply r.answer.answer.answer.answer.answer (r.answer.answer.answer.answer.lent ∷ r.answer.answer.answer.lent ∷ r.answer.answer.lent ∷ (r.answer.lent ∷ []) ∷ r.lent ∷ []) ≡ x)
-  unfolding lent_at single number_of
+  unfolding lent_at_lem single number_of
   watch_told_all r r' h h' = λ i.
       record {
         answer =
             record {
               answer =
                   record {
-                    answer = record { answer = record { answer = ap number_of (h ∙ sym h') i; lent = ap (lent_at 0) (h ∙ sym h') i }; lent = ap (lent_at 1) (h ∙ sym h') i };
-                    lent = ap (lent_at 2) (h ∙ sym h') i;
+                    answer = record { answer = record { answer = ap number_of (h ∙ sym h') i; lent = ap (lent_at_lem 0) (h ∙ sym h') i }; lent = ap (lent_at_lem 1) (h ∙ sym h') i };
+                    lent = ap (lent_at_lem 2) (h ∙ sym h') i;
                   };
               lent = ap (single 3) (h ∙ sym h') i;
             };
-        lent = ap (lent_at 4) (h ∙ sym h') i;
+        lent = ap (lent_at_lem 4) (h ∙ sym h') i;
       }
 
 pub decided : Decided

@@ -48,8 +48,8 @@ values_told (InvalidEsc a b c d) p = refl
 values_told (InvalidMessage read computed misaligned n) p = refl
 
 -- the values of an event that is known
-pub values_of : (e f : Event) (v : List ℕ) (len : ℕ) → e ≡ f → sets v 0 (event_values f len) ≡ sets v 0 (event_values e len)
-values_of e f v len is = ap (λ (g : Event). sets v 0 (event_values g len)) (sym is)
+pub values_of_lem : (e f : Event) (v : List ℕ) (len : ℕ) → e ≡ f → sets v 0 (event_values f len) ≡ sets v 0 (event_values e len)
+values_of_lem e f v len is = ap (λ (g : Event). sets v 0 (event_values g len)) (sym is)
 
 -- ---- the fill
 

@@ -171,10 +171,10 @@ ends_has e = record { before = e.before; behind = []; is = e.is ∙ rw (append-n
 pub has_more : {h : List ℕ} (l : List ℕ) → HasStart h → HasStart (h ++ l)
 has_more l e = record { before = e.before; behind = e.behind ++ l; is = rw (e.is, append_assoc e.before (start_seq ++ e.behind) l, append_assoc start_seq e.behind l) }
 
-last_of : (x : ℕ) (l : List ℕ) → (i : List ℕ) × (z : ℕ) × (x ∷ l ≡ i ++ z ∷ [])
-last_of x [] = ([], x, refl)
-last_of x (y ∷ l) =
-    let (i, z, e) = last_of y l in
+last_of_lem : (x : ℕ) (l : List ℕ) → (i : List ℕ) × (z : ℕ) × (x ∷ l ≡ i ++ z ∷ [])
+last_of_lem x [] = ([], x, refl)
+last_of_lem x (y ∷ l) =
+    let (i, z, e) = last_of_lem y l in
     (x ∷ i, z, ap (λ (k : List ℕ). x ∷ k) e)
 
 -- one that lies in h and a byte more and not in h ends with that byte
@@ -184,6 +184,6 @@ start_last h b none e = by_behind e.before e.behind e.is
     by_behind : (p q : List ℕ) → h ++ b ∷ [] ≡ p ++ (start_seq ++ q) → EndsInStart (h ++ b ∷ [])
     by_behind p [] is = record { before = p; is = is ∙ rw (append-nil start_seq) }
     by_behind p (x ∷ q) is =
-        let (i, z, last) = last_of x q in
+        let (i, z, last) = last_of_lem x q in
         let s = snoc_same h (p ++ (start_seq ++ i)) b z (is ∙ rw (last, append_assoc p (start_seq ++ i) (z ∷ []), append_assoc start_seq i (z ∷ []))) in
         absurd (none (record { before = p; behind = i; is = s.0 }))

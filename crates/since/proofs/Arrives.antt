@@ -8,7 +8,7 @@ use Rattle.frame.specs.Frame.{esc_seq, missing, escaped, run_behind, same, start
 use Rattle.frame.proofs.Escapes.{run_le}
 use Rattle.decoder.specs.Push.{Mem, State, body, escape, silent, says, begun, tick, opened, put, step, judge}
 use Rattle.decoder.specs.declared.Setup.{Setup}
-use Rattle.since.specs.Exactly.{OpensExactly, tidy, early_end}
+use Rattle.since.specs.Exactly.{OpensExactly, tidy_exactly, early_end_exactly}
 use Rattle.since.proofs.Rules.{Silent, stop, silent_on, and_then, step_judge}
 use Rattle.since.proofs.Inside.{begins}
 use Rattle.since.proofs.Feeds.{feed, puts, reads_back, puts_is}
@@ -165,12 +165,12 @@ from_early C m a k few le al fit =
 
 -- from where the frame begins
 pub arrives_at : (C : Setup) (D l : List ℕ) → OpensExactly D l → length l ≤ 3 → length D + length l ≤ C.capacity → ArrivesAt C begun (escaped 0 D ++ (esc_seq ++ l)) D l
-arrives_at C D l (tidy clean) few fit =
+arrives_at C D l (tidy_exactly clean) few fit =
     let s = stored_data C D clean (omega arith) in
     let n : length s.m.stored ≡ length D = ap length s.has in
     let r = from_tidy C s.m l few (omega arith) in
     record { k = r.k; m = r.m; quietly = and_then s.quietly r.quietly; has = r.has ∙ rw s.has; three = r.three }
-arrives_at C D l (early_end k al e) few fit =
+arrives_at C D l (early_end_exactly k al e) few fit =
     let b = behind_data C D (omega arith) in
     let a : ℕ = run_behind 0 D in
     let n : length b.m.stored + a ≡ length D = simp (length-append, length-replicate) at (ap length b.has) in

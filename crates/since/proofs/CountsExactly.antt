@@ -13,7 +13,7 @@ use Rattle.decoder.proofs.Search.{Known}
 use Rattle.decoder.proofs.Runs.{run_new, leads, new_fit}
 use Rattle.since.specs.Bytes.{since_from}
 use Rattle.since.specs.Exactly.{ReadExactly}
-use Rattle.since.proofs.KeptExactly.{reads_behind}
+use Rattle.since.proofs.KeptExactly.{reads_behind_exactly}
 
 module _ (C : Setup) (m : List ℕ) (os : List Op) (w : Known C) (l : length m ≡ C.capacity) (le : C.capacity ≤ 1048576) where
   abbrev a : After
@@ -22,7 +22,7 @@ module _ (C : Setup) (m : List ℕ) (os : List Op) (w : Known C) (l : length m �
   abbrev since : List ℕ
   since = since_from [] os (run (new_record C) m os)
 
-  pub record_reads : ReadExactly C since (state_of a.decoder a.memory)
-  record_reads =
+  pub record_reads_exactly : ReadExactly C since (state_of a.decoder a.memory)
+  record_reads_exactly =
       let r = leads os (after nothing (new_record C) m) (new_fit C m w l le) in
-      rw (run_new C m os w l le) (subst (ReadExactly C (since_from [] os (run_state C fresh os))) (sym r.view') (reads_behind C os))
+      rw (run_new C m os w l le) (subst (ReadExactly C (since_from [] os (run_state C fresh os))) (sym r.view') (reads_behind_exactly C os))

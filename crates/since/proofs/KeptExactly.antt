@@ -29,7 +29,7 @@ use Rattle.decoder.proofs.Search.{second_matched, matched_most, matched_more, ma
 use Rattle.decoder.proofs.Split.{cases}
 use Rattle.since.specs.Bytes.{grown_since, grown_since_op, since_from}
 use Rattle.since.specs.Since.{frame_head, Misses, none_passed, InSearch, InBody}
-use Rattle.since.specs.Exactly.{OpensExactly, tidy, early_end, InEscapeExactly, ReadExactly, none_for_data, none_behind_escape, SaysExactly, goes_on, start_found, start_inside, no_room, no_escape, no_message, frame_ends}
+use Rattle.since.specs.Exactly.{OpensExactly, tidy_exactly, early_end_exactly, InEscapeExactly, ReadExactly, none_for_data, none_behind_escape, SaysExactly, goes_on_exactly, start_found_exactly, start_inside_exactly, no_room_exactly, no_escape_exactly, no_message_exactly, frame_ends_exactly}
 use Rattle.since.proofs.Lists.{last_four, computed_is, trimmed, three, empty, starts_is, misses_snoc, matched_long, bytes_back, head_none, head_other, run_back, head_esc_seq, head_shift}
 
 pub record KeptExactly (C : Setup) (h : List ℕ) (b : ℕ) (o : Out) : Type 0 where
@@ -41,8 +41,8 @@ longer_since h b = simp length-append (omega arith)
 
 -- ---- a search
 
-pub reads_fresh : (C : Setup) → ReadExactly C [] fresh
-reads_fresh C = record { passed = []; here = refl; most = omega arith; misses = λ w. none_passed; matched = λ w. most_nil; none_whole = λ w. none_in_nil; dropped = refl; long = refl }
+pub reads_fresh_exactly : (C : Setup) → ReadExactly C [] fresh
+reads_fresh_exactly C = record { passed = []; here = refl; most = omega arith; misses = λ w. none_passed; matched = λ w. most_nil; none_whole = λ w. none_in_nil; dropped = refl; long = refl }
 
 reads_begun : (C : Setup) → ReadExactly C start_seq begun
 unfolding run_behind
@@ -50,7 +50,7 @@ reads_begun C = record { here = rw head_none; few = omega arith; clean = refl; f
 
 -- a refusal that leaves a fresh search
 lost : {C : Setup} {h : List ℕ} {b : ℕ} {e : PushEvent} → grown_since (numbered e) h b ≡ [] → SaysExactly C (h ++ b ∷ []) e → KeptExactly C h b (says fresh e)
-lost {C} g t = record { reads = rw g (reads_fresh C); told = t }
+lost {C} g t = record { reads = rw g (reads_fresh_exactly C); told = t }
 
 module _ (C : Setup) (h : List ℕ) (b n noise raw : ℕ) (k : InSearch C h n noise raw) where
   -- j are matched behind the byte, and x is what was passed over then
@@ -72,17 +72,17 @@ module _ (C : Setup) (h : List ℕ) (b n noise raw : ℕ) (k : InSearch C h n no
           dropped = noise_grows noise (length k.passed) n j k.dropped le ∙ ap stopped (sym long);
           long = let i = k.long in rw (longer_since h b) (omega arith);
         };
-        told = goes_on;
+        told = goes_on_exactly;
       }
 
   -- in the second way as many are matched as the bytes with b end with
-  pub second_most_matched : C.way ≡ second_way → matched_behind C.way n b ≡ most_matched (h ++ b ∷ [])
-  second_most_matched s = second_matched C.way n b s ∙ ap (λ (i : ℕ). last_bytes i b) (k.matched s) ∙ most_step h b
+  pub second_most_matched_exactly : C.way ≡ second_way → matched_behind C.way n b ≡ most_matched (h ++ b ∷ [])
+  second_most_matched_exactly s = second_matched C.way n b s ∙ ap (λ (i : ℕ). last_bytes i b) (k.matched s) ∙ most_step h b
 
   kept_second : C.way ≡ second_way → (j : ℕ) → j ≡ matched_behind C.way n b → (j ≡ 8 → ⊥) → KeptExactly C h b (says (search j (more_noise noise n j) (stopped (suc raw))) silent)
   kept_second s j e ne =
       let g : List ℕ = h ++ b ∷ [] in
-      let all : j ≡ most_matched g = e ∙ second_most_matched s in
+      let all : j ≡ most_matched g = e ∙ second_most_matched_exactly s in
       let x = most_ends g in
       let le : j ≤ suc n = omega (arith, e, matched_most C.way n b) in
       kept_look j x.before (x.is ∙ rw all) (omega (arith, le, k.most)) le (λ f. absurd (let z = sym f ∙ s in omega arith)) (λ t. all)
@@ -111,10 +111,10 @@ module _ (C : Setup) (h : List ℕ) (b n noise raw : ℕ) (k : InSearch C h n no
       by_eq (λ (v : PushEvent). KeptExactly C h b (says begun v)) noise 0 _ _
       (λ z.
       let none' : k.passed ≡ [] = empty k.passed (let i = k.dropped in omega arith) in
-      record { reads = rw (on, none') (reads_begun C); told = goes_on })
+      record { reads = rw (on, none') (reads_begun C); told = goes_on_exactly })
       (λ ne. record {
         reads = reads_begun C;
-        told = start_found noise k.passed on k.misses (λ s. subst NoneWhole before (k.none_whole s)) (let i = k.dropped in omega arith) k.dropped;
+        told = start_found_exactly noise k.passed on k.misses (λ s. subst NoneWhole before (k.none_whole s)) (let i = k.dropped in omega arith) k.dropped;
       })
 
 -- ---- the body
@@ -138,13 +138,13 @@ module _ (C : Setup) (h : List ℕ) (b r : ℕ) (m : Mem) (k : InBody C h r m) w
       has = sym (append-nil S);
       count = refl;
       few = omega arith;
-      opens = tidy k.clean;
+      opens = tidy_exactly k.clean;
       fits = k.fits;
       long = let i = k.long in rw (longer_since h b) (omega arith);
       index = omega arith;
       sum = rw (drop-length S, k.sum, register_append start (frame_head S), register_none);
     };
-    told = goes_on;
+    told = goes_on_exactly;
   }
 
   kept_waits : b ≡ 0x1b → (r ≡ 3 → ⊥) → KeptExactly C h b (says (body (suc r) (tick m)) silent)
@@ -158,7 +158,7 @@ module _ (C : Setup) (h : List ℕ) (b r : ℕ) (m : Mem) (k : InBody C h r m) w
       index = k.index;
       sum = k.sum;
     };
-    told = goes_on;
+    told = goes_on_exactly;
   }
 
   kept_stores : (b ≡ 0x1b → ⊥) → length S + length (replicate r 0x1b ++ b ∷ []) ≤ C.capacity → KeptExactly C h b (says (body 0 (put m (replicate r 0x1b ++ b ∷ []))) silent)
@@ -172,11 +172,11 @@ module _ (C : Setup) (h : List ℕ) (b r : ℕ) (m : Mem) (k : InBody C h r m) w
       index = let i = k.index in simp length-append (omega arith);
       sum = rw (head_other S r b k.clean k.few ne, append_assoc (frame_head S), register_append start (frame_head S), drop-append-le m.idx S (replicate r 0x1b ++ b ∷ []) k.index, register_append m.reg (drop m.idx S), k.sum);
     };
-    told = goes_on;
+    told = goes_on_exactly;
   }
 
   kept_full : (b ≡ 0x1b → ⊥) → C.capacity < length S + length (replicate r 0x1b ++ b ∷ []) → KeptExactly C h b (says fresh memory)
-  kept_full ne over = lost refl (no_room (none_for_data S r b (on_other ne) k.clean k.few ne k.fits (let n : length (replicate r 0x1b ++ b ∷ []) ≡ suc r = simp (length-append, length-replicate) (omega arith) in omega arith)))
+  kept_full ne over = lost refl (no_room_exactly (none_for_data S r b (on_other ne) k.clean k.few ne k.fits (let n : length (replicate r 0x1b ++ b ∷ []) ≡ suc r = simp (length-append, length-replicate) (omega arith) in omega arith)))
 
 -- ---- an escape
 
@@ -200,7 +200,7 @@ module _ (C : Setup) (h D : List ℕ) (m : Mem) (w x y z : ℕ) (here : h ++ z �
 
   -- where the first of the four is no 1a, the data ends no run of 1b
   tidied_by : (w ≡ 0x1a → ⊥) → run_behind 0 D ≡ 0
-  tidied_by ne = elim opens [ tidy f ↦ f | early_end k al f ↦ absurd (ne (ap (λ (l : List ℕ). get_or l 0 0) f)) ]
+  tidied_by ne = elim opens [ tidy_exactly f ↦ f | early_end_exactly k al f ↦ absurd (ne (ap (λ (l : List ℕ). get_or l 0 0) f)) ]
 
   tidied : w ≡ 0x1b → run_behind 0 D ≡ 0
   tidied e = tidied_by (λ z. omega arith)
@@ -220,11 +220,11 @@ module _ (C : Setup) (h D : List ℕ) (m : Mem) (w x y z : ℕ) (here : h ++ z �
           index = rw all (simp length-append (omega arith));
           sum = rw (all, drop-append-le m.idx D esc_seq index, register_append m.reg (drop m.idx D), sum, head_esc_seq D t, register_append start (frame_head D ++ esc_seq));
         };
-        told = goes_on;
+        told = goes_on_exactly;
       }
 
   kept_restarts : four ≡ restart_seq → KeptExactly C h z (says begun (discarded (m.raw - 8)))
-  kept_restarts e = record { reads = reads_begun C; told = start_inside (m.raw - 8) D (here ∙ rw e (simp append_assoc)) (tidied_by (λ z. let q : w ≡ 0x01 = ap (λ (l : List ℕ). get_or l 0 0) e in omega arith)) (omega (arith, stored_long, fits)) (ap (λ (k : ℕ). k - 8) long) }
+  kept_restarts e = record { reads = reads_begun C; told = start_inside_exactly (m.raw - 8) D (here ∙ rw e (simp append_assoc)) (tidied_by (λ z. let q : w ≡ 0x01 = ap (λ (l : List ℕ). get_or l 0 0) e in omega arith)) (omega (arith, stored_long, fits)) (ap (λ (k : ℕ). k - 8) long) }
 
   -- an end sequence: what is computed is the CRC of all before the last two bytes
   pub computed_all : w ≡ 0x1a → computed m ≡ crc_of (frame_head D ++ esc_seq ++ 0x1a ∷ x ∷ [])
@@ -236,7 +236,7 @@ module _ (C : Setup) (h D : List ℕ) (m : Mem) (w x y z : ℕ) (here : h ++ z �
   kept_good : w ≡ 0x1a → Passed m x (y + 256 * z) → let P : List ℕ = take (length m.stored - 4 - x) m.stored in KeptExactly C h z (says (done P) (pays_out P))
   kept_good e ok = record {
     reads = (refl, simp length-take (omega arith));
-    told = frame_ends _ (λ bs.
+    told = frame_ends_exactly _ (λ bs.
         let fine : y < 256 = (bytes_back (frame_head D ++ esc_seq) four (rw here at bs)).1.1.0 in
         let X : ℕ = crc_of (frame_head D ++ esc_seq ++ 0x1a ∷ x ∷ []) in
         let read : y + 256 * z ≡ X = ok.0 ∙ computed_all e in
@@ -271,7 +271,7 @@ module _ (C : Setup) (h D : List ℕ) (m : Mem) (w x y z : ℕ) (here : h ++ z �
   kept_bad e bad =
       let n : length m.stored ≡ length D + 4 = stored_long in
       let over : length m.stored % 4 ≡ length D % 4 = omega arith in
-      lost refl (no_message D (record { lo = y; hi = z; is = here ∙ rw e; reads = refl; opens = rw e at opens; fits = omega arith })
+      lost refl (no_message_exactly D (record { lo = y; hi = z; is = here ∙ rw e; reads = refl; opens = rw e at opens; fits = omega arith })
       (computed_all e ∙ ap crc_of (sym (before_crc e))) (ap (λ (k : ℕ). not (eqb k 0)) over)
       (λ a b c d. bad (a, over ∙ b, c, omega arith)))
 
@@ -280,7 +280,7 @@ module _ (C : Setup) (h D : List ℕ) (m : Mem) (w x y z : ℕ) (here : h ++ z �
   kept_unknown no1 no2 no3 no4 =
       let n : length m.stored ≡ length D + 4 = stored_long in
       let over : missing (length m.stored) ≡ missing (length D) = omega arith in
-      lost refl (no_escape (record { D = D; is = here; long = refl; clean = tidied_by no3; fits = omega arith; no_data = no1; no_start = no2; no_end_claim = no3; no_early = ap (λ (k : ℕ). early k four) (sym over) ∙ no4 }))
+      lost refl (no_escape_exactly (record { D = D; is = here; long = refl; clean = tidied_by no3; fits = omega arith; no_data = no1; no_start = no2; no_end_claim = no3; no_early = ap (λ (k : ℕ). early k four) (sym over) ∙ no4 }))
 
   -- the escape opened early: a of the bytes read are data, and the rest is the first part of an end sequence
   shifted : (a : ℕ) (l k : List ℕ) → a ≤ 3 → 1 ≤ a → a ≡ missing (length m.stored) → w ≡ 0x1b → four ≡ replicate a 0x1b ++ l → l ≡ 0x1a ∷ k → length l ≡ 4 - a → KeptExactly C h z (says (escape (4 - a) m) silent)
@@ -294,13 +294,13 @@ module _ (C : Setup) (h D : List ℕ) (m : Mem) (w x y z : ℕ) (here : h ++ z �
           has = has ∙ rw (e, append_assoc D);
           count = n;
           few = omega arith;
-          opens = early_end k (let n : length m.stored ≡ length D + 4 = stored_long in simp (length-append, length-replicate) (omega arith)) f;
+          opens = early_end_exactly k (let n : length m.stored ≡ length D + 4 = stored_long in simp (length-append, length-replicate) (omega arith)) f;
           fits = fits;
           long = long;
           index = simp length-append (omega arith);
           sum = rw (head_shift D a t le, register_append start (frame_head D ++ esc_seq) (replicate a 0x1b), drop-append-le m.idx D (replicate a 0x1b) index, register_append m.reg (drop m.idx D), sum);
         };
-        told = goes_on;
+        told = goes_on_exactly;
       }
 
   kept_shifts : (a : ℕ) → a ≡ missing (length m.stored) → 1 ≤ a → a ≤ 3 → take (suc a) four ≡ replicate a 0x1b ++ 0x1a ∷ [] → KeptExactly C h z (says (escape (4 - a) m) silent)
@@ -319,8 +319,8 @@ module _ (C : Setup) (h D : List ℕ) (m : Mem) (w x y z : ℕ) (here : h ++ z �
   kept_judged o (W.unknown f₁ f₂ f₃ f₄) = kept_unknown f₁ f₂ f₃ f₄
 
 opens_more : {D l : List ℕ} (b : ℕ) → OpensExactly D l → OpensExactly D (l ++ b ∷ [])
-opens_more b (tidy e) = tidy e
-opens_more b (early_end k al e) = early_end (k ++ b ∷ []) al (rw e)
+opens_more b (tidy_exactly e) = tidy_exactly e
+opens_more b (early_end_exactly k al e) = early_end_exactly (k ++ b ∷ []) al (rw e)
 
 module _ (C : Setup) (h : List ℕ) (b k : ℕ) (m : Mem) (c : InEscapeExactly C h k m) where
   pushed : h ++ b ∷ [] ≡ frame_head c.D ++ esc_seq ++ (c.l ++ b ∷ [])
@@ -347,7 +347,7 @@ module _ (C : Setup) (h : List ℕ) (b k : ℕ) (m : Mem) (c : InEscapeExactly C
       index = c.index;
       sum = c.sum;
     };
-    told = goes_on;
+    told = goes_on_exactly;
   }
 
   kept_four : (w x y : ℕ) → c.l ≡ w ∷ x ∷ y ∷ [] → length m.stored + 1 ≤ C.capacity → (o : Out)
@@ -369,14 +369,14 @@ module _ (C : Setup) (h : List ℕ) (b k : ℕ) (m : Mem) (c : InEscapeExactly C
   kept_full' over =
       let n : length (c.l ++ b ∷ []) ≡ suc (length c.l) = simp length-append (omega arith) in
       let long : length m.stored ≡ length c.D + length c.l = ap length c.has ∙ length-append c.D c.l in
-      lost refl (no_room (none_behind_escape c.D (c.l ++ b ∷ []) pushed (opens_more b c.opens) (omega arith) (let f = c.few in let q = c.count in omega arith) (let f = c.fits in omega arith)))
+      lost refl (no_room_exactly (none_behind_escape c.D (c.l ++ b ∷ []) pushed (opens_more b c.opens) (omega arith) (let f = c.few in let q = c.count in omega arith) (let f = c.fits in omega arith)))
 
 -- ---- every push
 
 kept_saw : (C : Setup) (h : List ℕ) (s : State) (b : ℕ) (o : Out) → ReadExactly C h s → Saw C s b o → KeptExactly C h b o
 kept_saw C h s b o k (W.sought {n} {noise} {raw} j e ne) = kept_sought C h b n noise raw k j e ne
 kept_saw C h s b o k (W.began {n} {noise} {raw} e) = kept_began C h b n noise raw k e
-kept_saw C h s b o k (W.again w) = kept_saw C h fresh b o (rw k.0 (reads_fresh C)) w
+kept_saw C h s b o k (W.again w) = kept_saw C h fresh b o (rw k.0 (reads_fresh_exactly C)) w
 kept_saw C h s b o k (W.waits {n = n} {m = m} e ne) = kept_waits C h b n m k e ne
 kept_saw C h s b o k (W.opens {n = n} {m = m} e f) = kept_opens C h b n m k e f
 kept_saw C h s b o k (W.stores {n = n} {m = m} ne fit) = kept_stores C h b n m k ne fit
@@ -385,21 +385,21 @@ kept_saw C h s b o k (W.collects {k = j} {m = m} fit lt) = kept_reads C h b j m 
 kept_saw C h s b o k (W.judges {k = j} {m = m} fit ge w) = kept_judges C h b j m k fit ge o w
 kept_saw C h s b o k (W.full' {k = j} {m = m} over) = kept_full' C h b j m k over
 
-pub kept : (C : Setup) (h : List ℕ) (s : State) (b : ℕ) → ReadExactly C h s → KeptExactly C h b (step C s b)
-kept C h s b k = kept_saw C h s b (step C s b) k (saw C s b)
+pub kept_exactly : (C : Setup) (h : List ℕ) (s : State) (b : ℕ) → ReadExactly C h s → KeptExactly C h b (step C s b)
+kept_exactly C h s b k = kept_saw C h s b (step C s b) k (saw C s b)
 
 -- ---- any operations on a fresh decoder
 
-pub reads_act : (C : Setup) (h : List ℕ) (s : State) (o : Op) → ReadExactly C h s → ReadExactly C (grown_since_op o (answer_state C s o) h) (act_state C s o)
+pub reads_act_exactly : (C : Setup) (h : List ℕ) (s : State) (o : Op) → ReadExactly C h s → ReadExactly C (grown_since_op o (answer_state C s o) h) (act_state C s o)
 unfolding act_state answer_state
-reads_act C h s (push b) k = (kept C h s b k).reads
-reads_act C h s finalize k = reads_fresh C
-reads_act C h s reset k = reads_fresh C
+reads_act_exactly C h s (push b) k = (kept_exactly C h s b k).reads
+reads_act_exactly C h s finalize k = reads_fresh_exactly C
+reads_act_exactly C h s reset k = reads_fresh_exactly C
 
-pub reads_from : (C : Setup) (os : List Op) (h : List ℕ) (s : State) → ReadExactly C h s → ReadExactly C (since_from h os (run_state C s os)) (state_behind C s os)
+pub reads_from_exactly : (C : Setup) (os : List Op) (h : List ℕ) (s : State) → ReadExactly C h s → ReadExactly C (since_from h os (run_state C s os)) (state_behind C s os)
 unfolding run_state state_behind since_from
-reads_from C [] h s k = k
-reads_from C (o ∷ os) h s k = reads_from C os (grown_since_op o (answer_state C s o) h) (act_state C s o) (reads_act C h s o k)
+reads_from_exactly C [] h s k = k
+reads_from_exactly C (o ∷ os) h s k = reads_from_exactly C os (grown_since_op o (answer_state C s o) h) (act_state C s o) (reads_act_exactly C h s o k)
 
-pub reads_behind : (C : Setup) (os : List Op) → ReadExactly C (since_from [] os (run_state C fresh os)) (state_behind C fresh os)
-reads_behind C os = reads_from C os [] fresh (reads_fresh C)
+pub reads_behind_exactly : (C : Setup) (os : List Op) → ReadExactly C (since_from [] os (run_state C fresh os)) (state_behind C fresh os)
+reads_behind_exactly C os = reads_from_exactly C os [] fresh (reads_fresh_exactly C)

@@ -9,8 +9,8 @@ use Rattle.since.specs.Since.{frame_head, Misses, InSearch, InBody, AllBytes}
 
 -- the data ends no run of 1b but whole fours; or it has a multiple of 4 bytes and what follows the escape begins with 1a: an end sequence that was found early has 1 to 3 of the data's 1b before it
 pub data OpensExactly (D l : List ℕ) : Type 0 where
-  tidy : run_behind 0 D ≡ 0 → OpensExactly D l
-  early_end : (k : List ℕ) → length D % 4 ≡ 0 → l ≡ 0x1a ∷ k → OpensExactly D l
+  tidy_exactly : run_behind 0 D ≡ 0 → OpensExactly D l
+  early_end_exactly : (k : List ℕ) → length D % 4 ≡ 0 → l ≡ 0x1a ∷ k → OpensExactly D l
 
 -- behind an escape: the data D, and k bytes l behind the escape, all stored
 pub record InEscapeExactly (C : Setup) (h : List ℕ) (k : ℕ) (m : Mem) : Type 0 where
@@ -69,17 +69,17 @@ pub record SoundWithin (C : ℕ) (w P : List ℕ) : Type 0 where
 -- ---- what an event says of w, the bytes since the search or frame began with the one that brought it. Of no event nothing is said here
 
 pub data SaysExactly (C : Setup) (w : List ℕ) : PushEvent → Type 0 where
-  goes_on : SaysExactly C w silent
+  goes_on_exactly : SaysExactly C w silent
   -- a start behind bytes that were passed over; in the second way none lies whole in them and its own first seven bytes together
-  start_found : (k : ℕ) (x : List ℕ) → w ≡ x ++ start_seq → (C.way ≡ first_way → Misses x) → (C.way ≡ second_way → NoneWhole (x ++ take 7 start_seq))
+  start_found_exactly : (k : ℕ) (x : List ℕ) → w ≡ x ++ start_seq → (C.way ≡ first_way → Misses x) → (C.way ≡ second_way → NoneWhole (x ++ take 7 start_seq))
       → 1 ≤ length x → k ≡ stopped (length x) → SaysExactly C w (discarded k)
   -- a start inside a frame
-  start_inside : (k : ℕ) (D : List ℕ) → w ≡ frame_head D ++ start_seq → run_behind 0 D ≡ 0 → length D + 4 ≤ C.capacity
+  start_inside_exactly : (k : ℕ) (D : List ℕ) → w ≡ frame_head D ++ start_seq → run_behind 0 D ≡ 0 → length D + 4 ≤ C.capacity
       → k ≡ stopped (length w) - 8 → SaysExactly C w (discarded k)
-  no_room : NoRoomFor C.capacity w → SaysExactly C w memory
-  no_escape : {a b c d : ℕ} → Meaningless C.capacity w (a ∷ b ∷ c ∷ d ∷ []) → SaysExactly C w (bad_escape a b c d)
+  no_room_exactly : NoRoomFor C.capacity w → SaysExactly C w memory
+  no_escape_exactly : {a b c d : ℕ} → Meaningless C.capacity w (a ∷ b ∷ c ∷ d ∷ []) → SaysExactly C w (bad_escape a b c d)
   -- what is told is what the end sequence says, and some of it is wrong
-  no_message : {read computed : ℕ} {mis : Bool} {p : ℕ} (D : List ℕ) → EndOf C.capacity w D p read → computed ≡ crc_of (take (length w - 2) w)
+  no_message_exactly : {read computed : ℕ} {mis : Bool} {p : ℕ} (D : List ℕ) → EndOf C.capacity w D p read → computed ≡ crc_of (take (length w - 2) w)
       → mis ≡ not (eqb (length D % 4) 0) → (read ≡ computed → length D % 4 ≡ 0 → p ≤ 3 → p ≤ length D → ⊥) → SaysExactly C w (bad_message read computed mis p)
   -- the last byte of a sound frame, where all that was pushed are bytes
-  frame_ends : (P : List ℕ) → (AllBytes w → SoundWithin C.capacity w P) → SaysExactly C w (pays_out P)
+  frame_ends_exactly : (P : List ℕ) → (AllBytes w → SoundWithin C.capacity w P) → SaysExactly C w (pays_out P)

@@ -14,13 +14,13 @@ use Rattle.lines.specs.declared.Written.TheVariants.{Length, OutputTooShort}
 use Rattle.lines.proofs.Whole.{line_given, refused_line, line_most}
 
 -- a payload is a part of the buffer
-part_of : (stands : Bool) (n : ℕ) (m : List ℕ) → length (cond stands (take n m) []) ≤ length m
-part_of true n m = simp length-take (omega arith)
-part_of false n m = omega arith
+part_of_lem : (stands : Bool) (n : ℕ) (m : List ℕ) → length (cond stands (take n m) []) ≤ length m
+part_of_lem true n m = simp length-take (omega arith)
+part_of_lem false n m = omega arith
 
 payload_part : (d : Decoder) (m : List ℕ) → length (payload_record d m) ≤ length m
 unfolding payload_record
-payload_part d m = part_of (has_payload d m) d.fill m
+payload_part d m = part_of_lem (has_payload d m) d.fill m
 
 module _ (e : Event) (d : Decoder) (m out left p : List ℕ) (r : Written) (read : p ≡ payload_record d m) (said : after_line (line_answer r) left ≡ line_to (line_of (answer_of e p)) out) where
   pub line_stands : (n : ℕ) → r ≡ Length n → length left ≡ length out → (n ≤ length left) × (take n left ≡ line_of (answer_of e (payload_record d m)))

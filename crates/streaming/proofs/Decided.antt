@@ -15,7 +15,7 @@ use Rattle.decided.specs.One.{Injective}
 use Rattle.decided.proofs.Laws.{injective, undone}
 use Rattle.refusals.proofs.Undone.{fault_from, fault_back}
 use Rattle.common.proofs.Decided.{entry_from, entry_back_lem}
-use Rattle.message.proofs.Decided.{list_end_from, list_end_back, start_from, start_back}
+use Rattle.message.proofs.Decided.{list_end_from, list_end_back, start_from, start_back_lem}
 use Rattle.streaming.specs.Decided.{Views, Decided}
 
 pub parse_event_from : N.MessageEvent Span → ParseEvent
@@ -25,7 +25,7 @@ parse_event_from (end_event e) = EventC.GetListResponseEnd (list_end_from e)
 
 pub parse_event_back : (x : ParseEvent) → parse_event_from (parse_event x) ≡ x
 unfolding parse_event_from
-parse_event_back (EventC.MessageStart x) = ap EventC.MessageStart (start_back x)
+parse_event_back (EventC.MessageStart x) = ap EventC.MessageStart (start_back_lem x)
 parse_event_back (EventC.GetListResponseEnd x) = ap EventC.GetListResponseEnd (list_end_back x)
 parse_event_back (EventC.ListEntry x) = ap EventC.ListEntry (entry_back_lem x)
 

@@ -7,7 +7,7 @@ use Rattle.refusals.specs.Numbers.{bad_state_no, input_too_long_no}
 use Rattle.refusals.specs.declared.Span.{Span}
 use Rattle.refusals.proofs.Undone.{fault_from, fault_back}
 use Rattle.message.specs.Messages.{ListEnd}
-use Rattle.message.proofs.Decided.{list_end_from, list_end_back, start_from, start_back}
+use Rattle.message.proofs.Decided.{list_end_from, list_end_back, start_from, start_back_lem}
 use Rattle.whole.specs.Whole.{WholeSaid, whole_is, broken, refused_alone, AfterWhole}
 use Rattle.whole.specs.Answers.{opt_list_end, whole_read, after_whole}
 use Rattle.whole.specs.declared.OptListEnd.{OptListEnd}
@@ -36,7 +36,7 @@ whole_from (refused_alone n) = cond (eqb n input_too_long_no) WholeR.InputTooLon
 whole_back : (r : WholeRead) → whole_from (whole_read r) ≡ r
 unfolding whole_from
 whole_back (WholeR.Is start end rows next) =
-    let a = start_back start in
+    let a = start_back_lem start in
     let b = opt_list_end_back end in
     λ i. WholeR.Is (a i) (b i) rows next
 whole_back (WholeR.Refused f) = ap WholeR.Refused (fault_back f)

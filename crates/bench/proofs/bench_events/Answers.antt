@@ -1,7 +1,7 @@
 use mathlib.Core.Path.{sym, ◌∙◌}
 use lib.ListN.{length}
 use Rattle.streaming.specs.Answers.{reader_after}
-use Rattle.bench.proofs.Events.{none_yet, events_more, no_more, none_left_lem}
+use Rattle.bench.proofs.Events.{none_yet, events_more, no_more_lem, none_left_lem}
 use borrow.Author.Rules.{rules}
 use Rattle.bench.proofs.bench_events.Goals as goal
 
@@ -13,7 +13,7 @@ returns-then-not-is_event c =
     let l = c.loop-n in
     let s = c.args.input.now in
     let r = c.parse_next-r in
-    no_more s l.place l.start l.pending l.n (length s) (reader_after r.result) c.loop-n-test.true r.ensures (sym c.is_event.ensures ∙ c.if-not-is_event.true) ∙ l.invariant.1
+    no_more_lem s l.place l.start l.pending l.n (length s) (reader_after r.result) c.loop-n-test.true r.ensures (sym c.is_event.ensures ∙ c.if-not-is_event.true) ∙ l.invariant.1
 
 pub loop-n-preserved : goal.loop-n-preserved
 loop-n-preserved c =
