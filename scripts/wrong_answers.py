@@ -1,5 +1,5 @@
 """The wrong readings of docs/WRONG-READINGS.md: what is told of each, and both answers to the command that tells it from ours. Ours are those of the library and the proved programs; the wrong one is that of
-the edited code, built and run without proof by `rt try`, which compiles it with a check at each index, sum, cast and access. bin/wrong, tests/test_answers.py and tests/test_forms.py share this."""
+the edited code, built and run without proof by `rt try`: on an interpreter, as far as its steps reach, and compiled with a check at each index, sum, cast and access. bin/wrong, tests/test_answers.py and tests/test_forms.py share this."""
 import glob, os, re, shutil, subprocess, tempfile
 import clink, programs
 
@@ -81,7 +81,7 @@ def answer_in(command, wrote):
 
 def built(name):
     """the path of what answers, as it was built last, or None"""
-    path = clink.REPLAY if name == programs.LIBRARY else os.path.join(ROOT, "target/bin", name)
+    path = clink.REPLAY if name == programs.LIBRARY else programs.built(name)
     return path if os.path.exists(path) else None
 
 
@@ -139,9 +139,11 @@ def tried(copy, name, given):
     """What a program of the copy writes, or a line that says why it stops."""
     run = subprocess.run(["rt", "try"], cwd=os.path.join(copy, "crates", name), input=given, capture_output=True)
     said = run.stderr.decode(errors="replace")
-    stop = re.search(r"^\w+: fault kind=\S+ in=(\S+?)(?: at=\S+)?: (.*?)(?:, called from .*)?$", said, re.M)
+    # the interpreter's line stands first, where its steps reached
+    stop = re.search(r"^\w+: fault kind=\S+ in=(\S+?)(?: at=\S+)?: (?:undefined behavior \(.*?\): )?(.*?)(?:, called from .*)?$", said, re.M)
     if run.returncode == 4 and stop:
-        return f"stops: {stop[2].replace('`', '')}, in {stop[1]}\n"
+        where = f", in {stop[1]}"
+        return f"stops: {stop[2].replace('`', '').removesuffix(where)}{where}\n"
     if run.returncode == 5:
         return "no answer: its two runs differ\n"
     if run.returncode == 6:

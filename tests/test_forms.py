@@ -1,4 +1,4 @@
-"""The forms that the library has no call for, by the program of tests/forms, which runs without proof (`rt try`: compiled with a check at each index, sum, cast and access): a decoder by value, in place, by slices and by slices in place, an Encoder by value and in place,
+"""The forms that the library has no call for, by the program of tests/forms, which runs without proof (`rt try`: on an interpreter, as far as its steps reach, and compiled with a check at each index, sum, cast and access): a decoder by value, in place, by slices and by slices in place, an Encoder by value and in place,
 the reader of messages by value and through Parser; a whole message, an index, a lookup, a walk and what begins at a place by value; and why bytes were lost, by place and by a watch. Each answers a part of the library's stored vectors as stored, and `limits` every refusal with the record that it leaves. With --all every stored vector, in batches.
 """
 import os, re, subprocess, sys, tempfile, time

@@ -721,7 +721,7 @@ def growing(r, n):
 
 def by_time():
     """Whether instructions can't be counted quickly: under the emulator, or without valgrind."""
-    return os.path.exists(clink.tools("bin/qemu-x86_64")) or not shutil.which("valgrind")
+    return os.path.exists(clink.programs.tools("bin/qemu-x86_64")) or not shutil.which("valgrind")
 
 
 def cost(program, call, m):

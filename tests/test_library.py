@@ -194,7 +194,7 @@ def leaves(kind, structs):
 def compiles(folder, what, source, flags):
     path = os.path.join(folder, "asked.c")
     open(path, "w").write(source)
-    status, output = ran([clink.tools("bin/clang"), "--target=x86_64-unknown-linux-gnu", *clink.PLAIN, *clink.INCLUDE, *flags, "-fsyntax-only", path])
+    status, output = ran([clink.programs.tools("bin/clang"), "--target=x86_64-unknown-linux-gnu", *clink.PLAIN, *clink.INCLUDE, *flags, "-fsyntax-only", path])
     held(what, output if status else "", "")
 
 
