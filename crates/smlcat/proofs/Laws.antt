@@ -2,7 +2,7 @@
 use mathlib.Core.Path.{◌≡◌, refl, ap, sym, ◌∙◌}
 use mathlib.Core.Bool.{cond}
 use mathlib.Core.List.{List, [], ◌∷◌}
-use Prim.Native.Nat.{ℕ, ◌+◌, ◌-◌, ◌<◌, ◌≤◌}
+use Prim.Native.Nat.{ℕ, zero, suc, ◌+◌, ◌-◌, ◌<◌, ◌≤◌}
 use native.Mathlib.Omega.{arith}
 use lib.ListN.{length, take, drop, drop_of_length-le, length-drop}
 use lib.Seq.{drop-drop}
@@ -10,8 +10,8 @@ use Rattle.decoder.specs.Record.{After, after, refusal, bad_decoder, push_record
 use Rattle.decoder.specs.declared.Decoder.{Decoder}
 use Rattle.decoder_slice.specs.Slice.{Took, after_slice, slice_record}
 use Rattle.decoder_slice.specs.declared.Sliced.{Sliced}
-use Rattle.decoder_slice.proofs.Taken.{none_took, none_taken, goes_on_claim, part_pushed, part_taken}
-use Rattle.smlcat.specs.Fed.{held, fed}
+use Rattle.decoder_slice.proofs.Taken.{none_took, none_taken, goes_on_claim, part_pushed, part_taken, part_room}
+use Rattle.smlcat.specs.Fed.{held, fed, StoppedIn}
 
 one_byte : (d : Decoder) (m : List ℕ) (b : ℕ) (bs : List ℕ) → fed (push_record d m b).decoder (push_record d m b).memory bs ≡ fed d m (b ∷ bs)
 unfolding fed
@@ -50,3 +50,15 @@ module _ (d : Decoder) (m s : List ℕ) (i : ℕ) (r : Sliced) (n : List ℕ) (s
       let none = sym taken_is ∙ z in
       ap (λ (t : Took). held t.decoder t.memory) (part ∙ none_took d m (drop i s) some none)
       ∙ fed_refused (drop i s) d m (none_taken d m (drop i s) some none)
+
+  -- where what was said can't be printed, the rest of s is still to come; where no byte was taken, none of it
+  stops_by : (t : ℕ) → r.taken ≡ t → StoppedIn d m (drop i s) n
+  stops_by zero z = (r.decoder, length (drop i s), omega arith, fed_done r.decoder n (drop i s) (length (drop i s)) (omega arith) ∙ fed_stop z)
+  stops_by (suc t) z = (r.decoder, r.taken, omega (arith, left, part_room d m s i r n said in-s), ap (fed r.decoder n) (drop-drop r.taken i s) ∙ fed_on (λ f. omega (arith, f, z)))
+
+  pub stops : StoppedIn d m (drop i s) n
+  stops = stops_by r.taken refl
+
+-- a stop behind a first part of the bytes is one in all of them
+pub stopped_on : (d d' : Decoder) (m m' s n : List ℕ) (i : ℕ) → i ≤ length s → fed d m (drop i s) ≡ fed d' m' s → StoppedIn d m (drop i s) n → StoppedIn d' m' s n
+stopped_on d d' m m' s n i h e w = (w.0, i + w.1, omega (arith, length-drop i s, w.2), ap (fed w.0 n) (sym (drop-drop w.1 i s)) ∙ w.3 ∙ e)

@@ -1,10 +1,10 @@
 // Document 01's program: reads standard input to its end and prints a line for each event of the decoder. Started with the argument -2 it searches in the second way (document 02, Q-7); all else is the same.
 #![tactic(auto)]
 
-ghost use Rattle.std.specs.Prelude.{◌≡◌, ◌≤◌, IfOk, length, take};
+ghost use Rattle.std.specs.Prelude.{◌≡◌, ◌≤◌, IfOk, OnErr, length, take};
 ghost use Rattle.decoder.specs.Record.{answer_of, payload_record};
 ghost use Rattle.lines.specs.Lines.{line_of};
-ghost use Rattle.smlcat.specs.Fed.{held, fed};
+ghost use Rattle.smlcat.specs.Fed.{held, fed, StoppedIn};
 
 use decoder::{Decoder, Event};
 use lines::Written;
@@ -32,7 +32,8 @@ fn print_event(rt: &impl Print, e: Event, d: Decoder, buf: &[u8; 4096]) -> io::R
 
 // Pushes the bytes of a chunk, event by event, and prints what each says. A refused push takes no byte, and nor would the next.
 fn drive(rt: &impl Print, d: Decoder, buf: &mut [u8; 4096], chunk: &[u8]) -> io::Result<Decoder>
-    ensures { IfOk result (λ left. held left buf.new ≡ fed d buf.old chunk.now) }
+    ensures ok { IfOk result (λ left. held left buf.new ≡ fed d buf.old chunk.now) }
+    ensures err { OnErr result (StoppedIn d buf.old chunk.now buf.new) }
 {
     let mut at = d;
     let mut i: usize = 0;

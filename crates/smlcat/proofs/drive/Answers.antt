@@ -2,12 +2,13 @@ use mathlib.Core.Path.{sym, ◌∙◌}
 use Prim.Native.Nat.{◌≤◌, ◌<◌, ◌+◌, ◌^◌}
 use lib.ListN.{length}
 use Rattle.decoder_slice.proofs.Taken.{part_room}
-use Rattle.smlcat.proofs.Laws.{fed_on, fed_stop, fed_done}
+use Rattle.smlcat.proofs.Laws.{fed_on, fed_stop, fed_done, stops, stopped_on}
 use borrow.Author.Rules.{rules}
+use Rattle.std.proofs.lemmas.Result.{err_from_is_err_and}
 use Rattle.smlcat.proofs.drive.Goals as goal
 
-pub returns-then-taken-eq0 : goal.returns-then-taken-eq0
-returns-then-taken-eq0 g c =
+pub returns-then-taken-eq0-clause-ok : goal.returns-then-taken-eq0-clause-ok
+returns-then-taken-eq0-clause-ok g c =
     let l = c.loop-i in
     let a = c.args in
     let p = c.push_slice-p in
@@ -39,8 +40,16 @@ loop-i-preserved g c =
     let p = c.push_slice-p in
     (part_room l.at l.buf a.chunk.now l.i p.result _ p.ensures c.loop-i-test.true, fed_on l.at l.buf a.chunk.now l.i p.result _ p.ensures c.loop-i-test.true c.if-taken-eq0.false ∙ l.invariant.1)
 
-pub returns : goal.returns
-returns g c =
+pub returns-clause-ok : goal.returns-clause-ok
+returns-clause-ok g c =
     let l = c.loop-i in
     let a = c.args in
     sym (fed_done l.at l.buf a.chunk.now l.i c.loop-i-test.false) ∙ l.invariant.1
+
+pub returns-in_err-print_event-clause-err : goal.returns-in_err-print_event-clause-err
+returns-in_err-print_event-clause-err g c =
+    let l = c.loop-i in
+    let a = c.args in
+    let p = c.push_slice-p in
+    let q = err_from_is_err_and c.from_residual.result c.from_residual.ensures.1 in
+    rw q.1 (stopped_on l.at a.d l.buf a.buf.now a.chunk.now p.new.buf l.i l.invariant.0 l.invariant.1 (stops l.at l.buf a.chunk.now l.i p.result _ p.ensures c.loop-i-test.true))
