@@ -1,7 +1,7 @@
 """vectors.py: writes the fixed list of commands to replay/stdin and crates/replay_parts/stdin, each to the list of the program that answers it and what is no command to both, and the crate's answers
 (target/oracle/oracle, made by oracle/build) to stdout beside them; those over messages (message_vectors.py) come last, and what the crate doesn't have: `push2`, `packed`, `unpack`, `pack` and `why`, whose answers are told here.
 
-tests/test_replay.py and tests/test_forms.py replay the first list, `rt check replay_parts` the second, without the crate at hand. Run it again when a command is added; what it writes depends on nothing but this folder and the crate.
+tests/test_replay.py and tests/test_forms.py replay the first list, `rt ci` the second, without the crate at hand. Run it again when a command is added; what it writes depends on nothing but this folder and the crate.
 """
 import itertools, os, re, subprocess, sys
 

@@ -13,8 +13,6 @@ import programs
 
 ROOT = programs.ROOT
 LIBRARY = "sartrogheo"
-# how long proving and compiling the library takes on four cores that have nothing else to do
-SECONDS = 900
 REPLAY, SMLMETER, SMLWALK, SMLWHY = (os.path.join(ROOT, "target/library", name) for name in ("replay", "smlmeter", "smlwalk", "smlwhy"))
 # C11 as any compiler takes it; the toolchain's has no headers of its own, and must not find the machine's
 PLAIN = ["-Wall", "-Wextra", "-Werror", "-O2", "-nostdinc", "-isystem", os.path.join(ROOT, "scripts/headers")]
@@ -61,7 +59,7 @@ def archive(name=LIBRARY):
     if shutil.which("rt"):
         wanted = sources(exports)
         if not fresh(path, proof, wanted):
-            programs.rt("lib", exports, "proving", SECONDS)
+            programs.rt("lib", exports)
             for made in path, proof:
                 os.makedirs(os.path.dirname(made), exist_ok=True)
             with open(proof, "w", encoding="utf-8") as f:

@@ -1,4 +1,4 @@
-"""What the commands of bin/ share: a program is proved and built where that hasn't been done, and run as `rt` runs it. Its input is standard input, or a file."""
+"""What the commands of bin/ share: a program is proved and built where that hasn't been done, and run. Its input is standard input, or a file."""
 import fcntl, os, shutil, subprocess, sys, time
 
 ROOT = os.path.dirname(os.path.dirname(os.path.abspath(__file__)))
@@ -11,7 +11,7 @@ VECTORS = {LIBRARY: "replay", "replay_parts": "crates/replay_parts"}
 
 
 # how a line begins that a command of bin/ may write to standard error while it makes ready: on a slow machine, or the first time
-MAKING_READY = ("waiting for another command of bin/", "proving ", "compiling ")
+MAKING_READY = ("waiting for another command of bin/", "proving ")
 
 
 def turn():
@@ -41,7 +41,7 @@ def tools(*path):
     return os.path.join(kit(), "toolchain", *path)
 
 
-def rt(command, name, doing, seconds, at_once=False):
+def rt(command, name, at_once=False):
     """A run of rt in a crate's folder, which proves what it works on where that hasn't been done; its words are shown where it fails."""
     if not shutil.which("rt"):
         refuse("rt, the command of the Rattle toolchain, is not at hand")
@@ -49,7 +49,7 @@ def rt(command, name, doing, seconds, at_once=False):
     try:
         said = run.communicate(timeout=0 if at_once else 5)[0]
     except subprocess.TimeoutExpired:
-        print(f"{doing} {name}, once; about {seconds} seconds where nothing of it was proved before", file=sys.stderr, flush=True)
+        print(f"proving {name}, once, which takes minutes where the crates below it weren't proved before", file=sys.stderr, flush=True)
         said = run.communicate()[0]
     if run.returncode != 0:
         print(b"\n".join(said.split(b"\n")[-20:]).decode(errors="replace"), file=sys.stderr)
@@ -61,11 +61,11 @@ def built(name):
     return os.path.join(ROOT, "crates", name, "out", name)
 
 
-def build(names, seconds):
+def build(names):
     """Proves and builds what isn't. Where nothing is left to do that takes less than a second, and nothing is said. `rt run` runs the program too, on an empty input."""
     lock = turn()
     for name in names:
-        rt("run", name, "proving", seconds, not os.path.exists(built(name)))
+        rt("run", name, not os.path.exists(built(name)))
     os.close(lock)
 
 
@@ -104,9 +104,9 @@ def take_input(usage, options=(), valued=()):
     return found
 
 
-def start(name, usage, seconds, options=()):
+def start(name, usage, options=()):
     """Becomes the program, which is given the options that were found."""
     found = take_input(usage, options)
-    build([name], seconds)
+    build([name])
     words = program(name) + found
     os.execv(words[0], words)

@@ -35,7 +35,7 @@ bad += [f"{name}: docs/WRONG-READINGS.md has no line of answers, or two, or one 
 lines = {name: line for name, line in lines.items() if line}
 bad += [f"{name}: both answers are the same" for name, (_, ours, theirs) in lines.items() if ours == theirs]
 asked = {name: line for name, line in lines.items() if wrong_answers.program_of(line[0])}
-programs.build(["replay_parts", "smlcat"], 300)
+programs.build(["replay_parts", "smlcat"])
 clink.replay()
 answers = tried(wrong_answers.ours, [command for command, _, _ in asked.values()])
 for name, (command, ours, _) in asked.items():
