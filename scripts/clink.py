@@ -22,6 +22,9 @@ C11 = ["-std=c11", *PLAIN]
 INCLUDE = ["-I", os.path.join(ROOT, "include")]
 
 
+tools = programs.tools
+
+
 def sources(name):
     """A checksum of what a crate is proved of: its own files, those of the crates that it stands on, and the toolchain."""
     lines = {}
@@ -83,15 +86,15 @@ def ran(*words):
 
 def compiled(source, out, flags):
     """An object file for x86-64, which may be linked anywhere."""
-    ran(programs.tools("bin/clang"), "--target=x86_64-unknown-linux-gnu", "-fPIE", *flags, "-c", source, "-o", out)
+    ran(tools("bin/clang"), "--target=x86_64-unknown-linux-gnu", "-fPIE", *flags, "-c", source, "-o", out)
     return out
 
 
 def linked(parts, out):
     """A program of object files, archives and the toolchain's C library; the words that run it."""
     begin, end = ("Scrt1.o", "crti.o", "crtbeginS.o"), ("libc.so.6", "libc_nonshared.a", "libgcc.a", "crtendS.o", "crtn.o")
-    lib = lambda names: [programs.tools("lib", n) for n in names]
-    ran(programs.tools("bin/ld.lld"), "-pie", "-dynamic-linker", programs.tools("lib/ld-linux-x86-64.so.2"), *lib(begin), *parts, *lib(end), "-o", out)
+    lib = lambda names: [tools("lib", n) for n in names]
+    ran(tools("bin/ld.lld"), "-pie", "-dynamic-linker", tools("lib/ld-linux-x86-64.so.2"), *lib(begin), *parts, *lib(end), "-o", out)
     return programs.program(os.path.abspath(out))
 
 

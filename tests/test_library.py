@@ -730,11 +730,11 @@ def repository(folder, rt=None, age=None):
     shutil.rmtree(folder, ignore_errors=True)
     for name in ("scripts", "include", "docs", "examples", "rust"):
         shutil.copytree(name, os.path.join(folder, name), ignore=shutil.ignore_patterns("target", "__pycache__"))
-    shutil.copy("NOTICE", folder)
-    shutil.copy("crates.txt", folder)
+    for name in ("NOTICE", "crates.txt"):
+        shutil.copy(name, folder)
     for name in ("bin", "target/staticlib", "target/stamp", "crates/sartrogheo_c/out"):
         os.makedirs(os.path.join(folder, name))
-    open(os.path.join(folder, "crates/sartrogheo_c/out/libsartrogheo_c.a"), "w").write("an archive")  # what rt would have built
+    put(os.path.join(folder, "crates/sartrogheo_c/out/libsartrogheo_c.a"), "an archive")
     if rt is not None:
         open(os.path.join(folder, "bin/rt"), "w").write("#!/bin/sh\n" + rt)
         os.chmod(os.path.join(folder, "bin/rt"), 0o755)

@@ -15,7 +15,6 @@ use Rattle.decoder.specs.declared.Decoder.{Decoder}
 use Rattle.decoder.proofs.Split.{cases}
 use Rattle.decoder_slice.specs.Slice.{says_nothing}
 use Rattle.causes.specs.Tools.{GoodTool}
-use Rattle.causes.specs.Calls.{TellsEvery}
 use Rattle.causes.proofs.Tools.{our_tool}
 use Rattle.causes.proofs.Calls.{tells_all}
 use Rattle.losses.specs.Loss.{LossSaid, lost_is, none_lost, loss_refused, loss_after, is_refusal, hands_out, next_behind, next_loss}
@@ -30,7 +29,7 @@ use Rattle.packed.proofs.Held.{holds_record}
 use Rattle.sartrogheo.specs.Calls.{reply}
 use Rattle.sartrogheo.specs.Losses.{cause_bits, loss_words, no_loss_words, loss_said_no, loss_said_words, watch_words, watch_in, sight_no, sight_words, watch_slice_or, watch_end_or, sgh_next_loss, sgh_watch_slice, sgh_watch_end}
 use Rattle.sartrogheo.proofs.Losses.{watch_in_held}
-use Rattle.marks.specs.Library.{Library, our_library, lent_at, cause_heard, loss_heard, loss_said_heard, sight_heard, next_loss_by, watch_left, SliceHeard, EndHeard, HearsLosses}
+use Rattle.marks.specs.Library.{LossesBy, Library, our_library, lent_at, cause_heard, loss_heard, loss_said_heard, sight_heard, next_loss_by, watch_left, SliceHeard, EndHeard, HearsLosses}
 
 -- ---- a loss
 
@@ -237,8 +236,8 @@ module _ (L : Library) (h : HearsLosses L) where
   same_tool : next_loss_by L ≡ next_loss
   same_tool = (λ i recording way m from. h.next recording way m from i)
 
-  pub losses_by_lem : GoodTool (next_loss_by L)
+  losses_by_lem : GoodTool (next_loss_by L)
   losses_by_lem = subst GoodTool (sym same_tool) our_tool
 
-  pub all_by : TellsEvery (next_loss_by L)
-  all_by = tells_all (next_loss_by L) losses_by_lem
+  pub tells_by : LossesBy L
+  tells_by = record { losses = losses_by_lem; losses_all = tells_all (next_loss_by L) losses_by_lem }

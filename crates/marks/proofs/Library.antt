@@ -44,7 +44,6 @@ use Rattle.marks.proofs.HeardWriter.{hears_writer}
 use Rattle.marks.proofs.HeardWhole.{hears_whole}
 use Rattle.marks.proofs.HeardIndex.{hears_index}
 use Rattle.marks.proofs.HeardWalk.{hears_walk}
-use Rattle.marks.proofs.HeardLosses.{hears_losses}
 use Rattle.marks.proofs.HeardAnswer.{answer_heard, push_bytes_hearable, slice_bytes_hearable, finalize_bytes_hearable, reset_heard}
 use Rattle.marks.proofs.Packed.{host_slicer, StaysKept, kept_payload, new_alike}
 use Rattle.marks.proofs.Ways.{unknown_bad}
@@ -242,7 +241,7 @@ hears_decoder C c m us g p =
     (uses_as c g.values' us j m ∙ a.says, x.memory'' ∙ a.stays.memories, payload_as _ _ _ x a.stays)
 
 pub hears_ours : HearsOurs our_library
-hears_ours = record { new = hears_new; decoder = hears_decoder; encode = hears_encode; encoder = hears_encoder; crc = λ l. refl; reader = hears_reader; writer = hears_writer; whole = hears_whole; index = hears_index; walk = hears_walk; losses = hears_losses }
+hears_ours = record { new = hears_new; decoder = hears_decoder; encode = hears_encode; encoder = hears_encoder; crc = λ l. refl; reader = hears_reader; writer = hears_writer; whole = hears_whole; index = hears_index; walk = hears_walk }
 
 pub library_gives : ReaderGives (reader_by our_library)
 library_gives s k = hears_reader s (record { place = 0; start = 0; pending = 0 }) k ∙ reader_gives s k

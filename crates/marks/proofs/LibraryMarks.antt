@@ -24,7 +24,6 @@ use Rattle.marks.specs.Chunks.{our_slicer, Use}
 use Rattle.marks.specs.Larger.{OwnBuffer, new_does, LosesNothingCut}
 use Rattle.marks.proofs.HeardWhole.{good_by, rows_heard}
 use Rattle.marks.proofs.HeardIndex.{index_by, lookup_by, finds_by}
-use Rattle.marks.proofs.HeardLosses.{losses_by_lem, all_by}
 use Rattle.marks.proofs.HeardWalk.{walk_by_lem, looks_by, ends_by, sees_by_lem}
 use Rattle.marks.specs.Library.{Library, LentByCaller, KeptByCaller, decoder_by, slicer_by, UsesBytes, CallerBegins, CallersBegin, encode_by, HearsOurs, JobsOfBytes, LosesNothingBy, MarksBy}
 use Rattle.marks.proofs.Narrow.{bytes_join, bytes_run, bytes_at, bytes_all, start_bytes}
@@ -211,4 +210,4 @@ module _ (L : Library) (h : HearsOurs L) (C D : Setup) (c c' : LentByCaller) (m 
       record { says = rw (x.0, y.0) s.says; hands = λ none. y.2.bytes' ∙ s.hands (rw x.0 at none) ∙ sym x.2.bytes' }
 
 pub marks_by : (L : Library) → HearsOurs L → MarksBy L
-marks_by L h = record { soundness = λ C c m g. (new_empty L h C c m g, sound_behind L h C c m g); mark3 = mark3_by L h; larger = larger_by L h; larger_cut = larger_cut_by L h; whole = good_by L h.whole; rows = rows_heard L h.reader h.whole; index = index_by L h.index; lookup = lookup_by L h.index; finds = finds_by L h.reader h.index; losses = losses_by_lem L h.losses; losses_all = all_by L h.losses; walk = walk_by_lem L h.walk; walk_looks = looks_by L h.walk; walk_ends = ends_by L h.walk; sees = sees_by_lem L h.walk }
+marks_by L h = record { soundness = λ C c m g. (new_empty L h C c m g, sound_behind L h C c m g); mark3 = mark3_by L h; larger = larger_by L h; larger_cut = larger_cut_by L h; whole = good_by L h.whole; rows = rows_heard L h.reader h.whole; index = index_by L h.index; lookup = lookup_by L h.index; finds = finds_by L h.reader h.index; walk = walk_by_lem L h.walk; walk_looks = looks_by L h.walk; walk_ends = ends_by L h.walk; sees = sees_by_lem L h.walk }

@@ -39,6 +39,7 @@ use Rattle.marks.proofs.Packed.{round_trips, exactly, packs_what_pushes, packs_i
 use Rattle.marks.proofs.Encoders.{same_bytes}
 use Rattle.marks.proofs.FakeHosts.{fall_hosts}
 use Rattle.marks.proofs.Library.{hears_ours, library_gives}
+use Rattle.marks.proofs.HeardLosses.{hears_losses, tells_by}
 use Rattle.marks.proofs.LibraryMarks.{marks_by}
 use Rattle.marks.proofs.FakeLarger.{fall_larger}
 use Rattle.marks.proofs.FakeLibraries.{fall_libraries}
@@ -99,9 +100,10 @@ marks =
       library_whole = hears_ours.whole;
       library_index = hears_ours.index;
       library_walk = hears_ours.walk;
-      library_losses = hears_ours.losses;
+      library_losses = hears_losses;
       library_gives = library_gives;
       library_marks = marks_by;
+      library_tells = tells_by;
       words_back = back_claims;
       fall_words = back_fakes;
       writer = written_claims;

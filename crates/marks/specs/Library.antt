@@ -510,7 +510,6 @@ pub record HearsOurs (L : Library) : Type 0 where
   pub whole : HearsWhole L
   pub index : HearsIndex L
   pub walk : HearsWalk L
-  pub losses : HearsLosses L
 
 -- ---- the marks, of what is linked
 
@@ -570,9 +569,12 @@ pub record MarksBy (L : Library) : Type 0 where
   pub lookup : (row : List ℕ) → JudgesTables (finder_by L row)
   pub finds : (row s : List ℕ) (at : ℕ) (t : List ℕ) (next : ℕ) (m : Message Span) → Fair s at → RunsTo s at next m → (rows p : ℕ) → (indexer_by L s at t).answer ≡ index_is rows p
       → (name : List ℕ) → FirstNamed (entry_name s) (λ r e. RowIs s r e × EntriesHeard L s (r ∷ []) (e ∷ [])) name m.content.entries (finder_by L row s (take (4 * rows) (indexer_by L s at t).table) name)
-  pub losses : GoodTool (next_loss_by L)
-  pub losses_all : TellsEvery (next_loss_by L)
   pub walk : GoodWalker (walker_by L)
   pub walk_looks : LooksNoFurther (walker_by L)
   pub walk_ends : EndsWithMessages (walker_by L)
   pub sees : (s : List ℕ) → length s ≤ limit → SeesIn (item_reader_by L) s
+
+-- who hears the losses as ours has a good tool, which tells each of them
+pub record LossesBy (L : Library) : Type 0 where
+  pub losses : GoodTool (next_loss_by L)
+  pub losses_all : TellsEvery (next_loss_by L)

@@ -46,7 +46,7 @@ use Rattle.marks.specs.Ways.{our_way, KeepsWay, RefusesUnknown}
 use Rattle.marks.specs.Packed.{our_host, RoundTrip, Exactly, PacksWhatPushes, PacksInOrder, ActsAlike, SlicesAlike, HandsAlike, Serves, LeavesRefused, LeavesTidy, AnswersAlike}
 use Rattle.marks.specs.Encoders.{our_encoder, SameBytes}
 use Rattle.marks.specs.Events.{our_reader, our_parser, ReaderGives, GoesOn, reader_with, parser_with, ListsEntries, SaysWhere, CallSaysWhere, TenAgain}
-use Rattle.marks.specs.Library.{Library, our_library, HearsNew, HearsDecoder, HearsEncode, HearsEncoder, HearsCrc, reader_by, HearsReader, HearsWriter, HearsWhole, HearsIndex, HearsWalk, HearsLosses, HearsOurs, MarksBy}
+use Rattle.marks.specs.Library.{Library, our_library, HearsNew, HearsDecoder, HearsEncode, HearsEncoder, HearsCrc, reader_by, HearsReader, HearsWriter, HearsWhole, HearsIndex, HearsWalk, HearsLosses, HearsOurs, MarksBy, LossesBy}
 use Rattle.marks.specs.Bench.{b5_second, Holds, Bench}
 use Rattle.marks.specs.Fakes.{NotOurs, Fall}
 use Rattle.marks.specs.FakeHosts.{FallHosts}
@@ -111,7 +111,7 @@ pub record Marks : Type 0 where
   pub parser_goes_on : GoesOn our_parser parser_with
   pub reader_lists : ListsEntries our_reader
   pub parser_lists : ListsEntries our_parser
-  -- the library: what a caller hears of its calls is what ours say; so the reader's events are those of the tables. And of every library of which that is so soundness and mark 3 hold, a larger buffer takes nothing away, a whole message is read in one call, an index is built and asked, any content is walked over, and losses are told
+  -- the library: what a caller hears of its calls is what ours say; so the reader's events are those of the tables. And of every library of which that is so soundness and mark 3 hold, a larger buffer takes nothing away, a whole message is read in one call, an index is built and asked, and any content is walked over. Who hears losses as ours tells each of them
   pub library_new : HearsNew our_library
   pub library_decoder : HearsDecoder our_library
   pub library_encode : HearsEncode our_library
@@ -125,6 +125,7 @@ pub record Marks : Type 0 where
   pub library_losses : HearsLosses our_library
   pub library_gives : ReaderGives (reader_by our_library)
   pub library_marks : (L : Library) → HearsOurs L → MarksBy L
+  pub library_tells : (L : Library) → HearsLosses L → LossesBy L
   -- events in words: each is read back, and no other words are taken; and what that is false of
   pub words_back : BackClaims
   pub fall_words : BackFakes

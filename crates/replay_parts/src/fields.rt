@@ -181,7 +181,7 @@ pub(crate) fn written(rt: &impl Print, f: Field, input: &[u8]) -> io::Result<()>
     let names = b"-,x,oct:,,sec:,list:sec:,bool:,u8:,u16:,u32:,u64:,i8:,i16:,i32:,i64:";
     text(rt, nth(names, kind, b','))?;
     match kind {
-        0 => { Ok(()) },
+        0 => Ok(()),
         1 | 2 => hex(rt, octet_string::octet_str(input, span)),
         _ => with_minus(rt, f.below, f.number),
     }

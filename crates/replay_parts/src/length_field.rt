@@ -24,7 +24,7 @@ pub(crate) fn length_field(rt: &impl Print, input: &[u8]) -> io::Result<()> {
             decimal(rt, tlf.len as u64)?;
             text(rt, b" next ")?;
             decimal(rt, next as u64)
-        },
+        }
         TlfRead::Refused(f) => error(rt, of_fault(f), true),
     }
 }

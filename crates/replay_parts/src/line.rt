@@ -331,10 +331,10 @@ fn run(rt: &impl Print, source: &mut impl Read, p: Place, line: &mut [u8]) -> io
 }
 
 // Answers every line of the input; a last line without its end is a line too.
-pub(crate) fn answers(rt: &(impl Print + Input)) -> io::Result<()> {
+pub(crate) fn answers(rt: &impl Print, source: &mut impl Read) -> io::Result<()> {
     let mut line = [0u8; 70000];
     let begun = Place { len: 0, more: true };
-    let last = run(rt, &mut rt.reader(), begun, &mut line)?;
+    let last = run(rt, source, begun, &mut line)?;
     if last.len != 0 {
         answer(rt, &line, last.len)?;
     }

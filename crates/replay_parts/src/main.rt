@@ -32,5 +32,5 @@ pub(crate) fn of_bytes(rt: &impl Print, which: u8, kind: usize, input: &[u8]) ->
 }
 
 fn main(rt: HostRuntime) -> io::Result<()> {
-    line::answers(&rt)
+    line::answers(&rt, &mut rt.stdin())
 }

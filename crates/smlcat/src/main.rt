@@ -118,7 +118,7 @@ fn way_asked(rt: &impl Env) -> u8 {
 fn main(rt: HostRuntime) -> io::Result<()> {
     let mut buf = [0u8; 4096];
     let begun = Decoder::with_way(4096, way_asked(&rt));
-    let last = run(&rt, &mut rt.reader(), begun, &mut buf)?;
+    let last = run(&rt, &mut rt.stdin(), begun, &mut buf)?;
     let f = last.finalize();
     let e = f.event;
     let d = f.decoder;
