@@ -66,8 +66,7 @@ pub fn next(e: &mut Encoder, payload: &[u8]) -> Item
     r.answer
 }
 
-// ---- For tests alone: the same with plain parameters. A program that writes `&mut d` of a local record is not covered by the borrow checker and
-// is proved by hand; each of these does it once, so that what calls them is covered. The record goes into a local, which is lent, and is given back beside the answer.
+// ---- For tests alone: the same with plain parameters. The record goes into a local, which is lent, and is given back beside the answer.
 
 // push, as a test calls it.
 pub fn push_lent(d: Decoder, buf: &mut [u8], b: u8) -> Pushed
