@@ -52,12 +52,12 @@ module _ (d : Decoder) (m s : List ℕ) (i : ℕ) (r : Sliced) (n : List ℕ) (s
       ∙ fed_refused (drop i s) d m (none_taken d m (drop i s) some none)
 
   -- where what was said can't be printed, the rest of s is still to come; where no byte was taken, none of it
-  stops_by : (t : ℕ) → r.taken ≡ t → StoppedIn d m (drop i s) n
-  stops_by zero z = (r.decoder, length (drop i s), omega arith, fed_done r.decoder n (drop i s) (length (drop i s)) (omega arith) ∙ fed_stop z)
-  stops_by (suc t) z = (r.decoder, r.taken, omega (arith, left, part_room d m s i r n said in-s), ap (fed r.decoder n) (drop-drop r.taken i s) ∙ fed_on (λ f. omega (arith, f, z)))
+  stop_leaves_by : (t : ℕ) → r.taken ≡ t → StoppedIn d m (drop i s) n
+  stop_leaves_by zero z = (r.decoder, length (drop i s), omega arith, fed_done r.decoder n (drop i s) (length (drop i s)) (omega arith) ∙ fed_stop z)
+  stop_leaves_by (suc t) z = (r.decoder, r.taken, omega (arith, left, part_room d m s i r n said in-s), ap (fed r.decoder n) (drop-drop r.taken i s) ∙ fed_on (λ f. omega (arith, f, z)))
 
-  pub stops : StoppedIn d m (drop i s) n
-  stops = stops_by r.taken refl
+  pub stop_leaves : StoppedIn d m (drop i s) n
+  stop_leaves = stop_leaves_by r.taken refl
 
 -- a stop behind a first part of the bytes is one in all of them
 pub stopped_on : (d d' : Decoder) (m m' s n : List ℕ) (i : ℕ) → i ≤ length s → fed d m (drop i s) ≡ fed d' m' s → StoppedIn d m (drop i s) n → StoppedIn d' m' s n

@@ -2,7 +2,7 @@ use mathlib.Core.Path.{sym, ◌∙◌}
 use Prim.Native.Nat.{◌≤◌, ◌<◌, ◌+◌, ◌^◌}
 use lib.ListN.{length}
 use Rattle.decoder_slice.proofs.Taken.{part_room}
-use Rattle.smlcat.proofs.Laws.{fed_on, fed_stop, fed_done, stops, stopped_on}
+use Rattle.smlcat.proofs.Laws.{fed_on, fed_stop, fed_done, stop_leaves, stopped_on}
 use borrow.Author.Rules.{rules}
 use Rattle.std.proofs.lemmas.Result.{err_from_is_err_and}
 use Rattle.smlcat.proofs.drive.Goals as goal
@@ -52,4 +52,4 @@ returns-in_err-print_event-clause-err g c =
     let a = c.args in
     let p = c.push_slice-p in
     let q = err_from_is_err_and c.from_residual.result c.from_residual.ensures.1 in
-    rw q.1 (stopped_on l.at a.d l.buf a.buf.now a.chunk.now p.new.buf l.i l.invariant.0 l.invariant.1 (stops l.at l.buf a.chunk.now l.i p.result _ p.ensures c.loop-i-test.true))
+    rw q.1 (stopped_on l.at a.d l.buf a.buf.now a.chunk.now p.new.buf l.i l.invariant.0 l.invariant.1 (stop_leaves l.at l.buf a.chunk.now l.i p.result _ p.ensures c.loop-i-test.true))
