@@ -1,8 +1,10 @@
 """Mark 1's lists are whole and true to the code: `Decided` of each crate has a line for every public function of that crate, over its parameters, its answer and what it changes, and the line's equation is the one of its `ensures`; crate marks joins all but that of bench.
-Both mean the same definitions, of the same files, by what each file imports. So do the marks: each row of docs/STATEMENTS.md's way from a claim to the code names the definition that the operation of our machine in marks is made of, and every function of the row has a contract that cites that definition of that file."""
+Both mean the same definitions, of the same files, by what each file imports. An impl of a trait is such a function, with the trait's `ensures` at its type (traits.py). So do the marks: each row of docs/STATEMENTS.md's way from a claim to the code names the definition that the operation of our machine in marks is made of, and every function of the row has a contract that cites that definition of that file."""
 import glob, os, re, sys
 
+sys.dont_write_bytecode = True
 os.chdir(os.path.join(os.path.dirname(os.path.abspath(__file__)), ".."))
+import traits
 
 
 def plain(text):
@@ -25,7 +27,7 @@ def outcome(takes, gives, ensures):
     return kind, re.sub(r"\b(\w+)\.(?:old|now)\b", r"\1", said)
 
 
-bad, seen = [], 0
+bad, seen = traits.faults(), 0
 FN = re.compile(r'^\s*pub (?:extern "C" )?fn (\w+)(?:<.*?>)?\((.*?)\)(?: -> \S.*?)?\n\s*ensures \{ (.*?) \}$', re.M | re.S)
 
 
@@ -49,7 +51,7 @@ def held(crate, paths):
     """Each public function of the crate against its line."""
     left = lines(crate)
     for path in paths:
-        text = open(path, encoding="utf-8").read()
+        text = traits.spelled(open(path, encoding="utf-8").read())
         if len(FN.findall(text)) != len(re.findall(r'^\s*pub (?:extern "C" )?fn ', text, re.M)):
             bad.append(f"{path}: a public function with no equation")
         for name, takes, ensures in FN.findall(text):
@@ -145,7 +147,7 @@ def meant(names, said):
 def contracts():
     """Of every public function: crate, type or None, name, what its contract names, the contract."""
     for path in sorted(p for p in glob.glob("crates/*/src/**/*.rt", recursive=True) if not p.split(os.sep)[1].endswith("_c")):
-        text = read(path)
+        text = traits.spelled(read(path))
         names = imported(text)
         for m in FN.finditer(text):
             of = re.findall(r"^(?:impl(?:<.*?>)? (\w+)|\})", text[: m.start()], re.M)[-1:]

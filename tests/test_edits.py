@@ -1,7 +1,9 @@
 """Each wrong reading is a must-fail edit, or a theorem of a crate's proofs/Wrong.antt that has its name, and is told in docs/WRONG-READINGS.md in four lines and named in docs/STATEMENTS.md. The prover refused each edit at a fact and not at a shape: where the edits were tried (target/ci.log, what the last gate's prover said), and always in the gate, each has its line. A theorem rules out an outcome of the equation that a public function's contract has, or a fake of a claim that marks, places or written makes, or a claim that a part of Marks says is false of ours: its last premise is that; each premise before it speaks of a variable of the theorem, and whether they can all hold is for the reader to see. Each public function has two of them at least."""
 import glob, os, re, sys
 
+sys.dont_write_bytecode = True
 os.chdir(os.path.join(os.path.dirname(os.path.abspath(__file__)), ".."))
+import traits
 told = open("docs/WRONG-READINGS.md", encoding="utf-8").read()
 mapped = open("docs/STATEMENTS.md", encoding="utf-8").read()
 # where the first error says one of these, only the proof's shape or its caller broke, or the prover came to no verdict
@@ -71,10 +73,10 @@ def whole(side):
 def promises(crate):
     """The equations of the crate's public functions: two sides, and the names for which anything may stand: parameters, answer, what is lent."""
     for path in glob.glob(f"crates/{crate}/src/*.rt"):
-        for takes, said in re.findall(r'^\s*pub (?:extern "C" )?fn \w+(?:<.*?>)?\((.*?)\)(?: -> \S.*?)?\n\s*ensures \{ (.*?) \}$', open(path, encoding="utf-8").read(), re.M | re.S):
-            for old, new in [(r"\b(\w+)\.new\b", r"\1_left"), (r"\bhanded (\w+)\.entry\b", r"\1_part"), (r"\b(\w+)\.(?:old|now|entry)\b", r"\1"), (r"\bhanded result\b", "r"), (r"\bresult\.(\w+)", r"r_\1"), (r"\bresult\b", "r")]:
+        for takes, said in re.findall(r'^\s*pub (?:extern "C" )?fn \w+(?:<.*?>)?\((.*?)\)(?: -> \S.*?)?\n\s*ensures \{ (.*?) \}$', traits.spelled(open(path, encoding="utf-8").read()), re.M | re.S):
+            for old, new in [(r"\b(\w+)\.new\b", r"\1_left"), (r"\bhanded (\w+)\.entry\b", r"\1_part"), (r"\b(\w+)\.(?:old|now|entry)\b", r"\1"), (r"\bhanded result\b", "r"), (r"\bresult\.(\w+)", r"r_\1"), (r"\bself\.(\w+)", r"self_\1"), (r"\bresult\b", "r")]:
                 said = re.sub(old, new, said)
-            names = set(re.findall(r"(\w+)(?=:)", takes)) | set(re.findall(r"\bself\b", takes)) | set(re.findall(r"\b(?:\w+_left|\w+_part|r_\w+|r)\b", said))
+            names = set(re.findall(r"(\w+)(?=:)", takes)) | set(re.findall(r"\bself\b", takes)) | set(re.findall(r"\b(?:\w+_left|\w+_part|r_\w+|self_\w+|r)\b", said))
             if said.count("≡") == 1:
                 yield [whole(term(side)) for side in said.split("≡")], names
 
@@ -125,10 +127,11 @@ for path in sorted(glob.glob("crates/*/src/**/*.rt", recursive=True)):
     for m in re.finditer(r'^(\s*)pub (?:extern "C" )?fn (\w+)', text, re.M):
         of = re.findall(r"^impl(?:<.*?>)? (\w+)", text[: m.start()], re.M)
         functions.add((of[-1] + "::" if m.group(1).strip("\n") else "") + m.group(2) + place * (not m.group(2).endswith("_lent")))
+    functions.update(f"{of}::parse" for of, _, _ in traits.functions(text))
 for row in filter(None, mapped.split("\n| function | edits and theorems |\n")[-1].split("\n\n")[0].split("\n")[1:]):
     who, what = [c.strip() for c in row.strip("|").split("|")]
-    words = ["".join(w) for w in re.findall(r"`([\w:]+)`( in place)?", what)]
-    for name in ["".join(w) for w in re.findall(r"`([\w:]+)`( in place)?", who)]:
+    words = ["".join(w) for w in re.findall(r"`([\w:<>]+)`( in place)?", what)]
+    for name in ["".join(w) for w in re.findall(r"`([\w:<>]+)`( in place)?", who)]:
         own.setdefault(name, set()).update(w for w in words if w in labels or w in theorems)
         others.setdefault(name, set()).update(w for w in words if w in functions)
     bad += [f"docs/STATEMENTS.md: {w}, told of {who}, is no edit, theorem or public function" for w in words if w not in labels and w not in theorems and w not in functions]

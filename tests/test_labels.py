@@ -1,7 +1,9 @@
 """Each file of specs/ says in its first line which of five kinds it is. README's figures and reading order are true: what the contracts of all crates but bench rest on is rule and view alone, what the claims rest on is rule, view and claim, and each file of the order stands behind those that it uses."""
 import glob, os, re, sys
 
+sys.dont_write_bytecode = True
 os.chdir(os.path.join(os.path.dirname(os.path.abspath(__file__)), ".."))
+import traits
 KINDS = ["rule", "view", "claim", "check", "cut"]
 # what is refused, 1 to 16 of document 01 and 17 to 24 of document 02
 NUMBERS = """payload_too_long encode_out_of_memory decoder_out_of_memory bad_state wrong_buffer discarded_bytes invalid_esc invalid_message
@@ -89,7 +91,7 @@ def reached(start, but=""):
 FN = re.compile(r'^\s*pub (?:extern "C" )?fn (\w+)[^{]*?\n\s*ensures \{ (.*?) \}$', re.M | re.S)
 contracts, everywhere, cited = 0, set(), set()  # cited: what private functions have, a view of their answers as well
 for path in sorted(glob.glob("crates/*/src/**/*.rt", recursive=True)):
-    text = open(path, encoding="utf-8").read()
+    text = traits.spelled(open(path, encoding="utf-8").read())
     crate, (names, whole) = path.split(os.sep)[1], scope(text)
     cited |= set(meant(re.sub(r"^ghost .*", "", text, flags=re.M), names, whole))
     for name, said in FN.findall(text):

@@ -1,7 +1,9 @@
 """docs/STATEMENTS.md is true to the files: each file that it names is there, and each definition or law of a row stands in that row's file; each name by which a row says what promises it, or where it was tried, is a function, a law, an edit or a file that is there, and an equation told behind a function names what its contract names; each refusal of document 01 and each clause of BadState has its row; README names every crate; the forms of docs/DECISIONS.md stand at their lines; docs/house.svg is the house of crates.txt; the layout is rt fmt's."""
 import glob, os, re, shutil, subprocess, sys
 
+sys.dont_write_bytecode = True
 os.chdir(os.path.join(os.path.dirname(os.path.abspath(__file__)), ".."))
+import traits
 bad, rows = [], 0
 text = open("docs/STATEMENTS.md", encoding="utf-8").read()
 for path in sorted(set(re.findall(r"`(crates/[\w/.+-]+)`", text))):
@@ -32,16 +34,20 @@ limits = open("tests/expected/limits.txt", encoding="utf-8").read()
 for path in glob.glob("crates/*/src/**/*.rt", recursive=True):
     body, of = open(path, encoding="utf-8").read(), ""
     crate, private = path.split(os.sep)[1], path.endswith("main.rt")
-    for line, after in re.findall(r"^(.*(?:fn|const|impl|^\}).*)\n((?:\s*(?:requires|ensures) .*)?)", re.sub(r"\(\n(?:    .*\n)*?\s*\)", "()", body), re.M):
-        impl, item = re.match(r"impl(?:<.*?>)? (\w+)", line), re.match(r'\s*(pub )?(?:extern "C" )?(?:fn|const) (\w+)', line)
+    for line, after in re.findall(r"^(.*(?:fn|const|static|impl|^\}).*)\n((?:\s*(?:requires|ensures) .*)?)", re.sub(r"\(\n(?:    .*\n)*?\s*\)", "()", body), re.M):
+        impl, item = re.match(r"impl(?:<.*?>)? (\w+)", line), re.match(r'\s*(pub )?(?:extern "C" )?(?:fn|const|static) (\w+)', line)
         of = impl.group(1) if impl else "" if line == "}" else of
         if item and (item.group(1) or private):
             for name in {item.group(2), f"{crate}::{item.group(2)}", f"{of}::{item.group(2)}"}:
                 functions.setdefault(name, []).append((crate, after))
+    for called, _, said in traits.functions(body):
+        functions.setdefault(f"{called}::parse", []).append((crate, said))
 for path in glob.glob("crates/*/specs/*.antt") + glob.glob("crates/*/proofs/**/*.antt", recursive=True):
     for inner, name in re.findall(DEFINED, open(path, encoding="utf-8").read(), re.M):
         laws.setdefault(name, set()).add(path)
         definitions |= {name} if not inner and "/specs/" in path else set()
+# fields and parameters, which an equation may name, too
+written = {w for path in glob.glob("crates/*/src/**/*.rt", recursive=True) for w in re.findall(r"\b(\w+): ", open(path, encoding="utf-8").read())}
 edits = {os.path.basename(e)[:-5] for e in glob.glob("crates/*/must-fail/*.edit")}
 edits |= {law.replace("-", "_") for law, paths in laws.items() if any(p.endswith("/Wrong.antt") for p in paths)}
 
@@ -58,7 +64,9 @@ def missing(cell):
             if not re.search(r"^%s " % name, open(re.search(r"`([^`]+)`", behind).group(1)).read(), re.M):
                 yield name
         elif " " in name:
-            words = set(re.findall(r"(?<![.\w])[a-z]\w*(?! =)\b", name)) & definitions
+            said = set(re.findall(r"(?<![.\w])[a-z]\w*(?! =)\b", name))
+            yield from sorted(f"{w} (of {name})" for w in said if "_" in w and w not in definitions and w not in laws and w not in written)
+            words = said & definitions
             if last is not None and not any(words <= set(re.findall(r"\w+", said)) for _, said in last):
                 yield f"{name} (no contract of that function)"
         elif name in functions and not (file and file.group(1).endswith(".antt")):

@@ -55,7 +55,7 @@ for (command, answer), line in zip(examples, said + [""] * len(examples)):
 named = dict(re.findall(r"^\| `((?:replay|crates)/\w+).*\| (.*) \|$", page, re.M))
 same("who answers, on the page", {folder: re.findall(r"`(\w+)`", c) for folder, c in named.items()}, {"replay/replay": COMMANDS[LIBRARY], "crates/replay_parts": COMMANDS["replay_parts"]})
 tables = {LIBRARY: re.findall(r'^    \{"(\w+)", takes_', open("replay/replay.c").read(), re.M)}
-tables["replay_parts"] = re.search(r'match find\(\s*b"([\w,]+)"', open("crates/replay_parts/src/main.rt").read()).group(1).split(",")
+tables["replay_parts"] = re.findall(r'^        b"(\w+)" =>', open("crates/replay_parts/src/main.rt").read(), re.M)
 same("the tables of commands", tables, COMMANDS)
 for c in sum(COMMANDS.values(), []):
     same(f"an example of {c}", any(e.startswith(c + " ") for e, _ in examples), True)

@@ -1,5 +1,5 @@
 """Views map a name to itself, so that two fields exchanged in the code and in its view are not proved unseen. A view is a definition of a file labelled `view`, or one that a crate's `Views` names, with what it rests on.
-Of a declared struct each field is used once, and gives the field of its own name (exceptions: ANSWERS, WORDS). Of a declared variant the values are bound by their declared names and given on in their order; a case of a refusal has the number of its name, a case of so many bits that many bytes.
+Of a declared struct each field is used once, and gives the field of its own name (exceptions: ANSWERS, WORDS), or, where no record is written out, stands in its declared order. Of a declared variant the values are bound by their declared names and given on in their order; a case of a refusal has the number of its name, a case of so many bits that many bytes. Both are followed into a Result, an Option and an abbreviation of these.
 And wherever a record is written out, in specs/ or in the code, no field is given the value that has another's name."""
 import glob, os, re, sys
 
@@ -11,7 +11,10 @@ WORDS = {"stored": "fill", "reg": "crc", "idx": "crc_idx", "raw": "raw_msg_len",
 STATE = ["mem_of", "setup", "record_with"]
 # a view that writes no record out, but goes through the cases of one field, which are read as such
 BY_CASES = ["fault_of"]
+# what is followed at least: fewer means that a form of the code is not seen here
+FLOOR = {"views": 85, "fields": 60, "cases": 80}
 bad, fields, cases, literals = [], 0, 0, 0
+OF = {}  # the type of a struct's field, as it is written
 
 
 def declared():
@@ -21,6 +24,7 @@ def declared():
         crate, text = path.split(os.sep)[1], re.sub(r"//.*", "", open(path, encoding="utf-8").read())
         for name, body in re.findall(r"^(?:pub )?struct (\w+)(?:<[^>]*>)? \{(.*?)^\}", text, re.M | re.S):
             structs[crate, name] = re.findall(r"(\w+):", body)
+            OF.update({(crate, name, field): (crate, of) for field, of in re.findall(r"(\w+): (\w+),", body)})
         for name, body in re.findall(r"^(?:pub )?enum (\w+) \{(.*?)^\}", text, re.M | re.S):
             for case, given in re.findall(r"^    (\w+)((?: \{.*?\})?)(?:\([^)]*\))?,$", body, re.M | re.S):
                 variants[crate, name, case] = re.findall(r"(\w+):", given) or None
@@ -92,14 +96,21 @@ class File:
                 self.types.update({other or name: (crate, name) for name, _, other in items})
                 self.types.update({f"{short}.{parts[1]}": (crate, parts[1])} if short else {})
         joined = re.sub(r"\n[ \t]+", " ", self.text)
-        self.type = dict(re.findall(r"^(?:abbrev |unfoldable |pub )*([a-z]\w*) : (.*)$", joined, re.M))
+        self.type = dict(re.findall(r"^(?:abbrev |unfoldable |pub )*([a-zA-Z]\w*) : (.*)$", joined, re.M))
         self.clauses = {}
-        for name, left, right in re.findall(r"^(?!pub |use )([a-z]\w*)((?: [^=\n]*)?) = (.*)$", joined, re.M):
+        for name, left, right in re.findall(r"^(?!pub |use )([a-zA-Z]\w*)((?: [^=\n]*)?) = (.*)$", joined, re.M):
             self.clauses.setdefault(name, []).append((term(left), term(right)))
 
+    def arguments(self, name):
+        """What a definition takes, without what is implicit."""
+        parts = [[]]
+        for t in term(self.type[name]):
+            parts.append([]) if t == "→" else parts[-1].append(t)
+        return [p for p in parts[:-1] if p and not (isinstance(p[0], list) and p[0][0] == "{")]
+
     def takes(self, name):
-        """The declared types that a definition takes."""
-        return [self.types[t] for t in self.type[name].split(" → ")[:-1] if t in self.types]
+        """The declared types in what a definition takes."""
+        return [t for part in self.arguments(name) for t in declared_in(self, part)]
 
 
 STRUCTS, VARIANTS = declared()
@@ -118,6 +129,42 @@ def found(file, word):
     return (other, name) if other and name in other.type else None
 
 
+def meant(file, name, seen=()):
+    """The file and the terms that a name of a type abbreviates, or None."""
+    one = found(file, name) if name not in seen else None
+    clauses = one[0].clauses.get(one[1], []) if one and one[0].type[one[1]].startswith("Type ") else []
+    return (one[0], clauses[0][1]) if len(clauses) == 1 and not clauses[0][0] else None
+
+
+def declared_in(file, terms, seen=()):
+    """The declared types among terms of a type, those that an abbreviation stands for with them."""
+    types = []
+    for w in words(terms):
+        more = meant(file, w, seen) if w not in file.types else None
+        types += [file.types[w]] if w in file.types else declared_in(*more, (*seen, w)) if more else []
+    return types
+
+
+def opened(file, pattern, of, within=False):
+    """What a pattern binds: names that stand for a declared struct, with whether they stand in a Result or an Option, and cases of declared enums with what is bound behind them."""
+    while len(of) == 1 and isinstance(of[0], list) and of[0][0] == "(":
+        of = of[0][1:]
+    inner = pattern[1:] if isinstance(pattern, list) else [pattern]
+    head = inner[0].split(".")[-1] if inner and isinstance(inner[0], str) else None
+    more = meant(file, of[0]) if len(of) == 1 and isinstance(of[0], str) and of[0] not in file.types else None
+    if inner and isinstance(inner[0], str) and inner[0] in file.cases:
+        yield file.cases[inner[0]], inner[1:], within
+        for part in inner[1:]:
+            yield from opened(file, part, [], within)
+    elif more:
+        yield from opened(file, pattern, more[1], within)
+    elif head in ("Ok", "Err", "Some") and len(inner) == 2:
+        at = 2 if head == "Err" else 1
+        yield from opened(file, inner[1], of[at : at + 1] if of and str(of[0]).split(".")[-1] in ("Result", "Option") else [], True)
+    elif isinstance(pattern, str) and len(of) == 1 and isinstance(of[0], str) and file.types.get(of[0]) in STRUCTS:
+        yield file.types[of[0]], pattern, within
+
+
 def made(file, body):
     """The record that a body writes out, itself or by a definition such as `after`, which only puts its parameters into one; or None."""
     one = found(file, body[0]) if body and isinstance(body[0], str) else None
@@ -128,47 +175,51 @@ def made(file, body):
     return record(body)
 
 
-def of_struct(file, name, struct, whole):
+def of_struct(file, name, struct, x, right, whole, within):
     """Each field that comes from the struct comes from its own name; a view uses each once."""
     global fields
-    for left, right in file.clauses.get(name, []):
-        x, given = left[[file.types.get(t) for t in file.type[name].split(" → ")].index(struct)], made(file, right)
-        used = []
-        if whole and not given and len(STRUCTS[struct]) > 1 and name not in BY_CASES:
-            bad.append(f"{file.path}: {name} writes no record of {struct[1]} out, so that its fields can't be followed")
-        for field, body in (given or {"": right}).items():
-            said = words(body)
-            from_x = [said[i + 1][1:] for i in range(len(said) - 1) if said[i] == x and said[i + 1].startswith(".")]
-            used += from_x[:1] if given else from_x
-            if given and from_x:
-                fields += 1
-                if from_x[0] not in (field, WORDS.get(field)) and not (field == "answer" and from_x[0] in ANSWERS):
-                    bad.append(f"{file.path}: {name} gives {field} from {from_x[0]}")
-        if whole and [x] not in (given or {}).values() and sorted(used) != sorted(STRUCTS[struct]):
-            bad.append(f"{file.path}: {name} uses {', '.join(used)}, and {struct[1]} has {', '.join(STRUCTS[struct])}")
+    given = made(file, right)
+    used, parts = [], set()
+    if whole and not given and not within and len(STRUCTS[struct]) > 1 and name not in BY_CASES:
+        bad.append(f"{file.path}: {name} writes no record of {struct[1]} out, so that its fields can't be followed")
+    for field, body in (given or {"": right}).items():
+        said = words(body)
+        from_x = []
+        for i in [i for i in range(len(said) - 1) if said[i] == x and said[i + 1].startswith(".")]:
+            field_of, part = said[i + 1][1:], said[i + 2][1:] if said[i + 2 : i + 3] and said[i + 2].startswith(".") else None
+            opens = part in STRUCTS.get(OF.get((*struct, field_of)), [])  # a struct in a field is taken whole or part by part
+            from_x.append(part if opens else field_of)
+            if opens and (not given or len(from_x) == 1):
+                parts.add(field_of)
+        used += from_x[:1] if given else from_x
+        if given and from_x:
+            fields += 1
+            if from_x[0] not in (field, WORDS.get(field)) and not (field == "answer" and from_x[0] in ANSWERS):
+                bad.append(f"{file.path}: {name} gives {field} from {from_x[0]}")
+    if within and not used and words(right).count(x) == 1:  # given on whole
+        return
+    own = [n for f in STRUCTS[struct] for n in (STRUCTS[OF[(*struct, f)]] if f in parts else [f])]
+    fields += len(used) if within and not given else 0
+    if whole and [x] not in (given or {}).values() and (used != own if within and not given else sorted(used) != sorted(own)):
+        bad.append(f"{file.path}: {name} uses {', '.join(used)}, and {struct[1]} has {', '.join(STRUCTS[struct])}")
 
 
-def of_enum(file, name):
+def of_enum(file, name, case, bound, right):
     """The values of a case by their declared names, once and in their order; numbers and widths as the case is named."""
     global cases
-    for left, right in file.clauses.get(name, []):
-        said = words(right)
-        for part in left:
-            case = file.cases.get(part if isinstance(part, str) else part[1])
-            if not case:
-                continue
-            cases += 1
-            bound, names = [] if isinstance(part, str) else part[2:], [n if n not in file.type else "x" for n in VARIANTS[case] or []]
-            if names and [WORDS.get(b, b) for b in bound] != names:
-                bad.append(f"{file.path}: {name} binds {case[2]}'s {', '.join(names)} as {', '.join(map(str, bound))}")
-            if [w for w in said if w in bound] != bound:
-                bad.append(f"{file.path}: {name} does not give the values of {case[2]} once, in their order")
-            for no in [w for w in said if re.fullmatch(r"\w+_no", w)]:
-                if not no[:-3].replace("_", "").endswith(case[2].lower()):
-                    bad.append(f"{file.path}: {name} gives {case[2]} the number {no}")
-            bits = re.fullmatch(r"[A-Z][a-z]*(8|16|32|64)", case[2])
-            if bits and str(int(bits.group(1)) // 8) not in said:
-                bad.append(f"{file.path}: {name} gives {case[2]} another width")
+    cases += 1
+    said, names = words(right), [n if n not in file.type else "x" for n in VARIANTS[case] or []]
+    bound = [b for part in bound for b in (words([part]) if isinstance(part, list) else [part]) if b not in file.cases and b.split(".")[-1] not in ("Some", "None")]
+    if names and [WORDS.get(b, b) for b in bound] != names:
+        bad.append(f"{file.path}: {name} binds {case[2]}'s {', '.join(names)} as {', '.join(map(str, bound))}")
+    if [w for w in said if w in bound] != bound:
+        bad.append(f"{file.path}: {name} does not give the values of {case[2]} once, in their order")
+    for no in [w for w in said if re.fullmatch(r"\w+_no", w)]:
+        if not no[:-3].replace("_", "").endswith(case[2].lower()):
+            bad.append(f"{file.path}: {name} gives {case[2]} the number {no}")
+    bits = re.fullmatch(r"[A-Z][a-z]*(8|16|32|64)", case[2])
+    if bits and str(int(bits.group(1)) // 8) not in said:
+        bad.append(f"{file.path}: {name} gives {case[2]} another width")
 
 
 views = {(f, n) for f in FILES.values() if f.is_view for n in f.type}
@@ -184,11 +235,13 @@ while todo:
         todo += new
 for file in FILES.values():
     for name in file.type:
-        for one in file.takes(name):
-            if one in STRUCTS and ((file, name) in views or name in STATE):
-                of_struct(file, name, one, name not in STATE)
-            elif (file, name) in views:
-                of_enum(file, name)
+        for left, right in file.clauses.get(name, []) if (file, name) in views or name in STATE else []:
+            for pattern, of in zip(left, file.arguments(name)):
+                for what, bound, within in opened(file, pattern, of):
+                    if what in STRUCTS:
+                        of_struct(file, name, what, bound, right, name not in STATE, within)
+                    elif (file, name) in views:
+                        of_enum(file, name, what, bound, right)
 
 
 def written_out(text, head):
@@ -218,4 +271,6 @@ for path in sorted(glob.glob("crates/*/specs/*.antt") + glob.glob("crates/*/src/
 
 print("\n".join(bad))
 print(f"{len(views)} views, {fields} fields, {cases} cases, {literals} records written out, {len(bad)} faults")
-sys.exit(1 if bad or not views or not fields or not cases else 0)
+low = [f"{what}: {got} followed, of at least {FLOOR[what]}" for what, got in [("views", len(views)), ("fields", fields), ("cases", cases)] if got < FLOOR[what]]
+print("\n".join(low), end="\n" if low else "")
+sys.exit(1 if bad or low else 0)

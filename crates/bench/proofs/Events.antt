@@ -27,9 +27,9 @@ module _ (s : List ℕ) (p start pending n m : ℕ) (a : ReaderAfter) (h : n < m
   pub no_more_lem : is_event a.answer ≡ false → n ≡ n + events_from (m - n) s p start pending
   no_more_lem f = omega (arith, step false f)
 
-pub none_left_lem : (s : List ℕ) (p start pending n m : ℕ) → m ≤ n → n ≡ n + events_from (m - n) s p start pending
+pub none_left_lem : (s : List ℕ) (p start pending n m : ℕ) → n ≤ m → m ≤ n → m ≡ n + events_from (m - n) s p start pending
 unfolding events_from
-none_left_lem s p start pending n m h =
+none_left_lem s p start pending n m h h' =
     let k : m - n ≡ 0 = omega arith in
     let z : events_from (m - n) s p start pending ≡ 0 = ap (λ (x : ℕ). events_from x s p start pending) k in
     omega (arith, z)

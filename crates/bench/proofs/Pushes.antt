@@ -1,6 +1,7 @@
 -- The payloads counted so far, and those of the bytes that a push or a push of a slice takes.
 use mathlib.Core.Path.{◌≡◌, refl, ap, sym, ◌∙◌}
-use mathlib.Core.Bool.{cond}
+use mathlib.Core.Bool.{true, false, cond}
+use Rattle.std.specs.Prelude.{Ok, Err}
 use mathlib.Core.List.{List, [], ◌∷◌, ◌++◌}
 use Prim.Native.Nat.{ℕ, ◌+◌, ◌-◌, ◌<◌, ◌≤◌}
 use native.Mathlib.Omega.{arith}
@@ -9,11 +10,9 @@ use lib.ListN.{length, get_or, take, drop, take-append-drop, drop_of_length-le, 
 use lib.Seq.{length-take-le, drop-append-le, drop-drop}
 use Rattle.refusals.proofs.Places.{from_place}
 use Rattle.decoder.specs.Record as D
-use Rattle.decoder.specs.Record.{DecoderAnswer, After, after, refusal, answer_of, bad_decoder, push_record}
+use Rattle.decoder.specs.Record.{DecoderAnswer, Event, After, after, refusal, answer_of, bad_decoder, push_record}
 use Rattle.decoder.specs.declared.Decoder.{Decoder}
 use Rattle.decoder.specs.declared.Pushed.{Pushed}
-use Rattle.decoder.specs.declared.Event.{Event}
-use Rattle.decoder.specs.declared.Event.TheVariants.{Nothing, Payload, DiscardedBytes, InvalidEsc, OutOfMemory, InvalidMessage, BadState, WrongBuffer}
 use Rattle.decoder_slice.specs.Slice.{Took, after_slice, slice_record}
 use Rattle.decoder_slice.specs.declared.Sliced.{Sliced}
 use Rattle.decoder_slice.proofs.Taken.{taken_le, none_took, none_taken, goes_on_claim}
@@ -21,14 +20,9 @@ use Rattle.bench.specs.Bench.{counted, one, payloads_from}
 
 -- an event is a payload whatever its bytes
 same_one : (e : Event) (bytes : List ℕ) → one (answer_of e []) ≡ one (answer_of e bytes)
-same_one Nothing bytes = refl
-same_one Payload bytes = refl
-same_one (DiscardedBytes n) bytes = refl
-same_one (InvalidEsc a b c d) bytes = refl
-same_one OutOfMemory bytes = refl
-same_one (InvalidMessage read computed misaligned p) bytes = refl
-same_one BadState bytes = refl
-same_one WrongBuffer bytes = refl
+same_one (Ok true) bytes = refl
+same_one (Ok false) bytes = refl
+same_one (Err e) bytes = refl
 
 first : (n : ℕ) (d : Decoder) (m : List ℕ) (b : ℕ) (bs : List ℕ)
     → payloads_from (n + one (push_record d m b).answer) (push_record d m b).decoder (push_record d m b).memory bs ≡ payloads_from n d m (b ∷ bs)

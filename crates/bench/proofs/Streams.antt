@@ -1,6 +1,7 @@
 -- The bytes that an Encoder still gives, and their sum.
 use mathlib.Core.Path.{◌≡◌, refl, ap, sym, ◌∙◌, subst}
-use mathlib.Core.Bool.{true, false}
+use mathlib.Core.Bool.{Bool, true, false}
+use Rattle.std.specs.Prelude.{Some, None, Ok, Err}
 use mathlib.Core.List.{List, [], ◌∷◌, ◌++◌, map}
 use Prim.Native.Nat.{ℕ, suc, ◌+◌, ◌<◌, ◌≤◌}
 use native.Mathlib.Omega.{arith}
@@ -15,12 +16,13 @@ use Rattle.encoder.specs.declared.Encoder.{Encoder}
 use Rattle.encoder.specs.declared.Given.{Given}
 use Rattle.refusals.specs.Numbers.{limit}
 use Rattle.refusals.proofs.Places.{from_place}
-use Rattle.encoder.specs.Encoder.{NextAnswer, byte, finished, Step, step_of, fresh_encoder, next_step, next_answer}
+use Rattle.encoder.specs.declared.EncoderError.{EncoderError}
+use Rattle.encoder.specs.declared.EncoderError.TheVariants.{PayloadTooLong, BadState}
+use Rattle.encoder.specs.Encoder.{NextAnswer, byte, finished, no_byte, Step, step_of, fresh_encoder, next_step, next_answer}
 use Rattle.encoder.specs.Calls.{calls}
 use Rattle.encoder.proofs.Calls.{gives_the_frame}
 use Rattle.decoder.proofs.Split.{split}
 use Rattle.bench.specs.Bench.{sum, streamed}
-use Rattle.bench.specs.Given.{is_byte, given}
 
 -- the calls from e on give the bytes l, then finished
 pub record LeftToGive (e : Encoder) (payload l : List ℕ) : Type 0 where
@@ -28,6 +30,21 @@ pub record LeftToGive (e : Encoder) (payload l : List ℕ) : Type 0 where
 
 pub first_left : (payload : List ℕ) → length payload ≤ limit → LeftToGive fresh_encoder payload (frame_of payload)
 first_left payload h = record { all = gives_the_frame payload h 1 }
+
+is_byte : NextAnswer → Bool
+is_byte (byte b) = true
+is_byte finished = false
+is_byte (no_byte n) = false
+
+given : NextAnswer → ℕ
+given (byte b) = b
+given finished = 0
+given (no_byte n) = 0
+
+refusal_is : (e : EncoderError) → is_byte (next_answer (Err e)) ≡ false
+unfolding is_byte
+refusal_is PayloadTooLong = refl
+refusal_is BadState = refl
 
 head : List NextAnswer → NextAnswer
 head [] = finished
@@ -73,29 +90,40 @@ module _ (e : Encoder) (payload l : List ℕ) (i t : ℕ) (g : Given) (said : st
   taken h = next_gives e payload (get_or l i 0) (drop (i + 1) l) (subst (LeftToGive e payload) (from_place l i h) left)
 
   ended : length l ≤ i → is_byte (next_answer g.answer) ≡ false
+  unfolding is_byte
   ended h = ap is_byte (answer_is ∙ next_done e payload (subst (LeftToGive e payload) (drop_of_length-le l {i = i} h) left))
 
   number : i < length l → given (next_answer g.answer) ≡ get_or l i 0
+  unfolding given
   number h = ap given (answer_is ∙ (taken h).0)
 
   -- a byte: one more of l
-  pub byte_next : is_byte (next_answer g.answer) ≡ true → (k : ℕ) → k ≡ given (next_answer g.answer)
-      → (i + 1 ≤ length l) × LeftToGive g.encoder payload (drop (i + 1) l) × (t + k + sum (drop (i + 1) l) ≡ sum l)
-  byte_next said-byte k is =
+  pub byte_next : (b : ℕ) → g.answer ≡ Ok (Some b)
+      → (i + 1 ≤ length l) × LeftToGive g.encoder payload (drop (i + 1) l) × (t + b + sum (drop (i + 1) l) ≡ sum l)
+  unfolding is_byte given
+  byte_next b is =
       split (suc i) (length l)
-      (λ h. (
+      (λ h. let k : b ≡ get_or l i 0 = sym (ap (λ a. given (next_answer a)) is) ∙ number h in (
         omega arith,
         subst (λ (x : Encoder). LeftToGive x payload (drop (i + 1) l)) (sym (ap (λ (s : Step). s.encoder) said)) (taken h).1,
-        omega (arith, is, number h, sum_at l i h, so_far),
+        omega (arith, k, sum_at l i h, so_far),
       ))
-      (λ h. never (sym (ended (omega arith)) ∙ said-byte))
+      (λ h. never (sym (ended (omega arith)) ∙ ap (λ a. is_byte (next_answer a)) is))
 
   -- no byte: all of l were given
-  pub no_byte_lem : is_byte (next_answer g.answer) ≡ false → t ≡ sum l
+  no_byte_lem : is_byte (next_answer g.answer) ≡ false → t ≡ sum l
+  unfolding is_byte
   no_byte_lem said-none =
       split (suc i) (length l)
       (λ h. never (sym said-none ∙ ap is_byte (answer_is ∙ (taken h).0)))
       (λ h. omega (arith, so_far, sum_end l i (omega arith)))
+
+  pub none_given : g.answer ≡ Ok None → t ≡ sum l
+  unfolding is_byte
+  none_given is = no_byte_lem (ap (λ a. is_byte (next_answer a)) is)
+
+  pub none_refused : (x : EncoderError) → g.answer ≡ Err x → t ≡ sum l
+  none_refused x is = no_byte_lem (ap (λ a. is_byte (next_answer a)) is ∙ refusal_is x)
 
 -- all calls were made
 pub sum_is_all : (l : List ℕ) (i t : ℕ) → length l ≤ i → t + sum (drop i l) ≡ sum l → t ≡ sum l

@@ -35,10 +35,10 @@ rest_refused_claim k n out w strings e number next whole h q r =
     let a : n ≡ whole.number = omega (arith, s.number) in
     λ i. record { number = a i; memory = s.memory i }
 
-pub rest_done : (k n : ℕ) (out : List ℕ) (w : ListWriter) (strings : List ℕ) (e : ListEntry Span) (whole : CountedIn) → k ≤ n → WithRest n (written_times (k - n) out w strings e) whole → counted n out ≡ whole
+pub rest_done : (k n : ℕ) (out : List ℕ) (w : ListWriter) (strings : List ℕ) (e : ListEntry Span) (whole : CountedIn) → n ≤ k → k ≤ n → WithRest n (written_times (k - n) out w strings e) whole → counted k out ≡ whole
 unfolding written_times
-rest_done k n out w strings e whole h r =
+rest_done k n out w strings e whole h h' r =
     let m : k - n ≡ 0 = omega arith in
     let s : WithRest n (counted 0 out) whole = rw m at r in
-    let a : n ≡ whole.number = omega (arith, s.number) in
+    let a : k ≡ whole.number = omega (arith, s.number) in
     λ i. record { number = a i; memory = s.memory i }

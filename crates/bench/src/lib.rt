@@ -10,53 +10,36 @@ ghost use Rattle.packed.specs.Packed.{pack_into};
 ghost use Rattle.decoder.specs.Record as D;
 ghost use Rattle.encoder.specs.Encode as E;
 ghost use Rattle.refusals.specs.Numbers.{limit};
-ghost use Rattle.encoder.specs.Encoder.{next_answer};
 ghost use Rattle.streaming.specs.Answers.{said};
 ghost use Rattle.common.specs.Fields.{entry_at};
 ghost use Rattle.common.specs.Answers.{list_entry};
 ghost use Rattle.bench.specs.Bench.{counted, one, payloads_from, payloads, took_in, took_over, length_in, encoded, sum, streamed, is_event, events, first_writer, written_times, writes_of_entry};
-ghost use Rattle.bench.specs.Given.{is_byte, given};
 
-use common::{EntryRead, ListEntry};
+use common::ListEntry;
 use decoder::{Decoder, Event};
-use encoder::{Encoded, Encoder, Item};
-use streaming::Answer;
-use writer::{ListState, ListWriter, ListWritten};
+use encoder::{EncodeError, Encoder};
+use numbers::SmlParse;
+use streaming::{Answer, Reader};
+use writer::{ListState, ListWriter};
 
 // 1 for a payload, 0 for all else.
 fn one_payload(e: Event) -> u64
     ensures { (result ≡ one (D.answer_of e [])) × (result ≤ 1) }
 {
-    match e {
-        Event::Nothing => 0,
-        Event::Payload => 1,
-        Event::DiscardedBytes(_) => 0,
-        Event::InvalidEsc(_, _, _, _) => 0,
-        Event::OutOfMemory => 0,
-        Event::InvalidMessage {
-            read_crc: _,
-            calculated_crc: _,
-            misaligned: _,
-            num_padding_bytes: _,
-        } => 0,
-        Event::BadState => 0,
-        Event::WrongBuffer => 0,
-    }
+    (e == Ok(true)) as u64
 }
 
 // The payloads in `src`, by single pushes.
+#[tactic(auto, using(crate::proofs::Pushes::push_next, crate::proofs::Pushes::all_counted))]
 pub fn bench_push(src: &[u8], buf: &mut [u8]) -> u64
     ensures { counted result buf.new ≡ payloads first_way src.now buf.old }
 {
     let mut at = Decoder::new(buf.len());
     let mut n: u64 = 0;
-    let mut i = 0;
-    while i < src.len() {
-        let p = at.push_byte(buf, src[i]);
-        let e = p.event;
+    for b in src {
+        let p = at.push_byte(buf, *b);
         at = p.decoder;
-        n += one_payload(e);
-        i += 1;
+        n += one_payload(p.event);
     }
     n
 }
@@ -69,27 +52,27 @@ fn lent_to(i: usize, end: usize, step: usize) -> usize
     if step == 0 {
         return end;
     }
-    if end - i < step { end } else { i + step }
+    end.min(i.saturating_add(step))
 }
 
 // The payloads in `src` for this decoder, by pushes of slices. A refused push takes no byte, and nor would the next.
+#[tactic(auto, using(crate::proofs::Pushes::taken_room, crate::proofs::Pushes::slice_next, crate::proofs::Pushes::all_counted))]
 fn push_slices(d: Decoder, src: &[u8], buf: &mut [u8], step: usize) -> u64
     ensures { counted result buf.new ≡ payloads_from 0 d buf.old src.now }
 {
     let mut at = d;
     let mut n: u64 = 0;
     let mut i = 0;
+    // No `for`: each push says how far it went.
     while i < src.len() {
         let to = lent_to(i, src.len(), step);
         let p = decoder_slice::push_slice(at, buf, &src[i..to]);
-        let e = p.event;
-        let taken = p.taken;
         at = p.decoder;
-        if taken == 0 {
+        if p.taken == 0 {
             return n;
         }
-        n += one_payload(e);
-        i += taken;
+        n += one_payload(p.event);
+        i += p.taken;
     }
     n
 }
@@ -98,8 +81,7 @@ fn push_slices(d: Decoder, src: &[u8], buf: &mut [u8], step: usize) -> u64
 pub fn bench_push_slice(src: &[u8], buf: &mut [u8], step: usize) -> u64
     ensures { counted result buf.new ≡ payloads first_way src.now buf.old }
 {
-    let d = Decoder::new(buf.len());
-    push_slices(d, src, buf, step)
+    push_slices(Decoder::new(buf.len()), src, buf, step)
 }
 
 // The same in the second way of searching.
@@ -114,83 +96,51 @@ pub fn bench_push_slice_second(src: &[u8], buf: &mut [u8], step: usize) -> u64
 pub fn bench_pack(bytes: &mut [u8], capacity: usize)
     ensures { bytes.new ≡ (pack_into (new_record (sized capacity)) bytes.old).output }
 {
-    packed::pack(Decoder::new(capacity), bytes);
+    let _ = packed::pack(Decoder::new(capacity), bytes);
 }
 
 // One push of a slice over the bytes of a decoder: how many bytes it took.
 pub fn bench_packed(bytes: &mut [u8], buf: &mut [u8], chunk: &[u8]) -> usize
     ensures { took_in result bytes.new buf.new ≡ took_over bytes.old buf.old chunk.now }
 {
-    let t = packed::push_slice_packed(bytes, buf, chunk);
-    t.taken
+    packed::push_slice_packed(bytes, buf, chunk).taken
 }
 
 // The length of the frame that encode wrote, or 0.
-fn frame_length(r: Encoded) -> u64
+fn frame_length(r: Result<usize, EncodeError>) -> u64
     ensures { result ≡ length_in (E.encode_answer r) }
 {
-    match r {
-        Encoded::Frame(n) => n as u64,
-        Encoded::PayloadTooLong => 0,
-        Encoded::OutOfMemory => 0,
-    }
+    r.unwrap_or(0) as u64
 }
 
 // The length of the payload's frame, which goes to `out`.
 pub fn bench_encode(payload: &[u8], out: &mut [u8]) -> u64
     ensures { counted result out.new ≡ encoded payload.now out.old }
 {
-    let r = encoder::encode(payload, out);
-    frame_length(r)
+    frame_length(encoder::encode(payload, out))
 }
 
-// Whether an Encoder gave a byte: it goes on as long as it does.
-fn is_byte(answer: Item) -> bool
-    ensures { result ≡ is_byte (next_answer answer) }
-{
-    match answer {
-        Item::Byte(_) => true,
-        Item::Finished => false,
-        Item::PayloadTooLong => false,
-        Item::BadState => false,
-    }
-}
-
-// The byte given, or 0 if none was.
-fn byte_of(answer: Item) -> u64
-    ensures { (result ≡ given (next_answer answer)) × (result ≤ 255) }
-{
-    match answer {
-        Item::Byte(b) => b as u64,
-        Item::Finished => 0,
-        Item::PayloadTooLong => 0,
-        Item::BadState => 0,
-    }
-}
-
-// The sum of the bytes that an Encoder gives.
+// The sum of the bytes that an Encoder gives: it goes on as long as it gives one.
+#[tactic(auto, using(crate::proofs::Streams::first_left, crate::proofs::Streams::first_sum))]
 fn sum_given(payload: &[u8]) -> u64
     requires { length payload.now ≤ limit }
     ensures { result ≡ sum (frame_of payload.now) }
 {
-    let most = 2 * payload.len() + 19;
     let mut e = Encoder::new();
     let mut total: u64 = 0;
-    let mut i = 0;
-    while i < most {
+    for _ in 0..2 * payload.len() + 19 {
         let g = e.next(payload);
-        let answer = g.answer;
-        if !is_byte(answer) {
+        let Ok(Some(b)) = g.answer else {
             return total;
-        }
+        };
         e = g.encoder;
-        total += byte_of(answer);
-        i += 1;
+        total += b as u64;
     }
     total
 }
 
 // The sum of the bytes of the payload's frame, by an Encoder.
+#[tactic(auto, using(crate::proofs::Streams::streamed_long, crate::proofs::Streams::streamed_all))]
 pub fn bench_stream(payload: &[u8]) -> u64
     ensures { result ≡ streamed payload.now }
 {
@@ -204,35 +154,27 @@ pub fn bench_stream(payload: &[u8]) -> u64
 fn is_event(answer: Answer) -> bool
     ensures { result ≡ is_event (said answer) }
 {
-    match answer {
-        Answer::Event(_) => true,
-        Answer::NoEvent => false,
-        Answer::Refused(_) => false,
-        Answer::InputTooLong => false,
-        Answer::BadState => false,
-    }
+    matches!(answer, Ok(Some(_)))
 }
 
 // The events of `input`, up to the first call that brings none.
+#[tactic(auto, using(crate::proofs::Events::none_yet, crate::proofs::Events::no_more_lem, crate::proofs::Events::none_left_lem))]
 pub fn bench_events(input: &[u8]) -> u64
     ensures { result ≡ events input.now }
 {
-    let mut place = 0;
-    let mut start = 0;
-    let mut pending: u64 = 0;
-    let mut n = 0;
-    while n < input.len() {
-        let r = streaming::parse_next(input, place, start, pending);
-        let answer = r.answer;
-        if !is_event(answer) {
+    let mut reader = Reader {
+        place: 0,
+        start: 0,
+        pending: 0,
+    };
+    for n in 0..input.len() {
+        let r = reader.parse_next(input);
+        if !is_event(r.answer) {
             return n as u64;
         }
-        place = r.place;
-        start = r.start;
-        pending = r.pending;
-        n += 1;
+        reader = r.reader;
     }
-    n as u64
+    input.len() as u64
 }
 
 // The check value of `src`.
@@ -243,14 +185,13 @@ pub fn bench_crc(src: &[u8]) -> u64
 }
 
 // The check value of `src`, a byte a call.
+#[tactic(auto, unfolding(crc_x25::specs::Crc::crc_of), using(crc_x25::proofs::Laws::register_none, crc_x25::proofs::Fours::register_more))]
 pub fn bench_crc_byte(src: &[u8]) -> u64
     ensures { result ≡ crc_of src.now }
 {
     let mut reg = crc_x25::digest();
-    let mut i = 0;
-    while i < src.len() {
-        reg = crc_x25::update_byte(reg, src[i]);
-        i += 1;
+    for b in src {
+        reg = crc_x25::update_byte(reg, *b);
     }
     crc_x25::finalize(reg) as u64
 }
@@ -266,23 +207,21 @@ fn write_again(input: &[u8], out: &mut [u8], entry: ListEntry, count: u32) -> u6
             crc: crc_x25::digest(),
         },
     };
-    let mut n: u32 = 0;
-    while n < count {
+    for n in 0..count {
         match writer::write_list_entry(out, w, input, entry) {
-            ListWritten::To(v) => w = v,
-            ListWritten::Refused(_) => return n as u64,
+            Ok(v) => w = v,
+            Err(_) => return n as u64,
         }
-        n += 1;
     }
-    n as u64
+    count as u64
 }
 
 // The entry at the input's start, written so many times.
 pub fn bench_write(input: &[u8], out: &mut [u8], count: u32) -> u64
     ensures { counted result out.new ≡ writes_of_entry (entry_at input.now 0) out.old count input.now }
 {
-    match common::parse_list_entry(input, 0) {
-        EntryRead::Is { entry, next: _ } => write_again(input, out, entry, count),
-        EntryRead::Refused(_) => 0,
+    match ListEntry::parse(input, 0) {
+        Ok((entry, _)) => write_again(input, out, entry, count),
+        Err(_) => 0,
     }
 }

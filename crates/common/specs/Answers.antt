@@ -1,6 +1,4 @@
 -- view: what each answer says, field for field.
-use Rattle.refusals.specs.Read.{Read, got, refused}
-use Rattle.refusals.specs.Answers.{fault_of}
 use Rattle.refusals.specs.declared.Span.{Span}
 use Rattle.octet_string.specs.Answers.{opt_span}
 use Rattle.value.specs.Answers.{value, opt_u8, opt_i8, opt_time, opt_status}
@@ -8,12 +6,6 @@ use Rattle.common.specs.Fields.{OpenResponse, CloseResponse, ListEntry}
 use Rattle.common.specs.declared.OpenResponse as Opens
 use Rattle.common.specs.declared.CloseResponse as Closes
 use Rattle.common.specs.declared.ListEntry as Entries
-use Rattle.common.specs.declared.OpenRead.{OpenRead}
-use Rattle.common.specs.declared.OpenRead.TheVariants as OpenR
-use Rattle.common.specs.declared.CloseRead.{CloseRead}
-use Rattle.common.specs.declared.CloseRead.TheVariants as CloseR
-use Rattle.common.specs.declared.EntryRead.{EntryRead}
-use Rattle.common.specs.declared.EntryRead.TheVariants as EntryR
 
 abbrev pub open_response : Opens.OpenResponse → OpenResponse Span
 open_response x =
@@ -26,16 +18,8 @@ open_response x =
       sml_version = opt_u8 x.sml_version;
     }
 
-abbrev pub open_read : OpenRead → Read (OpenResponse Span)
-open_read (OpenR.Is response next) = got (open_response response) next
-open_read (OpenR.Refused f) = refused (fault_of f)
-
 abbrev pub close_response : Closes.CloseResponse → CloseResponse Span
 close_response x = record { global_signature = opt_span x.global_signature }
-
-abbrev pub close_read : CloseRead → Read (CloseResponse Span)
-close_read (CloseR.Is response next) = got (close_response response) next
-close_read (CloseR.Refused f) = refused (fault_of f)
 
 abbrev pub list_entry : Entries.ListEntry → ListEntry Span
 list_entry x =
@@ -48,7 +32,3 @@ list_entry x =
       value = value x.value;
       value_signature = opt_span x.value_signature;
     }
-
-abbrev pub entry_read : EntryRead → Read (ListEntry Span)
-entry_read (EntryR.Is entry next) = got (list_entry entry) next
-entry_read (EntryR.Refused f) = refused (fault_of f)

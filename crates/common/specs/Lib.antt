@@ -1,4 +1,3 @@
 pub mod Fields
-pub mod Cut
 pub mod Answers
 pub mod Decided

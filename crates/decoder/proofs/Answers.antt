@@ -2,41 +2,47 @@
 use mathlib.Core.Path.{◌≡◌, refl, ap, sym, ◌∙◌}
 use mathlib.Core.Bool.{true, false, cond}
 use mathlib.Core.List.{List, []}
+use Rattle.std.specs.Prelude.{Result, Ok, Err}
 use Prim.Native.Nat.{ℕ}
 use lib.ListN.{get_or}
 use lib.Dec.{eqb}
 use Rattle.decoder.specs.Push as P
-use Rattle.decoder.specs.Record.{DecoderAnswer, numbered, nothing, payload, count, refusal, answer_of, answer_asked, After, after_push, Left, after_finalize, after_reset}
-use Rattle.decoder.specs.declared.Event.{Event}
-use Rattle.decoder.specs.declared.Event.TheVariants.{Nothing, Payload, DiscardedBytes, InvalidEsc, OutOfMemory, InvalidMessage, BadState, WrongBuffer}
+use Rattle.decoder.specs.Record.{DecoderAnswer, Event, numbered, nothing, payload, count, refusal, answer_err, answer_of, answer_asked, After, after_push, Left, after_finalize, after_reset}
+use Rattle.decoder.specs.declared.DecodeErr.{DecodeErr}
+use Rattle.decoder.specs.declared.DecodeErr.TheVariants.{DiscardedBytes, InvalidEsc, OutOfMemory, InvalidMessage, BadState, WrongBuffer}
 use Rattle.decoder.specs.declared.Pushed.{Pushed}
 use Rattle.decoder.specs.declared.Finalized.{Finalized}
 use Rattle.decoder.specs.declared.AfterReset.{AfterReset}
-use Rattle.decoder.specs.declared.Asked.{Asked}
-use Rattle.decoder.specs.declared.Asked.TheVariants.{Good, BadSpan}
+use Rattle.refusals.specs.declared.BadSpan.{BadSpan}
 
--- the event that an answer came from
-event_from : DecoderAnswer → Event
-event_from nothing = Nothing
-event_from (payload bytes) = Payload
-event_from (count n) = Nothing
-event_from (refusal n v) =
+-- the refusal of a number, and the event that an answer came from
+refused_from : ℕ → List ℕ → DecodeErr
+refused_from n v =
     cond (eqb n 3) OutOfMemory (cond (eqb n 4) BadState (cond (eqb n 5) WrongBuffer
     (cond (eqb n 6) (DiscardedBytes (get_or v 0 0))
-    (cond (eqb n 7) (InvalidEsc (get_or v 0 0) (get_or v 1 0) (get_or v 2 0) (get_or v 3 0))
-    (InvalidMessage (get_or v 0 0) (get_or v 1 0) (eqb (get_or v 2 0) 1) (get_or v 3 0))))))
+    (cond (eqb n 7) (InvalidEsc (get_or v 0 0) (get_or v 1 0) (get_or v 2 0) (get_or v 3 0)) (InvalidMessage (get_or v 0 0) (get_or v 1 0) (eqb (get_or v 2 0) 1) (get_or v 3 0))))))
+
+event_from : DecoderAnswer → Event
+event_from nothing = Ok false
+event_from (payload bytes) = Ok true
+event_from (count n) = Ok false
+event_from (refusal n v) = Err (refused_from n v)
+
+refused_back : (e : DecodeErr) → event_from (answer_err e) ≡ Err e
+unfolding event_from refused_from
+refused_back (DiscardedBytes n) = refl
+refused_back (InvalidEsc a b c d) = refl
+refused_back OutOfMemory = refl
+refused_back (InvalidMessage read computed true p) = refl
+refused_back (InvalidMessage read computed false p) = refl
+refused_back BadState = refl
+refused_back WrongBuffer = refl
 
 event_back_lem : (e : Event) (bytes : List ℕ) → event_from (answer_of e bytes) ≡ e
 unfolding event_from
-event_back_lem Nothing bytes = refl
-event_back_lem Payload bytes = refl
-event_back_lem (DiscardedBytes n) bytes = refl
-event_back_lem (InvalidEsc a b c d) bytes = refl
-event_back_lem OutOfMemory bytes = refl
-event_back_lem (InvalidMessage read computed true p) bytes = refl
-event_back_lem (InvalidMessage read computed false p) bytes = refl
-event_back_lem BadState bytes = refl
-event_back_lem WrongBuffer bytes = refl
+event_back_lem (Ok false) bytes = refl
+event_back_lem (Ok true) bytes = refl
+event_back_lem (Err e) bytes = refused_back e
 
 one_event : (e f : Event) (bytes more : List ℕ) → answer_of e bytes ≡ answer_of f more → e ≡ f
 one_event e f bytes more h = sym (event_back_lem e bytes) ∙ ap event_from h ∙ event_back_lem f more
@@ -67,18 +73,18 @@ reset_one r s h =
     let e : r.count ≡ s.count = ap (λ (a : Left). count_of a.answer) h in
     λ i. record { decoder = d i; count = e i }
 
-asked_of : DecoderAnswer → Asked
-asked_of nothing = Good
-asked_of (payload bytes) = Good
-asked_of (count n) = Good
-asked_of (refusal n v) = BadSpan
+asked_of : DecoderAnswer → Result (Unit {0}) BadSpan
+asked_of nothing = Ok tt
+asked_of (payload bytes) = Ok tt
+asked_of (count n) = Ok tt
+asked_of (refusal n v) = Err (record {})
 
-asked_back : (a : Asked) → asked_of (answer_asked a) ≡ a
+asked_back : (a : Result (Unit {0}) BadSpan) → asked_of (answer_asked a) ≡ a
 unfolding asked_of
-asked_back Good = refl
-asked_back BadSpan = refl
+asked_back (Ok a) = refl
+asked_back (Err e) = refl
 
-pub ask_one : (a b : Asked) → answer_asked a ≡ answer_asked b → a ≡ b
+pub ask_one : (a b : Result (Unit {0}) BadSpan) → answer_asked a ≡ answer_asked b → a ≡ b
 ask_one a b h = sym (asked_back a) ∙ ap asked_of h ∙ asked_back b
 
 -- ---- and an answer says the step's event

@@ -3,7 +3,8 @@ use Prim.Native.Nat.{ℕ, zero, suc, ◌+◌, ◌-◌, ◌%◌, ◌<◌, ◌≤�
 use mathlib.Core.Path.{◌≡◌, refl}
 use mathlib.Core.List.{List, [], ◌∷◌}
 use lib.ListN.{take, drop}
-use Rattle.frame.specs.Frame.{same}
+use Rattle.decoder.proofs.Same.{same_pointwise}
+use lib.Pointwise.{pointwise}
 use Rattle.decoder.specs.Push.{early}
 use mathlib.Core.Bool.{Bool, true, false, cond}
 use native.Mathlib.Omega.{arith}
@@ -35,10 +36,10 @@ unfolding sound
 sound_room f read computed p e = leb-true (p + 4) f (last_of_four (eqb read computed) (eqb (f % 4) 0) (leb p 3) (leb (p + 4) f) e)
 
 -- the cut end is compared with the last bytes of 1b1b1b1a
-pub early_cut : (a : ℕ) (q : List ℕ) (r : Bool) → a ≤ 3 → (a ≡ 0 → ⊥)
-    → r ≡ same (take (a + 1) q) (take (4 - (3 - a)) (drop (3 - a) (0x1b ∷ 0x1b ∷ 0x1b ∷ 0x1a ∷ []))) → r ≡ early a q
-early_cut zero q r h ne e = absurd (ne refl)
-early_cut (suc zero) q r h ne e = e
-early_cut (suc (suc zero)) q r h ne e = e
-early_cut (suc (suc (suc zero))) q r h ne e = e
-early_cut (suc (suc (suc (suc a)))) q r h ne e = absurd (omega arith)
+pub early_cut : (a : ℕ) (q : List ℕ) → a ≤ 3 → (a ≡ 0 → ⊥)
+    → pointwise eqb (take (a + 1) q) (take (4 - (3 - a)) (drop (3 - a) (0x1b ∷ 0x1b ∷ 0x1b ∷ 0x1a ∷ []))) ≡ early a q
+early_cut zero q h ne = absurd (ne refl)
+early_cut (suc zero) q h ne = same_pointwise _ _
+early_cut (suc (suc zero)) q h ne = same_pointwise _ _
+early_cut (suc (suc (suc zero))) q h ne = same_pointwise _ _
+early_cut (suc (suc (suc (suc a)))) q h ne = absurd (omega arith)

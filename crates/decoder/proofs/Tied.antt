@@ -2,6 +2,7 @@
 use mathlib.Core.Path.{◌≡◌, refl, ap, ap₂, sym, ◌∙◌}
 use mathlib.Core.Bool.{true, false, cond}
 use mathlib.Core.List.{List, [], ◌∷◌, ◌++◌, append_assoc}
+use Rattle.std.specs.Prelude.{Err}
 use Prim.Native.Nat.{ℕ, zero, suc, ◌+◌, ◌-◌, ◌≤◌, ◌<◌}
 use native.Mathlib.Omega.{arith}
 use native.Mathlib.Numerals.{add-one}
@@ -16,11 +17,11 @@ use Rattle.frame.proofs.Cases.{either}
 use Rattle.decoder.specs.Push as P
 use Rattle.decoder.specs.Push.{Setup, Mem, State, body, escape, done, silent, discarded, bad_escape, says, put, searching, store, judge, finish, begun, fresh, early, sound?, computed, pad_of, crc_read, step}
 use Rattle.decoder.specs.Record.{after, answer_of, numbered, setup, mem_of, state_as, state_of, waiting, record_with, recounted, record_of, wrote, written, bad_decoder, wrong_buffer, pushed, push_record, DecoderAnswer, payload}
-use Rattle.decoder.specs.Cut.{code_event, code, Cut, cut, told_cut, stored_on, fresh_with, store_step, normal_step, escape_at, wait_step, four, judged_at, sound, verdict, computed_crc, end_step, other_step, judge_step, escape_step, step_cut}
+use Rattle.decoder.specs.Cut.{code_event, code, Cut, cut, told_cut, stored_on, store_step, normal_step, escape_at, wait_step, four, judged_at, sound, verdict, computed_crc, end_step, other_step, judge_step, escape_step, step_cut}
 use Rattle.decoder.specs.declared.DecodeState.{DecodeState}
 use Rattle.decoder.specs.declared.DecodeState.TheVariants.{LookingForMessageStart, ParsingNormal, ParsingEscChars, ParsingEscPayload, Done}
 use Rattle.decoder.specs.declared.Decoder.{Decoder}
-use Rattle.decoder.specs.declared.Event.TheVariants.{InvalidEsc, BadState, WrongBuffer}
+use Rattle.decoder.specs.declared.DecodeErr.TheVariants.{BadState, WrongBuffer}
 use Rattle.decoder.specs.declared.Pushed.{Pushed}
 use Rattle.decoder.proofs.Valid.{sane, sane_wait, sane_escape}
 use Rattle.decoder.proofs.Split.{cases, split}
@@ -236,22 +237,15 @@ tied d m b f =
 
 -- ---- a push, by what the tests said
 
-pub push_bad : (d : Decoder) (m : List ℕ) (b : ℕ) → bad_decoder d ≡ true → told_cut (cut (record { decoder = d; event = BadState }) m) ≡ push_record d m b
+pub push_bad : (d : Decoder) (m : List ℕ) (b : ℕ) → bad_decoder d ≡ true → told_cut (cut (record { decoder = d; event = Err BadState }) m) ≡ push_record d m b
 unfolding push_record
 push_bad d m b e = rw e
 
 pub push_wrong : (d : Decoder) (m : List ℕ) (b : ℕ) → bad_decoder d ≡ false → wrong_buffer d.capacity (length m) ≡ true
-    → told_cut (cut (record { decoder = d; event = WrongBuffer }) m) ≡ push_record d m b
+    → told_cut (cut (record { decoder = d; event = Err WrongBuffer }) m) ≡ push_record d m b
 unfolding push_record
 push_wrong d m b e w = rw (e, w)
 
 pub push_step : (d : Decoder) (m : List ℕ) (b : ℕ) (s : DecodeState) (r : Cut) → bad_decoder d ≡ false → wrong_buffer d.capacity (length m) ≡ false
     → d.state ≡ s → r ≡ step_cut s d m b → told_cut r ≡ push_record d m b
 push_step d m b s r e w q h = ap told_cut (h ∙ ap (λ (x : DecodeState). step_cut x d m b) (sym q)) ∙ tied d m b (record { state = e; buffer = w })
-
--- ---- and the last of the four bytes, in the code's words
-
-pub other_refused : (d : Decoder) (m : List ℕ) → early (missing d.fill) (four d.fill m) ≡ false
-    → fresh_with (setup d) (InvalidEsc (get_or m (d.fill - 4) 0) (get_or m (d.fill - 4 + 1) 0) (get_or m (d.fill - 4 + 2) 0) (get_or m (d.fill - 4 + 3) 0)) ≡ other_step d m
-unfolding other_step
-other_refused d m e = rw (e, add-zero (d.fill - 4))

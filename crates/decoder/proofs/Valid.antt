@@ -10,6 +10,7 @@ use lib.Dec.{eqb, ltb}
 use borrow.Author.Tests.{ltb-false, eqb-true, eqb-false, le-ltb, ne_eqb}
 use Rattle.decoder.specs.Push.{Setup, Mem, State, search, body, escape, done, Out, fresh, step, put}
 use Rattle.decoder.specs.Record.{setup, state_as, state_of, record_of, unknown_way, bad_in, bad_decoder, wrong_buffer}
+use Rattle.decoder.specs.Cut.{FrameHeld}
 use Rattle.decoder.specs.Saw.{Judged, is_data, restarts, good, bad, shifts, unknown, Saw, sought, began, again, waits, opens, stores, full, collects, judges, full'}
 use Rattle.decoder.specs.declared.DecodeState.{DecodeState}
 use Rattle.decoder.specs.declared.DecodeState.TheVariants.{LookingForMessageStart, ParsingNormal, ParsingEscChars, ParsingEscPayload, Done}
@@ -116,6 +117,13 @@ right_buffer C n e =
     (eqb-true n C p.0, ltb-false 1048576 n p.1)
 
 -- the state of a record that is not refused, with a buffer of the recorded length
+module _ (d : Decoder) (m : List ℕ) (n : ℕ) (g : bad_decoder d ≡ false) (w : wrong_buffer d.capacity (length m) ≡ false) where
+  pub wait_in_frame : d.state ≡ ParsingEscChars n → FrameHeld d m 0 × (n ≤ 3)
+  wait_in_frame s = omega (arith, sane d g, sane_wait d g n s, right_buffer d.capacity (length m) w)
+
+  pub escape_in_frame : d.state ≡ ParsingEscPayload n → FrameHeld d m n × (n ≤ 3)
+  escape_in_frame s = omega (arith, sane d g, sane_escape d g n s, right_buffer d.capacity (length m) w)
+
 valid_as : (d : Decoder) (m : List ℕ) (s : DecodeState) → d.state ≡ s → bad_decoder d ≡ false → length m ≡ d.capacity → Valid (setup d) (state_as s d m)
 valid_as d m (LookingForMessageStart n noise) e g l = omega (arith, (sane_search d g noise n e).1)
 valid_as d m ParsingNormal e g l =

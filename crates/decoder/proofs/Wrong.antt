@@ -2,19 +2,18 @@
 use mathlib.Core.Path.{◌≡◌, refl, ap, sym, ◌∙◌}
 use mathlib.Core.Bool.{true, false, false≢true}
 use mathlib.Core.List.{List, [], ◌∷◌}
+use Rattle.std.specs.Prelude.{Ok, Err}
 use Prim.Native.Nat.{ℕ}
 use native.Mathlib.Omega.{arith}
 use lib.ListN.{replicate, get_or}
 use Rattle.crc_x25.specs.Crc.{reflect, polynomial, bit_step, bit_steps, byte_step, register, final_xor}
 use Rattle.frame.specs.Frame.{same}
 use Rattle.decoder.specs.Push.{in_way, sized, begun, search, escape, done, starts, searching, store, judge, finish, step, finalized, reset_count}
-use Rattle.decoder.specs.Record.{DecoderAnswer, nothing, payload, count, refusal, After, Left, after_push, after_finalize, after_reset, answer_asked, wrote, bad_decoder, wrong_buffer, new_record, record_with, record_of, recounted, pushed, push_record, finalize_record, reset_record, has_payload, payload_record, ask_record}
-use Rattle.decoder.specs.declared.Asked.TheVariants.{Good}
+use Rattle.decoder.specs.Record.{Event, DecoderAnswer, nothing, payload, count, refusal, After, Left, after_push, after_finalize, after_reset, answer_asked, wrote, bad_decoder, wrong_buffer, new_record, record_with, record_of, recounted, pushed, push_record, finalize_record, reset_record, has_payload, payload_record, ask_record}
 use Rattle.decoder.specs.declared.DecodeState.{DecodeState}
 use Rattle.decoder.specs.declared.DecodeState.TheVariants.{LookingForMessageStart, ParsingNormal, ParsingEscChars, ParsingEscPayload, Done}
 use Rattle.decoder.specs.declared.Decoder.{Decoder}
-use Rattle.decoder.specs.declared.Event.{Event}
-use Rattle.decoder.specs.declared.Event.TheVariants.{Nothing, Payload, DiscardedBytes, WrongBuffer}
+use Rattle.decoder.specs.declared.DecodeErr.TheVariants.{DiscardedBytes, WrongBuffer}
 use Rattle.decided.specs.Part.{LentPart, part_at}
 
 -- the number of a refusal, and its first value
@@ -38,12 +37,12 @@ noise_of (ParsingEscPayload k) = 0
 noise_of Done = 0
 
 -- asked for its payload, a new decoder has none: 16
-search_taken_as_payload : answer_asked Good ≡ ask_record (new_record (sized 8)) (replicate 8 0) → ⊥
+search_taken_as_payload : answer_asked (Ok tt) ≡ ask_record (new_record (sized 8)) (replicate 8 0) → ⊥
 unfolding ask_record has_payload bad_decoder wrong_buffer number_of
 search_taken_as_payload h = let n : ◌≡◌ {A = ℕ} 0 16 = ap number_of h in omega (arith, n)
 
 -- the payload 12 stands in a buffer of eight: one of nine has none
-other_buffer_has_payload : answer_asked Good ≡ ask_record (record_of (sized 8) (done (0x12 ∷ []))) (0x12 ∷ replicate 8 0) → ⊥
+other_buffer_has_payload : answer_asked (Ok tt) ≡ ask_record (record_of (sized 8) (done (0x12 ∷ []))) (0x12 ∷ replicate 8 0) → ⊥
 unfolding ask_record has_payload bad_decoder wrong_buffer number_of
 other_buffer_has_payload h = let n : ◌≡◌ {A = ℕ} 0 16 = ap number_of h in omega (arith, n)
 
@@ -61,7 +60,7 @@ unfolding noise_of
 fresh_with_noise h = let n : ◌≡◌ {A = ℕ} 1 0 = ap (λ (d : Decoder). noise_of d.state) h in omega (arith, n)
 
 -- a byte of noise and a matched one, then finalize: 2, and no other number
-finalize_wrong_count : (k : ℕ) (d : Decoder) → (k ≡ 2 → ⊥) → after_finalize (record { decoder = d; event = DiscardedBytes k }) ≡ finalize_record (record_of (sized 8) (search 1 1 2)) → ⊥
+finalize_wrong_count : (k : ℕ) (d : Decoder) → (k ≡ 2 → ⊥) → after_finalize (record { decoder = d; event = Err (DiscardedBytes k) }) ≡ finalize_record (record_of (sized 8) (search 1 1 2)) → ⊥
 unfolding finalize_record bad_decoder finalized first_value
 finalize_wrong_count k d other h = other (ap (λ (l : Left). first_value l.answer) h)
 
@@ -170,7 +169,7 @@ unfolding wrong_buffer
 buffer_at_the_limit_is_wrong h = false≢true (sym h)
 
 -- a bad record, capacity 8 and fill 9, with seven bytes lent: 4, not 5
-wrong_buffer_before_bad_state : (d : Decoder) (m : List ℕ) → after_push (record { decoder = d; event = WrongBuffer }) m ≡ push_record (record_with (sized 8) 9 8 0 0 ParsingNormal) (replicate 7 0) 0x00 → ⊥
+wrong_buffer_before_bad_state : (d : Decoder) (m : List ℕ) → after_push (record { decoder = d; event = Err WrongBuffer }) m ≡ push_record (record_with (sized 8) 9 8 0 0 ParsingNormal) (replicate 7 0) 0x00 → ⊥
 unfolding push_record bad_decoder number_of
 wrong_buffer_before_bad_state d m h = let n : ◌≡◌ {A = ℕ} 5 4 = ap (λ (a : After). number_of a.answer) h in omega (arith, n)
 
@@ -226,14 +225,14 @@ unfolding push_record pushed bad_decoder wrong_buffer step store same judge fini
 with_room_lem = refl
 
 -- with capacity 7 there is no room for 7b
-capacity_on_payload_alone : (d : Decoder) (m : List ℕ) → after_push (record { decoder = d; event = Payload }) m ≡ push_record (last_byte 7) (0x12 ∷ 0x34 ∷ 0x56 ∷ 0x78 ∷ 0x1a ∷ 0x00 ∷ 0xb8 ∷ []) 0x7b → ⊥
+capacity_on_payload_alone : (d : Decoder) (m : List ℕ) → after_push (record { decoder = d; event = Ok true }) m ≡ push_record (last_byte 7) (0x12 ∷ 0x34 ∷ 0x56 ∷ 0x78 ∷ 0x1a ∷ 0x00 ∷ 0xb8 ∷ []) 0x7b → ⊥
 unfolding push_record pushed bad_decoder wrong_buffer step store number_of
 capacity_on_payload_alone d m h = let n : ◌≡◌ {A = ℕ} 0 3 = ap (λ (a : After). number_of a.answer) h in omega (arith, n)
 
 -- ---- finalize and reset
 
 -- a bad record is 4 here too
-finalize_of_a_bad_record : (n : ℕ) (d : Decoder) → after_finalize (record { decoder = d; event = DiscardedBytes n }) ≡ finalize_record (record_with (sized 8) 9 8 0 0 ParsingNormal) → ⊥
+finalize_of_a_bad_record : (n : ℕ) (d : Decoder) → after_finalize (record { decoder = d; event = Err (DiscardedBytes n) }) ≡ finalize_record (record_with (sized 8) 9 8 0 0 ParsingNormal) → ⊥
 unfolding finalize_record bad_decoder number_of
 finalize_of_a_bad_record n d h = let k : ◌≡◌ {A = ℕ} 6 4 = ap (λ (l : Left). number_of l.answer) h in omega (arith, k)
 
@@ -272,7 +271,7 @@ unfolding bad_decoder
 second_way_is_bad h = false≢true (sym h)
 
 -- inside a frame of way 3 a plain byte is refused, as any other is
-short_way_takes_any_way : (d : Decoder) (m : List ℕ) → after_push (record { decoder = d; event = Nothing }) m ≡ push_record (record_of (in_way 3 8) begun) (replicate 8 0) 0x12 → ⊥
+short_way_takes_any_way : (d : Decoder) (m : List ℕ) → after_push (record { decoder = d; event = Ok false }) m ≡ push_record (record_of (in_way 3 8) begun) (replicate 8 0) 0x12 → ⊥
 unfolding push_record bad_decoder number_of
 short_way_takes_any_way d m h = let n : ◌≡◌ {A = ℕ} 0 4 = ap (λ (a : After). number_of a.answer) h in omega (arith, n)
 

@@ -1,28 +1,31 @@
 -- cut: what each private function answers over the record's fields and the memory. proofs/Tied.antt ties it to the push rules, for every record that is not refused.
-use Rattle.std.specs.Prelude.{ℕ, suc, ◌+◌, ◌-◌, ◌*◌, ◌%◌, List, [], ◌∷◌, ◌++◌, Bool, true, false, cond, not, length, get_or, take, drop, replicate, ltb, leb, eqb}
+use Rattle.std.specs.Prelude.{ℕ, suc, ◌+◌, ◌-◌, ◌*◌, ◌%◌, ◌≤◌, List, [], ◌∷◌, ◌++◌, Bool, true, false, cond, not, Ok, Err, length, get_or, take, drop, replicate, ltb, leb, eqb}
 use Rattle.std.proofs.lemmas.List.Edits.{sets}
 use Rattle.refusals.specs.Numbers.{limit}
 use Rattle.crc_x25.specs.Crc.{start, register, final_xor}
 use Rattle.frame.specs.Frame.{esc_seq, restart_seq, missing, same}
 use Rattle.decoder.specs.Push as P
 use Rattle.decoder.specs.Push.{Setup, Out, begun, stopped, searching, early}
-use Rattle.decoder.specs.Record.{After, after_push, setup, record_with, recounted, record_of, new_record, unknown_way, bad_decoder, wrong_buffer}
+use Rattle.decoder.specs.Record.{Event, After, after_push, setup, record_with, recounted, record_of, new_record, unknown_way, bad_decoder, wrong_buffer}
 use Rattle.decoder.specs.declared.DecodeState.{DecodeState}
 use Rattle.decoder.specs.declared.DecodeState.TheVariants.{LookingForMessageStart, ParsingNormal, ParsingEscChars, ParsingEscPayload, Done}
 use Rattle.decoder.specs.declared.Decoder.{Decoder}
-use Rattle.decoder.specs.declared.Event.{Event}
-use Rattle.decoder.specs.declared.Event.TheVariants.{Nothing, Payload, DiscardedBytes, InvalidEsc, OutOfMemory, InvalidMessage}
+use Rattle.decoder.specs.declared.DecodeErr.TheVariants.{DiscardedBytes, InvalidEsc, OutOfMemory, InvalidMessage}
 use Rattle.decoder.specs.declared.Pushed.{Pushed}
+
+-- a record inside a frame whose bytes stand in the memory m, k of them behind what the CRC has gone over
+abbrev pub FrameHeld : Decoder → List ℕ → ℕ → Type 0
+FrameHeld d m k = (d.crc_idx + k ≤ d.fill) × (d.fill ≤ length m) × (8 ≤ d.raw_msg_len)
 
 -- ---- the code's words for what a step says
 
 abbrev pub code_event : P.PushEvent → Event
-code_event P.silent = Nothing
-code_event (P.discarded n) = DiscardedBytes n
-code_event (P.pays_out bytes) = Payload
-code_event P.memory = OutOfMemory
-code_event (P.bad_escape a b c d) = InvalidEsc a b c d
-code_event (P.bad_message read computed misaligned p) = InvalidMessage read computed misaligned p
+code_event P.silent = Ok false
+code_event (P.discarded n) = Err (DiscardedBytes n)
+code_event (P.pays_out bytes) = Ok true
+code_event P.memory = Err OutOfMemory
+code_event (P.bad_escape a b c d) = Err (InvalidEsc a b c d)
+code_event (P.bad_message read computed misaligned p) = Err (InvalidMessage read computed misaligned p)
 
 abbrev pub code : Setup → Out → Pushed
 code C o = record { decoder = record_of C o.state; event = code_event o.event }
@@ -52,7 +55,7 @@ abbrev pub in_state : Decoder → DecodeState → Decoder
 in_state d s = recounted d d.fill d.raw_msg_len s
 
 abbrev pub quiet : Decoder → Pushed
-quiet d = record { decoder = d; event = Nothing }
+quiet d = record { decoder = d; event = Ok false }
 
 abbrev pub fresh_with : Setup → Event → Pushed
 fresh_with C e = record { decoder = new_record C; event = e }
@@ -63,7 +66,7 @@ abbrev pub store_step : Decoder → List ℕ → List ℕ → Cut
 store_step d m vs =
     cond (leb (d.fill + length vs) (length m))
     (cut (quiet (stored_on d (length vs) ParsingNormal)) (sets m d.fill vs))
-    (cut (fresh_with (setup d) OutOfMemory) m)
+    (cut (fresh_with (setup d) (Err OutOfMemory)) m)
 
 unfoldable pub normal_step : Decoder → List ℕ → ℕ → Cut
 normal_step d m b = cond (eqb b 0x1b) (cut (quiet (pushed_on d (ParsingEscChars 1))) m) (store_step d m (b ∷ []))
@@ -94,8 +97,8 @@ sound f read computed p = cond (eqb read computed) (cond (eqb (f % 4) 0) (cond (
 unfoldable pub verdict : Setup → ℕ → ℕ → ℕ → ℕ → Pushed
 verdict C f read computed p =
     cond (sound f read computed p)
-    (record { decoder = record_with C (f - (p + 4)) 0 start 0 Done; event = Payload })
-    (fresh_with C (InvalidMessage read computed (not (eqb (f % 4) 0)) p))
+    (record { decoder = record_with C (f - (p + 4)) 0 start 0 Done; event = Ok true })
+    (fresh_with C (Err (InvalidMessage read computed (not (eqb (f % 4) 0)) p)))
 
 abbrev pub computed_crc : Decoder → List ℕ → ℕ
 computed_crc d m = final_xor (register d.crc (take (d.fill - 2 - d.crc_idx) (drop d.crc_idx m)))
@@ -108,14 +111,14 @@ unfoldable pub other_step : Decoder → List ℕ → Pushed
 other_step d m =
     cond (early (missing d.fill) (four d.fill m))
     (quiet (in_state d (ParsingEscPayload (4 - missing d.fill))))
-    (fresh_with (setup d) (InvalidEsc (judged_at d.fill m 0) (judged_at d.fill m 1) (judged_at d.fill m 2) (judged_at d.fill m 3)))
+    (fresh_with (setup d) (Err (InvalidEsc (judged_at d.fill m 0) (judged_at d.fill m 1) (judged_at d.fill m 2) (judged_at d.fill m 3))))
 
 unfoldable pub judge_step : Decoder → List ℕ → Pushed
 judge_step d m =
     cond (same (four d.fill m) esc_seq)
     (quiet (in_state d ParsingNormal))
     (cond (same (four d.fill m) restart_seq)
-    (record { decoder = record_of (setup d) begun; event = DiscardedBytes (d.raw_msg_len - 8) })
+    (record { decoder = record_of (setup d) begun; event = Err (DiscardedBytes (d.raw_msg_len - 8)) })
     (cond (eqb (judged_at d.fill m 0) 0x1a) (end_step d m) (other_step d m)))
 
 unfoldable pub escape_step : Decoder → List ℕ → ℕ → ℕ → Cut
@@ -124,7 +127,7 @@ escape_step d m k b =
     (cond (ltb k 3)
     (cut (quiet (stored_on d 1 (ParsingEscPayload (k + 1)))) (sets m d.fill (b ∷ [])))
     (cut (judge_step (stored_on d 1 (ParsingEscPayload 3)) (sets m d.fill (b ∷ []))) (sets m d.fill (b ∷ []))))
-    (cut (fresh_with (setup d) OutOfMemory) m)
+    (cut (fresh_with (setup d) (Err OutOfMemory)) m)
 
 -- ---- a push that is not refused
 
@@ -135,14 +138,7 @@ step_cut (ParsingEscChars n) d m b = wait_step d m n b
 step_cut (ParsingEscPayload k) d m b = escape_step d m k b
 step_cut Done d m b = cut (code (setup d) (searching d.way 0 0 0 b)) m
 
--- ---- what finalize and reset ask
-
-abbrev pub is_fresh : DecodeState → Bool
-is_fresh (LookingForMessageStart n noise) = cond (eqb n 0) (eqb noise 0) false
-is_fresh ParsingNormal = false
-is_fresh (ParsingEscChars n) = false
-is_fresh (ParsingEscPayload k) = false
-is_fresh Done = false
+-- ---- what payload asks
 
 abbrev pub is_done : DecodeState → Bool
 is_done (LookingForMessageStart n noise) = false

@@ -1,5 +1,5 @@
 -- check: mark 1 of crate decoder. Its contracts allow one outcome for each input, and its views lose nothing. Each crate has such a file.
-use Rattle.std.specs.Prelude.{◌≡◌, Bool, List, ℕ}
+use Rattle.std.specs.Prelude.{◌≡◌, Bool, List, ℕ, Result}
 use Rattle.decoder.specs.Push.{in_way, sized, starts}
 use Rattle.decoder.specs.Record.{after_push, after_finalize, after_reset, answer_asked}
 use Rattle.decoder.specs.Record.{new_record, recounted, push_record, finalize_record, reset_record, ask_record, payload_record, bad_decoder, wrong_buffer}
@@ -8,7 +8,7 @@ use Rattle.decoder.specs.declared.Decoder.{Decoder}
 use Rattle.decoder.specs.declared.Pushed.{Pushed}
 use Rattle.decoder.specs.declared.Finalized.{Finalized}
 use Rattle.decoder.specs.declared.AfterReset.{AfterReset}
-use Rattle.decoder.specs.declared.Asked.{Asked}
+use Rattle.refusals.specs.declared.BadSpan.{BadSpan}
 use Rattle.decided.specs.One.{One, With, Injective}
 use Rattle.decided.specs.Part.{LentPart, part_at}
 
@@ -31,5 +31,5 @@ pub record Decided : Type 0 where
   pub push_any : (d : Decoder) (buf : List ℕ) (b : ℕ) → One (λ (r : With Pushed). after_push r.answer r.memory ≡ push_record d buf b)
   pub finalize : (self : Decoder) → One (λ (r : Finalized). after_finalize r ≡ finalize_record self)
   pub reset : (self : Decoder) → One (λ (r : AfterReset). after_reset r ≡ reset_record self)
-  pub ask_payload : (self : Decoder) (buf : List ℕ) → One (λ (r : Asked). answer_asked r ≡ ask_record self buf)
+  pub ask_payload : (self : Decoder) (buf : List ℕ) → One (λ (r : Result (Unit {0}) BadSpan). answer_asked r ≡ ask_record self buf)
   pub payload : (self : Decoder) (buf : LentPart) → One (λ (r : LentPart). r ≡ part_at buf 0 (payload_record self buf.bytes))

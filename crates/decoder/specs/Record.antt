@@ -1,5 +1,5 @@
 -- rule: the record that the code keeps of a decoder, with the lent buffer, as the code's form of the push rules' state; what is refused; document 01's number and values of every answer.
-use Rattle.std.specs.Prelude.{Bool, true, false, cond, not, List, [], ◌∷◌, ◌++◌, ℕ, zero, suc, ◌+◌, length, take, drop, replicate, eqb, leb, ltb}
+use Rattle.std.specs.Prelude.{Bool, true, false, cond, not, List, [], ◌∷◌, ◌++◌, ℕ, zero, suc, ◌+◌, Result, Ok, Err, length, take, drop, replicate, eqb, leb, ltb}
 use Rattle.refusals.specs.Numbers.{decoder_out_of_memory_no, bad_state_no, wrong_buffer_no, discarded_bytes_no, invalid_esc_no, invalid_message_no, bad_span_no, limit}
 use Rattle.crc_x25.specs.Crc.{start}
 use Rattle.decoder.specs.Push as P
@@ -7,13 +7,12 @@ use Rattle.decoder.specs.Push.{Setup, in_way, first_way, second_way, Mem, State,
 use Rattle.decoder.specs.declared.DecodeState.{DecodeState}
 use Rattle.decoder.specs.declared.DecodeState.TheVariants.{LookingForMessageStart, ParsingNormal, ParsingEscChars, ParsingEscPayload, Done}
 use Rattle.decoder.specs.declared.Decoder.{Decoder}
-use Rattle.decoder.specs.declared.Event.{Event}
-use Rattle.decoder.specs.declared.Event.TheVariants.{Nothing, Payload, DiscardedBytes, InvalidEsc, OutOfMemory, InvalidMessage, BadState, WrongBuffer}
+use Rattle.decoder.specs.declared.DecodeErr.{DecodeErr}
+use Rattle.decoder.specs.declared.DecodeErr.TheVariants.{DiscardedBytes, InvalidEsc, OutOfMemory, InvalidMessage, BadState, WrongBuffer}
 use Rattle.decoder.specs.declared.Pushed.{Pushed}
 use Rattle.decoder.specs.declared.Finalized.{Finalized}
 use Rattle.decoder.specs.declared.AfterReset.{AfterReset}
-use Rattle.decoder.specs.declared.Asked.{Asked}
-use Rattle.decoder.specs.declared.Asked.TheVariants.{Good, BadSpan}
+use Rattle.refusals.specs.declared.BadSpan.{BadSpan}
 
 -- ---- answers, with document 01's numbers and values
 
@@ -36,16 +35,24 @@ numbered (P.discarded n) = refusal discarded_bytes_no (n ∷ [])
 numbered (P.bad_escape a b c d) = refusal invalid_esc_no (a ∷ b ∷ c ∷ d ∷ [])
 numbered (P.bad_message read computed misaligned p) = refusal invalid_message_no (read ∷ computed ∷ flag misaligned ∷ p ∷ [])
 
--- the code's event; `bytes` are those of a payload
+-- the answer of a refusal
+abbrev pub answer_err : DecodeErr → DecoderAnswer
+answer_err OutOfMemory = refusal decoder_out_of_memory_no []
+answer_err BadState = refusal bad_state_no []
+answer_err WrongBuffer = refusal wrong_buffer_no []
+answer_err (DiscardedBytes n) = refusal discarded_bytes_no (n ∷ [])
+answer_err (InvalidEsc a b c d) = refusal invalid_esc_no (a ∷ b ∷ c ∷ d ∷ [])
+answer_err (InvalidMessage read computed misaligned p) = refusal invalid_message_no (read ∷ computed ∷ flag misaligned ∷ p ∷ [])
+
+-- the code's event: Ok says whether a payload stands in the buffer
+abbrev pub Event : Type 0
+Event = Result Bool DecodeErr
+
+-- and its answer; `bytes` are those of a payload
 abbrev pub answer_of : Event → List ℕ → DecoderAnswer
-answer_of Nothing bytes = nothing
-answer_of Payload bytes = payload bytes
-answer_of OutOfMemory bytes = refusal decoder_out_of_memory_no []
-answer_of BadState bytes = refusal bad_state_no []
-answer_of WrongBuffer bytes = refusal wrong_buffer_no []
-answer_of (DiscardedBytes n) bytes = refusal discarded_bytes_no (n ∷ [])
-answer_of (InvalidEsc a b c d) bytes = refusal invalid_esc_no (a ∷ b ∷ c ∷ d ∷ [])
-answer_of (InvalidMessage read computed misaligned p) bytes = refusal invalid_message_no (read ∷ computed ∷ flag misaligned ∷ p ∷ [])
+answer_of (Ok false) bytes = nothing
+answer_of (Ok true) bytes = payload bytes
+answer_of (Err e) bytes = answer_err e
 
 -- an answer, with the record and the lent memory as they are then
 pub record After : Type 0 where
@@ -74,9 +81,9 @@ after_finalize r = left (answer_of r.event []) r.decoder
 abbrev pub after_reset : AfterReset → Left
 after_reset r = left (count r.count) r.decoder
 
-abbrev pub answer_asked : Asked → DecoderAnswer
-answer_asked Good = nothing
-answer_asked BadSpan = refusal bad_span_no []
+abbrev pub answer_asked : Result (Unit {0}) BadSpan → DecoderAnswer
+answer_asked (Ok a) = nothing
+answer_asked (Err e) = refusal bad_span_no []
 
 -- ---- the record's state, and the record of a state
 

@@ -1,15 +1,16 @@
 // Decoder of transport.rs, by value: a byte a push, into a buffer that is lent at each call.
 #![tactic(auto)]
 
-ghost use Rattle.std.specs.Prelude.{◌≡◌, [], ◌∷◌, ◌++◌, false, suc, ◌+◌, ◌*◌, ◌-◌, ◌^◌, ◌<◌, ◌≤◌, length, replicate};
+ghost use Rattle.std.specs.Prelude.{◌≡◌, [], ◌∷◌, ◌++◌, false, suc, ◌+◌, ◌*◌, ◌^◌, ◌<◌, ◌≤◌, length, replicate};
 ghost use Rattle.std.proofs.lemmas.List.Edits.{sets};
 ghost use Rattle.decided.specs.Part.{handed, part_at};
-ghost use Rattle.frame.specs.Frame.{same};
 ghost use Rattle.decoder.specs.Push.{in_way, sized, stopped, starts, matched_behind, more_noise, searching, begun, search, early};
 ghost use Rattle.decoder.specs.Record.{setup, record_with, recounted, record_of, after_push, after_finalize, after_reset, answer_asked, unknown_way, bad_in, bad_decoder, wrong_buffer, new_record, push_record, finalize_record, reset_record, payload_record, ask_record};
-ghost use Rattle.decoder.specs.Cut.{code, cut, stored_on, pushed_on, in_state, quiet, fresh_with, normal_step, escape_at, wait_step, sound, verdict, end_step, other_step, judge_step, escape_step, is_fresh, is_done, is_normal, plain_byte_claim, payload_in};
+ghost use Rattle.decoder.specs.Cut.{FrameHeld, code, cut, stored_on, pushed_on, in_state, quiet, fresh_with, normal_step, escape_at, wait_step, sound, verdict, end_step, other_step, judge_step, escape_step, plain_byte_claim, payload_in};
 
-#[derive(Clone, Copy)]
+use refusals::BadSpan;
+
+#[derive(Clone, Copy, PartialEq, Eq)]
 pub enum DecodeState {
     LookingForMessageStart {
         num_init_seq_bytes: u8,
@@ -31,7 +32,7 @@ pub struct Setup {
     pub way: u8,
 }
 
-#[derive(Clone, Copy)]
+#[derive(Clone, Copy, PartialEq, Eq)]
 pub struct Decoder {
     pub capacity: usize,
     pub fill: usize,
@@ -42,12 +43,11 @@ pub struct Decoder {
     pub state: DecodeState,
 }
 
-// What a push or finalize says: the Rust's DecodeErr, and nothing or a payload, and the refusals of a record or buffer that doesn't fit.
-#[derive(Clone, Copy)]
-pub enum Event {
-    Nothing,
-    Payload,
+// The Rust's DecodeErr, and the refusals of a record or buffer that doesn't fit.
+#[derive(Clone, Copy, PartialEq, Eq)]
+pub enum DecodeErr {
     DiscardedBytes(u32),
+    // Its four bytes, one by one: the logic knows no length of an array in an enum, and laws of the lines need it.
     InvalidEsc(u8, u8, u8, u8),
     OutOfMemory,
     InvalidMessage {
@@ -59,6 +59,9 @@ pub enum Event {
     BadState,
     WrongBuffer,
 }
+
+// What a push or finalize says, as the Rust's _push_byte: `Ok(true)`: a payload stands in the buffer; `Ok(false)`: nothing to say.
+pub type Event = Result<bool, DecodeErr>;
 
 #[derive(Clone, Copy)]
 pub struct Pushed {
@@ -78,13 +81,6 @@ pub struct AfterReset {
     pub count: u32,
 }
 
-// Whether a payload stands in the buffer.
-#[derive(Clone, Copy)]
-pub enum Asked {
-    Good,
-    BadSpan,
-}
-
 impl Decoder {
     // The byte that escapes are made of.
     pub const ESC: u8 = frame::ESC;
@@ -96,6 +92,7 @@ impl Decoder {
     pub const ESC_PAYLOAD_LEN: usize = 4;
 
     // The ways of searching: the Rust's, in which nothing is matched behind a byte that doesn't match, and one that a stray 1b doesn't fool (document 02, Q-7).
+    // Any number may come in, and an unknown one is refused as BadState: so the way is a number, and no enum.
     pub const FIRST_WAY: u8 = 1;
 
     pub const SECOND_WAY: u8 = 2;
@@ -111,10 +108,7 @@ impl Decoder {
     pub fn with_way(capacity: usize, way: u8) -> Decoder
         ensures { result ≡ new_record (in_way way capacity) }
     {
-        new_record(Setup {
-            capacity: capacity,
-            way: way,
-        })
+        new_record(Setup { capacity, way })
     }
 }
 
@@ -141,12 +135,12 @@ fn made(
 {
     Decoder {
         capacity: c.capacity,
-        fill: fill,
-        raw_msg_len: raw_msg_len,
-        crc: crc,
+        fill,
+        raw_msg_len,
+        crc,
         way: c.way,
-        crc_idx: crc_idx,
-        state: state,
+        crc_idx,
+        state,
     }
 }
 
@@ -178,7 +172,7 @@ pub fn recounted(d: Decoder, fill: usize, raw: u32, s: DecodeState) -> Decoder
 fn one_more(x: u32) -> u32
     ensures { result ≡ stopped (suc x) }
 {
-    if x == COUNT_STOP { x } else { x + 1 }
+    x.saturating_add(1)
 }
 
 // The noise behind n matched bytes and one more, of which k are matched then, or as many as 32 bits hold.
@@ -186,12 +180,7 @@ fn more_noise(noise: u32, n: u8, k: u8) -> u32
     requires { k ≤ suc n }
     ensures { result ≡ more_noise noise n k }
 {
-    let add = (n as u32) + 1 - (k as u32);
-    if noise <= COUNT_STOP - add {
-        noise + add
-    } else {
-        COUNT_STOP
-    }
+    noise.saturating_add((n as u32) + 1 - (k as u32))
 }
 
 // No event.
@@ -200,7 +189,7 @@ fn quiet(d: Decoder) -> Pushed
 {
     Pushed {
         decoder: d,
-        event: Event::Nothing,
+        event: Ok(false),
     }
 }
 
@@ -280,6 +269,7 @@ fn still_matched(way: u8, n: u8, b: u8) -> u8
 }
 
 // The arm LookingForMessageStart of push_byte: one byte of a search.
+#[tactic(auto, unfolding(crate::specs::Push::searching), using(crate::proofs::Search::matched_next, crate::proofs::Search::matched_most, crate::proofs::Search::not_eight))]
 fn looking_for_message_start(d: Decoder, noise: u32, n: u8, b: u8) -> Pushed
     requires { n < 8 }
     ensures { result ≡ code (setup d) (searching d.way n noise d.raw_msg_len b) }
@@ -293,7 +283,7 @@ fn looking_for_message_start(d: Decoder, noise: u32, n: u8, b: u8) -> Pushed
             }
             return Pushed {
                 decoder: begun,
-                event: Event::DiscardedBytes(noise),
+                event: Err(DecodeErr::DiscardedBytes(noise)),
             };
         }
         return quiet(looking(d, noise, n + 1));
@@ -303,6 +293,7 @@ fn looking_for_message_start(d: Decoder, noise: u32, n: u8, b: u8) -> Pushed
 }
 
 // The arm ParsingNormal: a byte of the frame, or the first 1b of a run.
+#[tactic(auto, unfolding(crate::specs::Cut::normal_step), using(crate::proofs::Tests::lt_room, crate::proofs::Tests::le_room))]
 fn parsing_normal(d: Decoder, buf: &mut [u8], b: u8) -> Pushed
     ensures { cut result buf.new ≡ normal_step d buf.old b }
 {
@@ -314,19 +305,7 @@ fn parsing_normal(d: Decoder, buf: &mut [u8], b: u8) -> Pushed
         buf[at] = b;
         return quiet(stored_on(d, 1, DecodeState::ParsingNormal));
     }
-    fresh_with(setup_of(d), Event::OutOfMemory)
-}
-
-// n bytes 1b from `at` on.
-fn put_run(buf: &mut [u8], at: usize, n: usize)
-    requires { at + n ≤ length buf.old }
-    ensures { buf.new ≡ sets buf.old at (replicate n 0x1b) }
-{
-    let mut i = 0;
-    while i < n {
-        buf[at + i] = Decoder::ESC;
-        i += 1;
-    }
+    fresh_with(setup_of(d), Err(DecodeErr::OutOfMemory))
 }
 
 // n bytes 1b from `at` on, and b.
@@ -334,32 +313,32 @@ fn put_run_and(buf: &mut [u8], at: usize, n: usize, b: u8)
     requires { at + n < length buf.old }
     ensures { buf.new ≡ sets buf.old at (replicate n 0x1b ++ (b ∷ [])) }
 {
-    put_run(buf, at, n);
+    buf[at..at + n].fill(Decoder::ESC);
     buf[at + n] = b;
 }
 
 // The fourth 1b: the CRC goes over what it hasn't, and over the four, which aren't stored.
+#[tactic(auto, unfolding(crate::specs::Cut::escape_at))]
 fn escape_at(d: Decoder, buf: &[u8]) -> Decoder
-    requires { (d.fill ≤ length buf.now) × (d.crc_idx ≤ d.fill) }
+    requires { FrameHeld d buf.now 0 }
     ensures { result ≡ escape_at d buf.now }
 {
-    let from = d.crc_idx;
-    let to = d.fill;
-    let seen = crc_x25::update(d.crc, &buf[from..to]);
+    let seen = crc_x25::update(d.crc, &buf[d.crc_idx..d.fill]);
     let crc = crc_x25::update(seen, &frame::ESCAPE);
     made(
         setup_of(d),
-        to,
+        d.fill,
         one_more(d.raw_msg_len),
         crc,
-        to,
+        d.fill,
         DecodeState::ParsingEscPayload(0),
     )
 }
 
 // The arm ParsingEscChars: a 1b more, or the run was data and is stored with the byte.
+#[tactic(auto, unfolding(crate::specs::Cut::wait_step), using(crate::proofs::Tests::lt_room_left, crate::proofs::Tests::le_room_left, crate::proofs::Stores::run_length))]
 fn parsing_esc_chars(d: Decoder, buf: &mut [u8], n: u8, b: u8) -> Pushed
-    requires { (d.fill ≤ length buf.old) × (d.crc_idx ≤ d.fill) × (n ≤ 3) }
+    requires { FrameHeld d buf.old 0 × (n ≤ 3) }
     ensures { cut result buf.new ≡ wait_step d buf.old n b }
 {
     if b == Decoder::ESC {
@@ -374,51 +353,30 @@ fn parsing_esc_chars(d: Decoder, buf: &mut [u8], n: u8, b: u8) -> Pushed
         put_run_and(buf, at, k, b);
         return quiet(stored_on(d, k + 1, DecodeState::ParsingNormal));
     }
-    fresh_with(setup_of(d), Event::OutOfMemory)
-}
-
-// The two slices hold the same bytes.
-fn same_bytes(s: &[u8], t: &[u8]) -> bool
-    ensures { result ≡ same s.now t.now }
-{
-    if s.len() != t.len() {
-        return false;
-    }
-    let mut i = 0;
-    while i < s.len() {
-        if s[i] != t[i] {
-            return false;
-        }
-        i += 1;
-    }
-    true
+    fresh_with(setup_of(d), Err(DecodeErr::OutOfMemory))
 }
 
 // u16::from_le_bytes of the Rust: the two CRC bytes, low byte first.
 fn le16(lo: u8, hi: u8) -> u16
     ensures { result ≡ lo + hi * 256 }
 {
-    (lo as u16) + (hi as u16) * 256
+    u16::from_le_bytes([lo, hi])
 }
 
 // The tests of the Rust's arm 0x1a: CRC, alignment, and the pad count against 3 and against what is stored.
+#[tactic(auto, unfolding(crate::specs::Cut::sound))]
 fn is_sound_end(fill: usize, read_crc: u16, calculated_crc: u16, p: u8) -> bool
     requires { 4 ≤ fill }
     ensures { result ≡ sound fill read_crc calculated_crc p }
 {
-    if read_crc != calculated_crc {
-        return false;
-    }
-    if fill % 4 != 0 {
-        return false;
-    }
-    if 3 < p {
-        return false;
-    }
-    p as usize + Decoder::ESC_PAYLOAD_LEN <= fill
+    read_crc == calculated_crc
+        && fill % 4 == 0
+        && p <= 3
+        && p as usize + Decoder::ESC_PAYLOAD_LEN <= fill
 }
 
 // An end sequence with the pad count p: a payload, or no valid message.
+#[tactic(auto, unfolding(crate::specs::Cut::verdict), using(crate::proofs::Tests::sound_room))]
 fn judged_end(c: Setup, fill: usize, read_crc: u16, calculated_crc: u16, p: u8) -> Pushed
     requires { 4 ≤ fill }
     ensures { result ≡ verdict c fill read_crc calculated_crc p }
@@ -427,33 +385,31 @@ fn judged_end(c: Setup, fill: usize, read_crc: u16, calculated_crc: u16, p: u8) 
         let length = fill - (p as usize + Decoder::ESC_PAYLOAD_LEN);
         return Pushed {
             decoder: made(c, length, 0, crc_x25::INIT, 0, DecodeState::Done),
-            event: Event::Payload,
+            event: Ok(true),
         };
     }
     fresh_with(
         c,
-        Event::InvalidMessage {
-            read_crc: read_crc,
-            calculated_crc: calculated_crc,
+        Err(DecodeErr::InvalidMessage {
+            read_crc,
+            calculated_crc,
             misaligned: fill % 4 != 0,
             num_padding_bytes: p,
-        },
+        }),
     )
 }
 
 // The end sequence: 1a, the pad count, the CRC low byte first. The CRC goes over all but itself.
+#[tactic(auto, unfolding(crate::specs::Cut::end_step))]
 fn end_sequence(d: Decoder, buf: &[u8]) -> Pushed
-    requires { (4 ≤ d.fill) × (d.fill ≤ length buf.now) × (d.crc_idx + 4 ≤ d.fill) }
+    requires { FrameHeld d buf.now 4 }
     ensures { result ≡ end_step d buf.now }
 {
-    let fill = d.fill;
-    let from = d.crc_idx;
-    let at = fill - Decoder::ESC_PAYLOAD_LEN;
-    let to = fill - 2;
+    let at = d.fill - Decoder::ESC_PAYLOAD_LEN;
     let read = le16(buf[at + 2], buf[at + 3]);
-    let seen = crc_x25::update(d.crc, &buf[from..to]);
+    let seen = crc_x25::update(d.crc, &buf[d.crc_idx..at + 2]);
     let calculated = crc_x25::finalize(seen);
-    judged_end(setup_of(d), fill, read, calculated, buf[at + 1])
+    judged_end(setup_of(d), d.fill, read, calculated, buf[at + 1])
 }
 
 // The first a of the four bytes are 1b, and the next is 1a.
@@ -461,47 +417,45 @@ fn is_cut_end(a: usize, q: &[u8]) -> bool
     requires { (a ≤ 3) × (length q.now ≡ 4) }
     ensures { result ≡ early a q.now }
 {
-    if a == 0 {
-        return false;
-    }
     let t: &[u8] = b"\x1b\x1b\x1b\x1a";
-    let from = 3 - a;
-    let to = a + 1;
-    same_bytes(&q[..to], &t[from..])
+    a != 0 && &q[..a + 1] == &t[3 - a..]
 }
 
 // Behind an escape none of the known sequences: the message ends with 1 to 3 bytes 1b and the end sequence behind them is cut, or the escape is invalid.
+#[tactic(auto, unfolding(crate::specs::Cut::other_step))]
 fn other_escape(d: Decoder, buf: &[u8]) -> Pushed
-    requires { (4 ≤ d.fill) × (d.fill ≤ length buf.now) }
+    requires { FrameHeld d buf.now 4 }
     ensures { result ≡ other_step d buf.now }
 {
-    let fill = d.fill;
-    let at = fill - Decoder::ESC_PAYLOAD_LEN;
-    let bytes_until_alignment = (4 - fill % 4) % 4;
+    let at = d.fill - Decoder::ESC_PAYLOAD_LEN;
+    let bytes_until_alignment = (4 - d.fill % 4) % 4;
     if is_cut_end(bytes_until_alignment, &buf[at..at + 4]) {
         let read = (4 - bytes_until_alignment) as u8;
         return quiet(in_state(d, DecodeState::ParsingEscPayload(read)));
     }
     fresh_with(
         setup_of(d),
-        Event::InvalidEsc(buf[at], buf[at + 1], buf[at + 2], buf[at + 3]),
+        Err(DecodeErr::InvalidEsc(buf[at], buf[at + 1], buf[at + 2], buf[at + 3])),
     )
 }
 
 // The four bytes behind an escape, the last of which has been stored.
+#[tactic(auto, unfolding(crate::specs::Cut::judge_step), using(crate::proofs::Same::same_pointwise))]
 fn judge_step(d: Decoder, buf: &[u8]) -> Pushed
-    requires { (4 ≤ d.fill) × (d.fill ≤ length buf.now) × (d.crc_idx + 4 ≤ d.fill) × (8 ≤ d.raw_msg_len) }
+    requires { FrameHeld d buf.now 4 }
     ensures { result ≡ judge_step d buf.now }
 {
     let at = d.fill - Decoder::ESC_PAYLOAD_LEN;
-    if same_bytes(&buf[at..at + 4], &frame::ESCAPE) {
+    let mut four = [0; 4];
+    four.copy_from_slice(&buf[at..at + 4]);
+    if four == frame::ESCAPE {
         return quiet(in_state(d, DecodeState::ParsingNormal));
     }
-    if same_bytes(&buf[at..at + 4], &frame::RESTART) {
+    if four == frame::RESTART {
         let ignored_bytes = d.raw_msg_len - Decoder::START_LEN;
         return Pushed {
             decoder: begun_frame(setup_of(d)),
-            event: Event::DiscardedBytes(ignored_bytes),
+            event: Err(DecodeErr::DiscardedBytes(ignored_bytes)),
         };
     }
     if buf[at] == 0x1a {
@@ -511,8 +465,9 @@ fn judge_step(d: Decoder, buf: &[u8]) -> Pushed
 }
 
 // The arm ParsingEscPayload: a byte behind an escape is stored, and the fourth is judged.
+#[tactic(auto, unfolding(crate::specs::Cut::escape_step), using(crate::proofs::Tests::lt_room, crate::proofs::Tests::le_room))]
 fn parsing_esc_payload(d: Decoder, buf: &mut [u8], n: u8, b: u8) -> Pushed
-    requires { (d.crc_idx + n ≤ d.fill) × (n ≤ 3) × (8 ≤ d.raw_msg_len) }
+    requires { FrameHeld d buf.old n × (n ≤ 3) }
     ensures { cut result buf.new ≡ escape_step d buf.old n b }
 {
     let last = d.fill;
@@ -523,17 +478,14 @@ fn parsing_esc_payload(d: Decoder, buf: &mut [u8], n: u8, b: u8) -> Pushed
         }
         return judge_step(stored_on(d, 1, DecodeState::ParsingEscPayload(3)), &buf[..]);
     }
-    fresh_with(setup_of(d), Event::OutOfMemory)
+    fresh_with(setup_of(d), Err(DecodeErr::OutOfMemory))
 }
 
 // A way of searching that is neither the first nor the second.
 fn unknown_way(way: u8) -> bool
     ensures { result ≡ unknown_way way }
 {
-    if way == Decoder::FIRST_WAY {
-        return false;
-    }
-    way != Decoder::SECOND_WAY
+    way != Decoder::FIRST_WAY && way != Decoder::SECOND_WAY
 }
 
 // Counts that no push leaves in this state.
@@ -545,132 +497,73 @@ fn bad_in(fill: usize, crc_idx: usize, raw_msg_len: u32, s: DecodeState) -> bool
         DecodeState::LookingForMessageStart {
             num_discarded_bytes: _,
             num_init_seq_bytes,
-        } => {
-            if fill == 0 {
-                7 < num_init_seq_bytes
-            } else {
-                true
-            }
-        }
+        } => fill != 0 || 7 < num_init_seq_bytes,
         DecodeState::ParsingNormal => raw_msg_len < Decoder::START_LEN,
-        DecodeState::ParsingEscChars(n) => {
-            if raw_msg_len < Decoder::START_LEN {
-                return true;
-            }
-            if n == 0 { true } else { 3 < n }
-        }
+        DecodeState::ParsingEscChars(n) => raw_msg_len < Decoder::START_LEN || n == 0 || 3 < n,
         DecodeState::ParsingEscPayload(n) => {
-            if raw_msg_len < Decoder::START_LEN {
-                return true;
-            }
-            if 3 < n {
-                return true;
-            }
-            fill - crc_idx < n as usize
+            raw_msg_len < Decoder::START_LEN || 3 < n || fill - crc_idx < n as usize
         }
         DecodeState::Done => false,
     }
 }
 
-// Refusal 4: an unknown way, or counts that no push leaves. Public for decoder_slice, which asks it before it takes a byte.
+// Refusal 4: an unknown way, or counts that no push leaves. Public for those that ask it before they take a byte.
+#[tactic(auto, unfolding(crate::specs::Record::bad_decoder))]
 pub fn bad_decoder(d: Decoder) -> bool
     ensures { result ≡ bad_decoder d }
 {
-    if unknown_way(d.way) {
-        return true;
-    }
-    if d.capacity < d.fill {
-        return true;
-    }
-    if d.fill < d.crc_idx {
-        return true;
-    }
-    let s = d.state;
-    bad_in(d.fill, d.crc_idx, d.raw_msg_len, s)
+    unknown_way(d.way)
+        || d.capacity < d.fill
+        || d.fill < d.crc_idx
+        || bad_in(d.fill, d.crc_idx, d.raw_msg_len, d.state)
 }
 
-// Refusal 5: the lent buffer isn't as long as the recorded one, or is over the limit; the Rust's buffer is in its type. Public for decoder_slice, too.
+// Refusal 5: the lent buffer isn't as long as the recorded one, or is over the limit; the Rust's buffer is in its type. Public for the same.
+#[tactic(auto, unfolding(crate::specs::Record::wrong_buffer))]
 pub fn wrong_buffer(recorded: usize, lent: usize) -> bool
     ensures { result ≡ wrong_buffer recorded lent }
 {
-    if lent == recorded {
-        refusals::LIMIT < lent
-    } else {
-        true
-    }
-}
-
-// The state inside a frame with no 1b waiting.
-fn is_normal(s: DecodeState) -> bool
-    ensures { result ≡ is_normal s }
-{
-    match s {
-        DecodeState::LookingForMessageStart {
-            num_discarded_bytes: _,
-            num_init_seq_bytes: _,
-        } => false,
-        DecodeState::ParsingNormal => true,
-        DecodeState::ParsingEscChars(_) => false,
-        DecodeState::ParsingEscPayload(_) => false,
-        DecodeState::Done => false,
-    }
+    lent != recorded || refusals::LIMIT < lent
 }
 
 // A byte of a frame that is no 1b and has room, with record and buffer as they should be: what most bytes are.
+#[tactic(auto, unfolding(crate::specs::Cut::plain_byte_claim))]
 fn is_plain(d: Decoder, lent: usize, b: u8) -> bool
     ensures { result ≡ plain_byte_claim d lent b }
 {
-    let s = d.state;
-    if !is_normal(s) {
-        return false;
-    }
-    if b == Decoder::ESC {
-        return false;
-    }
-    if lent <= d.fill {
-        return false;
-    }
-    if d.fill < d.crc_idx {
-        return false;
-    }
-    if d.raw_msg_len < Decoder::START_LEN {
-        return false;
-    }
-    if lent != d.capacity {
-        return false;
-    }
-    if refusals::LIMIT < lent {
-        return false;
-    }
-    !unknown_way(d.way)
+    // `==` takes four instructions a byte more than `matches!`, and the bar of a single push is missed already.
+    matches!(d.state, DecodeState::ParsingNormal)
+        && b != Decoder::ESC
+        && d.fill < lent
+        && d.crc_idx <= d.fill
+        && Decoder::START_LEN <= d.raw_msg_len
+        && lent == d.capacity
+        && lent <= refusals::LIMIT
+        && !unknown_way(d.way)
 }
 
 // A refusal that leaves the record as it is. It is made anew, since a copy has its padding to carry.
 fn unchanged(d: Decoder, e: Event) -> Pushed
     ensures { result ≡ record { decoder = d; event = e } }
 {
-    let s = d.state;
     Pushed {
-        decoder: in_state(d, s),
+        decoder: in_state(d, d.state),
         event: e,
     }
 }
 
-// Pushes a byte: the checks of record and buffer (wrong_buffer's two, one by one), then one step. A push of a slice calls this at the bytes that are not plain.
+// Pushes a byte: the checks of record and buffer, then one step. A push of a slice calls this at the bytes that are not plain.
+#[tactic(auto, using(crate::proofs::Tied::push_bad, crate::proofs::Tied::push_wrong, crate::proofs::Valid::sane_search))]
 pub fn push_any(d: Decoder, buf: &mut [u8], b: u8) -> Pushed
     ensures { after_push result buf.new ≡ push_record d buf.old b }
 {
     if bad_decoder(d) {
-        return unchanged(d, Event::BadState);
+        return unchanged(d, Err(DecodeErr::BadState));
     }
-    if d.capacity != buf.len() {
-        return unchanged(d, Event::WrongBuffer);
+    if wrong_buffer(d.capacity, buf.len()) {
+        return unchanged(d, Err(DecodeErr::WrongBuffer));
     }
-    if refusals::LIMIT < buf.len() {
-        return unchanged(d, Event::WrongBuffer);
-    }
-    let s = d.state;
-    match s {
+    match d.state {
         DecodeState::LookingForMessageStart {
             num_discarded_bytes,
             num_init_seq_bytes,
@@ -682,145 +575,93 @@ pub fn push_any(d: Decoder, buf: &mut [u8], b: u8) -> Pushed
     }
 }
 
-// A search that has seen nothing.
-fn is_fresh(s: DecodeState) -> bool
-    ensures { result ≡ is_fresh s }
-{
-    match s {
-        DecodeState::LookingForMessageStart {
-            num_discarded_bytes,
-            num_init_seq_bytes,
-        } => {
-            if num_init_seq_bytes == 0 {
-                num_discarded_bytes == 0
-            } else {
-                false
-            }
-        }
-        DecodeState::ParsingNormal => false,
-        DecodeState::ParsingEscChars(_) => false,
-        DecodeState::ParsingEscPayload(_) => false,
-        DecodeState::Done => false,
-    }
-}
-
-// The arm Done: a payload stands in the buffer.
-fn is_done(s: DecodeState) -> bool
-    ensures { result ≡ is_done s }
-{
-    match s {
-        DecodeState::LookingForMessageStart {
-            num_discarded_bytes: _,
-            num_init_seq_bytes: _,
-        } => false,
-        DecodeState::ParsingNormal => false,
-        DecodeState::ParsingEscChars(_) => false,
-        DecodeState::ParsingEscPayload(_) => false,
-        DecodeState::Done => true,
-    }
-}
-
 impl Decoder {
     // Pushes a byte: a plain one by the short way, any other by its state. The record is made anew on both ways, so that it can stay in registers.
+    #[tactic(auto, using(crate::proofs::Plain::plain_says, crate::proofs::Plain::plain_fits, crate::proofs::Plain::push_plain))]
     pub fn push_byte(self, buf: &mut [u8], b: u8) -> Pushed
         ensures { after_push result buf.new ≡ push_record self buf.old b }
     {
         let at = self.fill;
-        let s = self.state;
         if is_plain(self, buf.len(), b) {
             buf[at] = b;
-            return quiet(stored_on(self, 1, s));
+            return quiet(stored_on(self, 1, self.state));
         }
-        let p = push_any(in_state(self, s), buf, b);
-        let d = p.decoder;
-        let e = p.event;
-        let t = d.state;
+        let p = push_any(in_state(self, self.state), buf, b);
         Pushed {
-            decoder: in_state(d, t),
-            event: e,
+            decoder: in_state(p.decoder, p.decoder.state),
+            event: p.event,
         }
     }
 
     // Says how many bytes are lost, if any, and begins again.
+    #[tactic(auto, unfolding(crate::specs::Record::finalize_record, crate::specs::Push::finalized))]
     pub fn finalize(self) -> Finalized
         ensures { after_finalize result ≡ finalize_record self }
     {
         if bad_decoder(self) {
             return Finalized {
                 decoder: self,
-                event: Event::BadState,
+                event: Err(DecodeErr::BadState),
             };
         }
-        let f = new_record(setup_of(self));
-        let s = self.state;
-        if is_fresh(s) {
-            return Finalized {
-                decoder: f,
-                event: Event::Nothing,
-            };
-        }
-        if is_done(s) {
-            return Finalized {
-                decoder: f,
-                event: Event::Nothing,
-            };
-        }
+        let event = match self.state {
+            DecodeState::LookingForMessageStart {
+                num_discarded_bytes: 0,
+                num_init_seq_bytes: 0,
+            }
+            | DecodeState::Done => Ok(false),
+            _ => Err(DecodeErr::DiscardedBytes(self.raw_msg_len)),
+        };
         Finalized {
-            decoder: f,
-            event: Event::DiscardedBytes(self.raw_msg_len),
+            decoder: new_record(setup_of(self)),
+            event,
         }
     }
 
     // Begins again, and gives the number of bytes that are lost. Any record will do.
+    #[tactic(auto, unfolding(crate::specs::Record::reset_record, crate::specs::Push::reset_count))]
     pub fn reset(self) -> AfterReset
         ensures { after_reset result ≡ reset_record self }
     {
-        let f = new_record(setup_of(self));
-        let s = self.state;
-        if is_done(s) {
-            return AfterReset {
-                decoder: f,
-                count: 0,
-            };
-        }
         AfterReset {
-            decoder: f,
-            count: self.raw_msg_len,
+            decoder: new_record(setup_of(self)),
+            count: if self.state == DecodeState::Done {
+                0
+            } else {
+                self.raw_msg_len
+            },
         }
     }
 
     // Whether a payload stands in the buffer, or why `payload` gives the empty part.
-    pub fn ask_payload(self, buf: &[u8]) -> Asked
+    #[tactic(auto, using(crate::proofs::Checks::ask_is, crate::proofs::Checks::ask_no))]
+    pub fn ask_payload(self, buf: &[u8]) -> Result<(), BadSpan>
         ensures { answer_asked result ≡ ask_record self buf.now }
     {
         if payload_in(self, buf.len()) {
-            return Asked::Good;
+            Ok(())
+        } else {
+            Err(BadSpan)
         }
-        Asked::BadSpan
     }
 
-    // The payload: the buffer's first bytes, from the push that said it to the next. Otherwise the empty part.
+    // The payload: the buffer's first bytes, from the push that said it to the next. Otherwise the empty part, and no None: document 01 wants that, and a question of its own.
+    #[tactic(auto, using(crate::proofs::Checks::payload_is, crate::proofs::Checks::payload_no_lem, decided::proofs::Parts::handed_is))]
     pub fn payload(self, buf: &[u8]) -> &[u8]
         ensures { handed result ≡ part_at (handed buf.entry) 0 (payload_record self buf.now) }
     {
-        let at = self.fill;
         if payload_in(self, buf.len()) {
-            return &buf[..at];
+            &buf[..self.fill]
+        } else {
+            &buf[..0]
         }
-        &buf[..0]
     }
 }
 
 // A payload stands in a buffer of this length.
+#[tactic(auto, unfolding(crate::specs::Cut::payload_in))]
 fn payload_in(d: Decoder, lent: usize) -> bool
     ensures { result ≡ payload_in d lent }
 {
-    if bad_decoder(d) {
-        return false;
-    }
-    if wrong_buffer(d.capacity, lent) {
-        return false;
-    }
-    let s = d.state;
-    is_done(s)
+    !bad_decoder(d) && !wrong_buffer(d.capacity, lent) && d.state == DecodeState::Done
 }

@@ -1,33 +1,38 @@
 -- One byte more of a stretch that says nothing.
-use Prim.Native.Nat.{ℕ, suc, ◌+◌, ◌-◌, ◌<◌, ◌≤◌}
+use Rattle.std.specs.Prelude.{Ok, Err}
+use Prim.Native.Nat.{ℕ, zero, suc, ◌+◌, ◌-◌, ◌<◌, ◌≤◌}
 use mathlib.Core.List.{List, [], ◌∷◌}
 use mathlib.Core.Path.{◌≡◌, refl, sym, ap, ◌∙◌, subst}
-use mathlib.Core.Bool.{Bool, true, false, not}
+use mathlib.Core.Bool.{true, false}
 use native.Mathlib.Omega.{arith}
 use native.Mathlib.Nat.{add-zero}
 use native.Mathlib.Numerals.{add-one}
 use borrow.Author.Tests.{le-ltb, lt-ltb, le-leb, eq-eqb, ne_eqb}
 use lib.Dec.{ltb, T}
-use lib.ListN.{length, set, drop, get_or, drop_of_length-le}
+use lib.ListN.{length, set, take, drop, get_or, drop_of_length-le, length-drop}
+use lib.Seq.{sets, length-sets, length-take-le}
+use Rattle.std.proofs.lemmas.List.{get_or-drop}
+use Rattle.std.proofs.lemmas.Grind.{take_at_read}
+use borrow.Rule.Slice.PartMut.{put_mid}
+use Rattle.decoder.proofs.Stores.{sets_more, put_sets}
 use Rattle.refusals.proofs.Places.{from_place}
 use Rattle.decoder.specs.declared.DecodeState.{DecodeState}
 use Rattle.decoder.specs.declared.DecodeState.TheVariants.{LookingForMessageStart, ParsingNormal, ParsingEscChars, ParsingEscPayload, Done}
 use Rattle.decoder.specs.declared.Decoder.{Decoder}
-use Rattle.decoder.specs.declared.Event.{Event}
-use Rattle.decoder.specs.declared.Event.TheVariants.{Nothing, Payload, DiscardedBytes, InvalidEsc, OutOfMemory, InvalidMessage, BadState, WrongBuffer}
+use Rattle.decoder.specs.declared.DecodeErr.TheVariants.{DiscardedBytes, InvalidEsc, OutOfMemory, InvalidMessage, BadState, WrongBuffer}
 use Rattle.decoder.specs.declared.Pushed.{Pushed}
 use Rattle.decoder.specs.declared.AfterReset.{AfterReset}
 use Rattle.decoder.specs.Push.{stopped, matched_behind, more_noise, searching}
-use Rattle.decoder.specs.Record.{nothing, answer_of, After, after, after_push, Left, after_reset, push_record, reset_record, unknown_way, bad_in, bad_decoder, wrong_buffer, setup, new_record}
+use Rattle.decoder.specs.Record.{Event, nothing, answer_of, After, after, after_push, Left, after_reset, push_record, reset_record, unknown_way, bad_in, bad_decoder, wrong_buffer, setup, new_record}
 use Rattle.decoder.specs.Cut.{told_cut, stored_on, pushed_on, in_state, step_cut, normal_step, wait_step, escape_step}
 use Rattle.decoder.proofs.Split.{cases}
 use Rattle.decoder.proofs.Faithful.{Fit, push_is_step}
 use Rattle.decoder.proofs.Tied.{tied, push_step}
 use Rattle.decoder.proofs.Runs.{new_fit}
 use Rattle.decoder.proofs.Search.{matched_most, noise_grows}
-use Rattle.decoder.proofs.Valid.{sane_way, right_buffer}
+use Rattle.decoder.proofs.Valid.{sane, sane_way, right_buffer}
 use Rattle.decoder_slice.specs.Slice.{Took, took, says_nothing, pushes_from}
-use Rattle.decoder_slice.specs.Stretch.{moved_by, Goes}
+use Rattle.decoder_slice.specs.Stretch.{moved_by, FrameWithBuffer, Goes, Plain, Escapes}
 use Rattle.decoder_slice.specs.declared.Stretch.{Stretch}
 
 pub never : {A : Type 0} → false ≡ true → A
@@ -54,14 +59,14 @@ quiet_next u d m s i d' m' h e = runs_quietly u d m (get_or s i 0) (drop (i + 1)
 
 -- what an event says doesn't hang on a payload's bytes
 same_said : (e : Event) (bytes : List ℕ) → says_nothing (answer_of e []) ≡ says_nothing (answer_of e bytes)
-same_said Nothing bytes = refl
-same_said Payload bytes = refl
-same_said (DiscardedBytes n) bytes = refl
-same_said (InvalidEsc a b c d) bytes = refl
-same_said OutOfMemory bytes = refl
-same_said (InvalidMessage read computed misaligned p) bytes = refl
-same_said BadState bytes = refl
-same_said WrongBuffer bytes = refl
+same_said (Ok false) bytes = refl
+same_said (Ok true) bytes = refl
+same_said (Err (DiscardedBytes n)) bytes = refl
+same_said (Err (InvalidEsc a b c d)) bytes = refl
+same_said (Err OutOfMemory) bytes = refl
+same_said (Err (InvalidMessage read computed misaligned p)) bytes = refl
+same_said (Err BadState) bytes = refl
+same_said (Err WrongBuffer) bytes = refl
 
 -- a single push that says something, or nothing
 pub loud_next : (u : ℕ) (d : Decoder) (m s : List ℕ) (i : ℕ) (r : Pushed) (m' : List ℕ) → i < length s → after_push r m' ≡ push_record d m (get_or s i 0) → says_nothing (answer_of r.event []) ≡ false
@@ -186,14 +191,6 @@ pub search_there : (d : Decoder) (noise n q : ℕ) (s : List ℕ) (i k : ℕ) (r
     → (r.at ≤ length s) × (i ≤ r.at) × ((m : List ℕ) → length m ≡ d.capacity → Goes r.decoder r.at m i (in_state d (LookingForMessageStart n noise)) m s)
 search_there d noise n q s i k r e a h goes = (omega arith, omega arith, λ m l. rw (e, a) (goes m l))
 
-pub not-false : (x : Bool) → not x ≡ false → x ≡ true
-not-false true e = refl
-not-false false e = cc
-
-pub not-true : (x : Bool) → not x ≡ true → x ≡ false
-not-true false e = refl
-not-true true e = cc
-
 -- a further 1b
 wait_byte : (d : Decoder) (q : ℕ) (m : List ℕ) (b : ℕ) → b ≡ 0x1b → (q ≡ 3 → ⊥)
     → told_cut (step_cut (ParsingEscChars q) d m b)
@@ -232,14 +229,70 @@ judged_next d n m s i k w ix raw l small h hs h3 =
     ∙ judged_byte g (n + k) (d.fill + k) m (get_or s (i + k) 0) refl (omega arith) h3 in
     runs_more d k (k + 1) k (ParsingEscPayload (n + k)) (ParsingEscPayload (n + (k + 1))) m _ s i hs (rw (← f, ← q) p)
 
+-- ---- stretches
+
+-- a part of s that is copied, one byte more
+sets_take : (m s : List ℕ) (f i k : ℕ) → i + k < length s
+    → set (sets m f (take k (drop i s))) (f + k) (get_or s (i + k) 0) ≡ sets m f (take (k + 1) (drop i s))
+sets_take m s f i k h =
+    let left : length (drop i s) ≡ length s - i = length-drop i s in
+    let size : length (take k (drop i s)) ≡ k = length-take-le k (drop i s) (omega (arith, left)) in
+    let here : get_or (drop i s) k 0 ≡ get_or s (i + k) 0 = get_or-drop i s k 0 in
+    ap (λ (n : ℕ). set (sets m f (take k (drop i s))) (f + n) (get_or s (i + k) 0)) (sym size)
+    ∙ ap (λ (b : ℕ). set (sets m f (take k (drop i s))) (f + length (take k (drop i s))) b) (sym here)
+    ∙ sets_more m f (take k (drop i s)) (get_or (drop i s) k 0)
+    ∙ ap (sets m f) (sym (take_at_read (drop i s) k 0 (omega (arith, left))).1)
+
+-- k bytes that are stored, where each of them is
+module _ (d : Decoder) (t : ℕ → DecodeState) (m s : List ℕ) (i n : ℕ) (raw : d.raw_msg_len ≤ 4294967295) (room : i + n ≤ length s)
+    (one : (k : ℕ) (w : List ℕ) → k < n → length w ≡ length m
+    → pushes_from (i + (k + 1)) (moved_by d (k + 1) (k + 1) (t (k + 1))) (set w (d.fill + k) (get_or s (i + k) 0)) (drop (i + (k + 1)) s)
+    ≡ pushes_from (i + k) (moved_by d k k (t k)) w (drop (i + k) s)) where
+  pub stored_run : (k : ℕ) → k ≤ n → Goes (moved_by d k k (t k)) (i + k) (sets m d.fill (take k (drop i s))) i (in_state d (t 0)) m s
+  stored_run zero h = first_goes d (t 0) m s i raw
+  stored_run (suc k) h =
+      let before : List ℕ = sets m d.fill (take k (drop i s)) in
+      rw (← add-one k, ← sets_take m s d.fill i k (omega (arith, h, room))) (one k before (omega (arith, h)) (length-sets m d.fill (take k (drop i s))) ∙ stored_run k (omega (arith, h)))
+
+-- and the code's words for where it stops
+pub stored_there : (d d' : Decoder) (t t' : DecodeState) (m s part : List ℕ) (i k to : ℕ) → to ≡ i + k → d' ≡ moved_by d k k t → part ≡ take k (drop i s) → d.fill + k ≤ length m → i + k ≤ length s
+    → Goes (moved_by d k k t) (i + k) (sets m d.fill (take k (drop i s))) i (in_state d t') m s
+    → Goes d' to (put_mid d.fill (d.fill + k - d.fill) m part) i (in_state d t') m s
+stored_there d d' t t' m s part i k to at e copied fit inside goes =
+    let size : length part ≡ k = ap length copied ∙ length-take-le k (drop i s) (omega (arith, length-drop i s, inside)) in
+    rw (at, e, put_sets m d.fill k part fit size, copied) goes
+
+pub plain_run : (d : Decoder) (m s : List ℕ) (i k : ℕ) → unknown_way d.way ≡ false → d.crc_idx ≤ d.fill → 8 ≤ d.raw_msg_len → d.raw_msg_len ≤ 4294967295 → length m ≡ d.capacity → d.capacity ≤ 1048576
+    → d.fill + k ≤ length m → i + k ≤ length s → Plain s i (i + k)
+    → Goes (moved_by d k k ParsingNormal) (i + k) (sets m d.fill (take k (drop i s))) i (in_state d ParsingNormal) m s
+plain_run d m s i k w ix raw big l small h hs p =
+    stored_run d (λ n. ParsingNormal) m s i k big hs
+    (λ j v lt e. plain_next d v s i j w ix raw (e ∙ l) small (omega (arith, e, lt, h)) (omega (arith, lt, hs)) (p (i + j) (omega arith) (omega (arith, lt))))
+    k (omega arith)
+
+pub judged_run : (d : Decoder) (n : ℕ) (m s : List ℕ) (i k : ℕ) → unknown_way d.way ≡ false → d.crc_idx + n ≤ d.fill → 8 ≤ d.raw_msg_len → d.raw_msg_len ≤ 4294967295 → length m ≡ d.capacity → d.capacity ≤ 1048576
+    → d.fill + k ≤ length m → i + k ≤ length s → n + k ≤ 3
+    → Goes (moved_by d k k (ParsingEscPayload (n + k))) (i + k) (sets m d.fill (take k (drop i s))) i (in_state d (ParsingEscPayload n)) m s
+judged_run d n m s i k w ix raw big l small h hs h3 =
+    let goes = stored_run d (λ j. ParsingEscPayload (n + j)) m s i k big hs
+    (λ j v lt e. judged_next d n v s i j w ix raw (e ∙ l) small (omega (arith, e, lt, h)) (omega (arith, lt, hs)) (omega (arith, lt, h3)))
+    k (omega arith) in
+    rw (add-zero n) at goes
+
+pub wait_run : (d : Decoder) (n : ℕ) (m s : List ℕ) (i : ℕ) → unknown_way d.way ≡ false → d.crc_idx ≤ d.fill → d.fill ≤ d.capacity → 8 ≤ d.raw_msg_len → d.raw_msg_len ≤ 4294967295 → length m ≡ d.capacity → d.capacity ≤ 1048576
+    → 1 ≤ n → (k : ℕ) → n + k ≤ 3 → i + k ≤ length s → Escapes s i (i + k)
+    → Goes (moved_by d 0 k (ParsingEscChars (n + k))) (i + k) m i (in_state d (ParsingEscChars n)) m s
+wait_run d n m s i w ix f raw big l small h1 zero h3 hs p =
+    let e : n + 0 ≡ n = omega arith in
+    rw e (first_goes d (ParsingEscChars n) m s i big)
+wait_run d n m s i w ix f raw big l small h1 (suc k) h3 hs p =
+    let q : n + k + 1 ≡ n + (k + 1) = omega arith in
+    rw (← add-one k, ← q)
+    (wait_next d (n + k) m s i k w ix f raw l small (omega (arith, hs)) (omega (arith, h1)) (omega (arith, h3)) (p (i + k) (omega arith) (omega arith)) (λ e. omega (arith, e, h3))
+    ∙ wait_run d n m s i w ix f raw big l small h1 k (omega (arith, h3)) (omega (arith, hs)) (λ y a b. p y a (omega (arith, b))))
+
 pub same_state : (d : Decoder) (s : DecodeState) → d.state ≡ s → in_state d s ≡ d
 same_state d s e = ap (in_state d) (sym e)
-
-pub first_judged : (d : Decoder) (n : ℕ) (m s : List ℕ) (i : ℕ) → d.raw_msg_len ≤ 4294967295
-    → Goes (moved_by d 0 0 (ParsingEscPayload (n + 0))) (i + 0) m i (in_state d (ParsingEscPayload n)) m s
-first_judged d n m s i h =
-    let e : n + 0 ≡ n = omega arith in
-    rw e (first_goes d (ParsingEscPayload n) m s i h)
 
 pub at_state : (d : Decoder) (t : DecodeState) (m s : List ℕ) (i : ℕ) {x : Took} → d.state ≡ t → x ≡ pushes_from i (in_state d t) m (drop i s) → x ≡ pushes_from i d m (drop i s)
 at_state d t m s i e h = h ∙ ap (λ (g : Decoder). pushes_from i g m (drop i s)) (same_state d t e)
@@ -264,3 +317,9 @@ reset_fresh r d h = ap (λ (x : Left). x.decoder) h
 
 pub right_capacity : (C n : ℕ) → wrong_buffer C n ≡ false → C ≤ 1048576
 right_capacity C n e = omega (arith, right_buffer C n e)
+
+-- a record inside a frame, with its buffer
+pub frames_at : (d : Decoder) (m : List ℕ) → bad_decoder d ≡ false → wrong_buffer d.capacity (length m) ≡ false → (k : ℕ) → 8 ≤ d.raw_msg_len → d.crc_idx + k ≤ d.fill → FrameWithBuffer d k (length m)
+frames_at d m bad wrong k raw seen =
+    let l = (right_buffer d.capacity (length m) wrong).0 in
+    (sane_way d bad, l, right_capacity d.capacity (length m) wrong, seen, omega (arith, l, (sane d bad).0), raw)

@@ -1,12 +1,15 @@
 -- Bytes that a search skips: those that are no 1b while nothing is matched; behind four matched ones fives of 1b in the first way, and any 1b in the second.
 use Prim.Native.Nat.{ℕ, zero, suc, ◌+◌, ◌-◌, ◌*◌, ◌/◌, ◌%◌, ◌<◌, ◌≤◌}
-use mathlib.Core.List.{List}
+use mathlib.Core.List.{List, []}
 use mathlib.Core.Bool.{false}
 use mathlib.Core.Path.{◌≡◌, refl, sym, ap, ◌∙◌, subst}
 use native.Mathlib.Omega.{arith}
-use native.Mathlib.Nat.{add-zero}
+use native.Mathlib.Nat.{add-zero, zero-mul, suc-mul}
 use borrow.Author.Tests.{eq-eqb, ne_eqb}
-use lib.ListN.{length, drop, get_or}
+use lib.ListN.{length, take, drop, get_or}
+use Rattle.std.proofs.lemmas.Grind.{common_steps}
+use Rattle.std.proofs.lemmas.List.{drop-drop}
+use Rattle.std.specs.Simd.{first_chunks}
 use Rattle.decoder.specs.declared.DecodeState.TheVariants.{LookingForMessageStart}
 use Rattle.decoder.specs.declared.Decoder.{Decoder}
 use Rattle.frame.proofs.Cases.{either}
@@ -33,14 +36,32 @@ among_next P a k z e all here i le lt =
 pub among_both : (P : ℕ → Type 0) (a k z : ℕ) → ((i : ℕ) → a ≤ i → i < k → P i) → ((i : ℕ) → k ≤ i → i < z → P i) → (i : ℕ) → a ≤ i → i < z → P i
 among_both P a k z low high i le lt = split k i (λ w. high i w lt) (λ w. low i le w)
 
-pub among_four : (P : ℕ → Type 0) (a k : ℕ) → ((i : ℕ) → a ≤ i → i < k → P i) → P k → P (k + 1) → P (k + 2) → P (k + 3) → (i : ℕ) → a ≤ i → i < k + 4 → P i
-among_four P a k all p0 p1 p2 p3 =
-    among_next P a (k + 3) (k + 4) (omega arith)
-    (among_next P a (k + 2) (k + 3) (omega arith) (among_next P a (k + 1) (k + 2) (omega arith) (among_next P a k (k + 1) refl all p0) p1) p2)
-    p3
+-- what holds of the first r bytes of a part of s holds of those of s
+pub in_part : (P : ℕ → Type 0) (s : List ℕ) (from n r : ℕ) → r ≤ n → from + n ≤ length s → ((i : ℕ) → 0 ≤ i → i < r → P (get_or (take n (drop from s)) i 0)) → (i : ℕ) → from ≤ i → i < from + r → P (get_or s i 0)
+in_part P s from n r h room all i le lt =
+    let e : from + (i - from) ≡ i = omega arith in
+    let here : get_or (take n (drop from s)) (i - from) 0 ≡ get_or s i 0 = grind (arith, common_steps, e) in
+    subst P here (all (i - from) (omega arith) (omega arith))
 
-pub among_five : (P : ℕ → Type 0) (a k : ℕ) → ((i : ℕ) → a ≤ i → i < k → P i) → P k → P (k + 1) → P (k + 2) → P (k + 3) → P (k + 4) → (i : ℕ) → a ≤ i → i < k + 5 → P i
-among_five P a k all p0 p1 p2 p3 p4 = among_next P a (k + 4) (k + 5) (omega arith) (among_four P a k all p0 p1 p2 p3) p4
+-- the r-th of the k chunks of n bytes that s begins with
+chunk_at : (n k r : ℕ) (s : List ℕ) → r < k → get_or (first_chunks n k s) r [] ≡ take n (drop (r * n) s)
+chunk_at n zero r s h = absurd (omega (arith, h))
+chunk_at n (suc k) zero s h = rw zero-mul
+chunk_at n (suc k) (suc r) s h =
+    let e : n + r * n ≡ r * n + n = omega arith in
+    rw (suc-mul r n) (chunk_at n k r (drop n s) (omega arith) ∙ ap (take n) (drop-drop (r * n) n s ∙ ap (λ (x : ℕ). drop x s) e))
+
+-- what holds of the first r chunks of n bytes holds of r * n bytes
+module _ (P : ℕ → Type 0) (n k : ℕ) (s : List ℕ) (more : (x y : ℕ) → x < y → x * n + n ≤ y * n) (room : k * n ≤ length s) where
+  from_chunks : (r : ℕ) → r ≤ k → ((j : ℕ) → j < r → (i : ℕ) → 0 ≤ i → i < n → P (get_or (get_or (first_chunks n k s) j []) i 0)) → (i : ℕ) → 0 ≤ i → i < r * n → P (get_or s i 0)
+  from_chunks zero h all = λ i le lt. absurd (omega (arith, rw zero-mul at lt))
+  from_chunks (suc r) h all =
+      let whole : r * n + n ≤ length s = omega (arith, more r k h, room) in
+      let last : (i : ℕ) → r * n ≤ i → i < r * n + n → P (get_or s i 0) = in_part P s (r * n) n n (omega arith) whole (λ j a b. subst (λ (x : List ℕ). P (get_or x j 0)) (chunk_at n k r s h) (all r (omega arith) j a b)) in
+      among_both (λ (i : ℕ). P (get_or s i 0)) 0 (r * n) (suc r * n) (from_chunks r (omega arith) (λ j w. all j (omega arith))) (λ i le lt. last i le (rw suc-mul at lt))
+
+  pub in_runs : (cs : List (List ℕ)) → cs ≡ first_chunks n k s → (r : ℕ) → r ≤ k → ((j : ℕ) → j < r → (i : ℕ) → 0 ≤ i → i < n → P (get_or (get_or cs j []) i 0)) → (i : ℕ) → 0 ≤ i → i < r * n → P (get_or s i 0)
+  in_runs cs e r h all = from_chunks r h (subst (λ (x : List (List ℕ)). (j : ℕ) → j < r → (i : ℕ) → 0 ≤ i → i < n → P (get_or (get_or x j []) i 0)) e all)
 
 -- ---- what is matched
 

@@ -38,6 +38,10 @@ encode_whole P out m r h e k s =
 pub frame_short : (P : List ℕ) → length (frame_of P) ≤ 2 * length P + 19
 frame_short P = omega (arith, length_frame P, escaped_short 0 P (omega arith))
 
+-- the escaped payload has at most two for each of the payload, and three
+pub escaped_twice : (P : List ℕ) → length (escaped 0 P) ≤ 2 * length P + 3
+escaped_twice P = omega (arith, escaped_short 0 P (omega arith))
+
 -- room at each part of a frame
 pub frame_room : (P : List ℕ) (N : ℕ) → length (frame_of P) ≤ N → 8 + length (escaped 0 P) + missing (length P) + 8 ≤ N
 frame_room P N h = omega (arith, length_frame P)

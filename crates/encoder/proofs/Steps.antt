@@ -71,13 +71,16 @@ module _ (place reg : ℕ) (p : List ℕ) where
   unfolding step_from
   behind_escape s n q h = rw (q, le-ltb n 4 h)
 
-  pub all_given_lem : (s : EncoderState) (n : ℤ) → s ≡ End n → last_end n ≡ true → step_to finished (encoder_at (End n) place reg) ≡ step_from s place reg p
+  pub all_given_lem : (s : EncoderState) (n : ℤ) → s ≡ End n → last_end n ≡ true → step_to finished (encoder_at s place reg) ≡ step_from s place reg p
   unfolding step_from
   all_given_lem s n q e = rw (q, e)
 
   pub at_end_lem : (s : EncoderState) (n : ℤ) → s ≡ End n → last_end n ≡ false → ended n place reg ≡ step_from s place reg p
   unfolding step_from
   at_end_lem s n q e = rw (q, e)
+
+-- all of these
+pub ruleset steps = (at_start, behind_start, step_looks, fourth, at_escape, behind_escape, all_given_lem, at_end_lem)
 
 module _ (e : Encoder) where
   pub bad_beyond : (len : ℕ) → len < e.place → true ≡ bad_encoder e len

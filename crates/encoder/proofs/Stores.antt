@@ -1,20 +1,25 @@
 -- Laws of what is stored: lists one after the other, and the escaped payload byte by byte (`Writes`).
-use Prim.Native.Nat.{ℕ, zero, suc, ◌+◌, ◌/◌, ◌%◌, ◌<◌, ◌≤◌}
+use Prim.Native.Nat.{ℕ, zero, suc, ◌+◌, ◌-◌, ◌/◌, ◌%◌, ◌^◌, ◌<◌, ◌≤◌}
+use mir.Syntax.{w16}
+use Rattle.std.specs.Int.{to_le_bytes}
 use mathlib.Core.List.{List, [], ◌∷◌, ◌++◌}
 use mathlib.Core.Path.{◌≡◌, refl, sym, ap, ◌∙◌, subst}
 use native.Mathlib.Omega.{arith}
 use native.Mathlib.Nat.{add-zero}
 use native.Mathlib.Numerals.{add-one}
-use borrow.Author.Tests.{ne_eqb, eq-eqb}
-use lib.ListN.{length, set, drop, take, get_or, replicate, length-append, length-replicate, drop_of_length-le}
-use lib.Seq.{sets, sets-eq, take_at}
+use borrow.Author.Tests.{ne_eqb}
+use lib.ListN.{length, set, drop, take, get_or, replicate, length-append, length-replicate, length-drop, drop_of_length-le}
+use lib.Seq.{sets, sets-eq, take_at, take_all, length-take-le}
+use borrow.Rule.Slice.PartMut.{put_mid}
+use Rattle.std.proofs.lemmas.Slice.{put_mid-paste}
+use Rattle.std.proofs.lemmas.List.{drop-drop}
 use Rattle.frame.specs.Frame.{esc_seq, start_seq, run_with, four_more, escaped, missing, closed, frame_of}
 use Rattle.frame.proofs.Escapes.{escaped_other, escaped_nil}
 use Rattle.refusals.proofs.Places.{from_place}
 use Rattle.frame.proofs.Frames.{escaped_cons, frame_parts, length_closed}
 use Rattle.crc_x25.specs.Crc.{crc_of}
 use Rattle.encoder.specs.Encoder.{end_of}
-use Rattle.encoder.specs.Parts.{Stored, Writes, run_after}
+use Rattle.encoder.specs.Parts.{Stored, Writes, NoneEscapes, run_after}
 
 -- the element at i, then the rest
 pub one_more : (m : List ℕ) (o x : ℕ) (xs : List ℕ) → sets (set m o x) (o + 1) xs ≡ sets m o (x ∷ xs)
@@ -27,40 +32,34 @@ sets_append m o (x ∷ xs) ys =
     let e : suc o + length xs ≡ o + suc (length xs) = omega arith in
     sets_append (set m o x) (suc o) xs ys ∙ ap (λ (k : ℕ). sets (sets (set m o x) (suc o) xs) k ys) e
 
--- a list is copied: the element at i, then the rest
-pub copied : (m s : List ℕ) (o i : ℕ) → i < length s → sets (set m (o + i) (get_or s i 0)) (o + (i + 1)) (drop (i + 1) s) ≡ sets m (o + i) (drop i s)
-copied m s o i h =
-    let e : o + (i + 1) ≡ o + i + 1 = omega arith in
-    rw e (one_more m (o + i) (get_or s i 0) (drop (i + 1) s) ∙ ap (sets m (o + i)) (sym (from_place s i h)))
+-- a list is copied into a part of its length
+pub stored_mid : (m bytes ys : List ℕ) (o k : ℕ) → o + length bytes ≤ length m → ys ≡ bytes → length bytes ≡ k → put_mid o k m ys ≡ sets m o bytes
+stored_mid m bytes ys o k h e f =
+    put_mid-paste o k m ys bytes (length bytes) e f refl
+    ∙ ap (λ (t : List ℕ). take o m ++ t ++ drop (o + length bytes) m) (take_all (length bytes) bytes (omega arith))
+    ∙ sym (sets-eq bytes m o h)
 
--- a byte of the payload that is no 1b
-here : (n : ℕ) (p : List ℕ) (i : ℕ) → i < length p → (get_or p i 0 ≡ 0x1b → ⊥) → escaped n (drop i p) ≡ get_or p i 0 ∷ escaped 0 (drop (i + 1) p)
-here n p i h ne = ap (escaped n) (from_place p i h) ∙ escaped_other n (get_or p i 0) (drop (i + 1) p) ne
-
--- there is room for it
-pub room : (p : List ℕ) (o n i N : ℕ) → i < length p → (get_or p i 0 ≡ 0x1b → ⊥) → o + length (escaped n (drop i p)) ≤ N → o < N
-room p o n i N h ne w =
-    let l : length (escaped n (drop i p)) ≡ 1 + length (escaped 0 (drop (i + 1) p)) = ap length (here n p i h ne) ∙ omega arith in
-    omega arith
-
-some_run : (k n : ℕ) → run_after (k + 1) n ≡ 0
+some_run : (k n : ℕ) → run_after (suc k) n ≡ 0
 some_run k n =
-    let h : k + 1 ≡ 0 → ⊥ = λ e. absurd (omega arith) in
-    simp (ne_eqb (k + 1) 0 h)
+    let h : suc k ≡ 0 → ⊥ = λ e. absurd (omega arith) in
+    simp (ne_eqb (suc k) 0 h)
 
-pub none_written : (m p : List ℕ) (o n i : ℕ) → Writes m (o + 0) (run_after 0 n) (i + 0) m o n i p
-none_written m p o n i = rw (add-zero o, add-zero i) (refl, refl)
+no_run : (k : ℕ) → run_after k 0 ≡ 0
+no_run zero = refl
+no_run (suc k) = some_run k 0
 
-pub plain_more : (m m₀ p : List ℕ) (o k n i : ℕ) → i + k < length p → (get_or p (i + k) 0 ≡ 0x1b → ⊥) → Writes m (o + k) (run_after k n) (i + k) m₀ o n i p
-    → Writes (set m (o + k) (get_or p (i + k) 0)) (o + (k + 1)) (run_after (k + 1) n) (i + (k + 1)) m₀ o n i p
-plain_more m m₀ p o k n i h ne w =
-    let e : o + k + 1 ≡ o + (k + 1) = omega arith in
-    let f : i + k + 1 ≡ i + (k + 1) = omega arith in
-    let b = get_or p (i + k) 0 in
-    let t = here (run_after k n) p (i + k) h ne in
-    let l : length (escaped (run_after k n) (drop (i + k) p)) ≡ 1 + length (escaped 0 (drop (i + k + 1) p)) = ap length t ∙ omega arith in
-    rw (some_run k n, ← e, ← f)
-    (one_more m (o + k) b (escaped 0 (drop (i + k + 1) p)) ∙ ap (sets m (o + k)) (sym t) ∙ w.0, omega (arith, l, w.1))
+-- k bytes that are no 1b stay as they are
+plain_first : (k n : ℕ) (p : List ℕ) → k ≤ length p → NoneEscapes k p → escaped n p ≡ take k p ++ escaped (run_after k n) (drop k p)
+plain_first zero n p h a = refl
+plain_first (suc k) n [] h a = absurd (omega arith)
+plain_first (suc k) n (b ∷ p) h a =
+    escaped_other n b p (a 0 (omega arith))
+    ∙ ap (λ (l : List ℕ). b ∷ l) (plain_first k 0 p (omega arith) (λ j f. a (suc j) (omega arith)) ∙ ap (λ (r : ℕ). take k p ++ escaped r (drop k p)) (no_run k ∙ sym (some_run k n)))
+
+pub escaped_long : (n : ℕ) (p : List ℕ) → length p ≤ length (escaped n p)
+unfolding escaped
+escaped_long n [] = omega arith
+escaped_long n (b ∷ p) = let l = length-append (four_more n b) (escaped (run_with n b) p) in omega (arith, l, escaped_long (run_with n b) p)
 
 -- a byte with what follows it
 escaped_on : (n : ℕ) (p : List ℕ) (i : ℕ) → i < length p → escaped n (drop i p) ≡ (get_or p i 0 ∷ four_more n (get_or p i 0)) ++ escaped (run_with n (get_or p i 0)) (drop (i + 1) p)
@@ -85,30 +84,28 @@ byte_more m m₀ p o n i o₀ n₀ i₀ h w =
 pub all_done : (m : List ℕ) (o n i : ℕ) (p : List ℕ) → length p ≤ i → (sets m o (escaped n (drop i p)) ≡ m) × (o + length (escaped n (drop i p)) ≡ o)
 all_done m o n i p h = rw (drop_of_length-le p h, escaped_nil n) (refl, add-zero o)
 
-pub copied_all : (m s : List ℕ) (o i : ℕ) → length s ≤ i → m ≡ sets m o (drop i s)
-copied_all m s o i h = rw (drop_of_length-le s h)
-
--- a byte, and what follows it where that is nothing, or an escape
-pub push_one : (m : List ℕ) (o n b : ℕ) → four_more n b ≡ [] → Stored (set m o b) (o + 1) m o (b ∷ four_more n b)
-push_one m o n b e =
-    let l : length (four_more n b) ≡ 0 = ap length e in
-    (sym (ap (sets (set m o b) (suc o)) e), omega arith)
-
-pub push_five : (m m' : List ℕ) (o n b r : ℕ) → four_more n b ≡ esc_seq → Stored m' r (set m o b) (o + 1) esc_seq → Stored m' r m o (b ∷ four_more n b)
-push_five m m' o n b r e w =
-    let l : length (four_more n b) ≡ 4 = ap length e in
-    (w.0 ∙ one_more m o b esc_seq ∙ sym (ap (sets (set m o b) (suc o)) e), omega (arith, w.1))
-
-pub four_fourth : (n b : ℕ) → b ≡ 0x1b → n ≡ 3 → four_more n b ≡ esc_seq
-four_fourth n b e f = rw (eq-eqb b 0x1b e, eq-eqb n 3 f)
-
-pub four_early : (n b : ℕ) → b ≡ 0x1b → (n ≡ 3 → ⊥) → four_more n b ≡ []
-four_early n b e f = rw (eq-eqb b 0x1b e, ne_eqb n 3 f)
+-- what is lent from i on
+pub lent_from : (p : List ℕ) (i : ℕ) → take (length p - i) (drop i p) ≡ drop i p
+lent_from p i = take_all _ _ (omega (arith, length-drop i p))
 
 -- behind a run of plain bytes, and behind one byte more
-pub plain_done : (m m' m₀ p : List ℕ) (o k n n' i o₀ n₀ i₀ : ℕ) → Writes m' (o + k) (run_after k n) (i + k) m o n i p → n' ≡ run_after k n
+plain_done_from : (m m' m₀ p : List ℕ) (o k n n' i o₀ n₀ i₀ : ℕ) → k ≤ length (drop i p) → NoneEscapes k (drop i p) → Stored m' (o + k) m o (take k (drop i p)) → n' ≡ run_after k n
     → Writes m o n i m₀ o₀ n₀ i₀ p → Writes m' (o + k) n' (i + k) m₀ o₀ n₀ i₀ p
-plain_done m m' m₀ p o k n n' i o₀ n₀ i₀ w e v = rw e (w.0 ∙ v.0, w.1 ∙ v.1)
+plain_done_from m m' m₀ p o k n n' i o₀ n₀ i₀ h a s e w =
+    let first = take k (drop i p) in
+    let rest = escaped (run_after k n) (drop (i + k) p) in
+    let t : escaped n (drop i p) ≡ first ++ rest = plain_first k n (drop i p) h a ∙ ap (λ (l : List ℕ). first ++ escaped (run_after k n) l) (drop-drop k i p) in
+    let l : length (escaped n (drop i p)) ≡ k + length rest = ap length t ∙ length-append first rest ∙ ap (λ (x : ℕ). x + length rest) (length-take-le k (drop i p) h) in
+    rw e (
+      ap (λ (x : List ℕ). sets x (o + k) rest) s.0 ∙ ap (λ (x : ℕ). sets (sets m o first) x rest) s.1 ∙ sym (sets_append m o first rest) ∙ sym (ap (sets m o) t) ∙ w.0,
+      omega (arith, l, w.1),
+    )
+
+pub plain_done : (m m' m₀ p q : List ℕ) (o k n n' i o₀ n₀ i₀ : ℕ) → q ≡ drop i p → (k ≤ length q) × NoneEscapes k q × Stored m' (o + k) m o (take k q) → n' ≡ run_after k n
+    → Writes m o n i m₀ o₀ n₀ i₀ p → Writes m' (o + k) n' (i + k) m₀ o₀ n₀ i₀ p
+plain_done m m' m₀ p q o k n n' i o₀ n₀ i₀ z s e w =
+    let t = subst (λ (q : List ℕ). (k ≤ length q) × NoneEscapes k q × Stored m' (o + k) m o (take k q)) z s in
+    plain_done_from m m' m₀ p o k n n' i o₀ n₀ i₀ t.0 t.1 t.2 e w
 
 pub byte_done : (m m' m₀ p : List ℕ) (o o' n n' i o₀ n₀ i₀ : ℕ) → i < length p → Stored m' o' m o (get_or p i 0 ∷ four_more n (get_or p i 0)) → n' ≡ run_with n (get_or p i 0)
     → Writes m o n i m₀ o₀ n₀ i₀ p → Writes m' o' n' (i + 1) m₀ o₀ n₀ i₀ p
@@ -147,6 +144,10 @@ pub stored_end : (m m₁ m₂ m₃ : List ℕ) (o r₁ r₂ r₃ pad : ℕ) → 
 stored_end m m₁ m₂ m₃ o r₁ r₂ r₃ pad h a b c =
     let z = subst (λ (l : List ℕ). Stored m₁ r₁ m o l) (zeros_take pad h) a in
     stored_then m m₂ m₃ o r₂ r₃ (replicate pad 0x00 ++ esc_seq) (0x1a ∷ pad ∷ []) (stored_then m m₁ m₂ o r₁ r₂ (replicate pad 0x00) esc_seq z b) c
+
+-- a CRC, low byte first
+pub crc_low_first : (n : ℕ) → n < 2 ^ 16 → to_le_bytes w16 n ≡ n % 256 ∷ n / 256 ∷ []
+crc_low_first n h = let e : n / 256 % 256 ≡ n / 256 = omega arith in rw e
 
 -- bytes, then the CRC over them
 stored_closed : (m m₁ m₂ body : List ℕ) (r₁ r₂ crc : ℕ) → length body ≤ length m

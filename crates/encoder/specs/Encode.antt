@@ -1,18 +1,18 @@
 -- rule: what encode answers, with document 01's numbers, and what it leaves in the output.
-use Rattle.std.specs.Prelude.{cond, List, ◌++◌, ℕ, length, drop, leb}
+use Rattle.std.specs.Prelude.{cond, List, ◌++◌, ℕ, length, drop, leb, Result, Ok, Err}
 use Rattle.refusals.specs.Numbers.{payload_too_long_no, encode_out_of_memory_no, limit}
 use Rattle.frame.specs.Frame.{frame_of}
-use Rattle.encoder.specs.declared.Encoded.{Encoded}
-use Rattle.encoder.specs.declared.Encoded.TheVariants.{Frame, PayloadTooLong, OutOfMemory}
+use Rattle.encoder.specs.declared.EncodeError.{EncodeError}
+use Rattle.encoder.specs.declared.EncodeError.TheVariants.{PayloadTooLong, OutOfMemory}
 
 pub data EncodeAnswer : Type 0 where
   length_is : ℕ → EncodeAnswer  -- of the frame
   no_frame : ℕ → EncodeAnswer  -- document 01's number
 
-abbrev pub encode_answer : Encoded → EncodeAnswer
-encode_answer (Frame n) = length_is n
-encode_answer PayloadTooLong = no_frame payload_too_long_no
-encode_answer OutOfMemory = no_frame encode_out_of_memory_no
+abbrev pub encode_answer : Result ℕ EncodeError → EncodeAnswer
+encode_answer (Ok n) = length_is n
+encode_answer (Err PayloadTooLong) = no_frame payload_too_long_no
+encode_answer (Err OutOfMemory) = no_frame encode_out_of_memory_no
 
 pub record AfterEncode : Type 0 where
   pub answer : EncodeAnswer

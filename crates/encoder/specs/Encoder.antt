@@ -1,6 +1,6 @@
 -- rule: the Encoder's next byte, with document 01's numbers. An Encoder holds where it is in the frame, its place
 -- in the payload, and the CRC register.
-use Rattle.std.specs.Prelude.{Bool, true, false, cond, List, [], ◌∷◌, ◌++◌, ℕ, suc, ◌/◌, ◌%◌, length, get_or, replicate, ℤ, pos, negsuc, neg_ℤ, eqb, ltb, leb}
+use Rattle.std.specs.Prelude.{Bool, true, false, cond, List, [], ◌∷◌, ◌++◌, ℕ, suc, ◌/◌, ◌%◌, length, get_or, replicate, ℤ, pos, negsuc, neg_ℤ, eqb, ltb, leb, Option, Some, None, Result, Ok, Err}
 use Rattle.std.proofs.Math.IntN.{suc_ℤ}
 use Rattle.crc_x25.specs.Crc.{start, byte_step, register, final_xor}
 use Rattle.refusals.specs.Numbers.{payload_too_long_no, bad_state_no, limit}
@@ -9,19 +9,19 @@ use Rattle.encoder.specs.declared.Encoder.{Encoder}
 use Rattle.encoder.specs.declared.EncoderState.{EncoderState}
 use Rattle.encoder.specs.declared.EncoderState.TheVariants.{Init, LookingForEscape, HandlingEscape, End}
 use Rattle.encoder.specs.declared.Given.{Given}
-use Rattle.encoder.specs.declared.Item.{Item}
-use Rattle.encoder.specs.declared.Item.TheVariants.{Byte, Finished, PayloadTooLong, BadState}
+use Rattle.encoder.specs.declared.EncoderError.{EncoderError}
+use Rattle.encoder.specs.declared.EncoderError.TheVariants.{PayloadTooLong, BadState}
 
 pub data NextAnswer : Type 0 where
   byte : ℕ → NextAnswer
   finished : NextAnswer
   no_byte : ℕ → NextAnswer  -- document 01's number
 
-abbrev pub next_answer : Item → NextAnswer
-next_answer (Byte b) = byte b
-next_answer Finished = finished
-next_answer PayloadTooLong = no_byte payload_too_long_no
-next_answer BadState = no_byte bad_state_no
+abbrev pub next_answer : Result (Option ℕ) EncoderError → NextAnswer
+next_answer (Ok (Some b)) = byte b
+next_answer (Ok None) = finished
+next_answer (Err PayloadTooLong) = no_byte payload_too_long_no
+next_answer (Err BadState) = no_byte bad_state_no
 
 -- an answer, and the Encoder for the next call
 pub record Step : Type 0 where

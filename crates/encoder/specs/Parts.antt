@@ -1,5 +1,5 @@
 -- cut: bytes put into the output one after the other.
-use Rattle.std.specs.Prelude.{cond, List, ◌≡◌, ℕ, ◌+◌, length, drop, eqb}
+use Rattle.std.specs.Prelude.{cond, List, ◌≡◌, ◌≢◌, ℕ, ◌+◌, ◌<◌, length, drop, slice_index, eqb}
 use Rattle.std.proofs.lemmas.List.Edits.{sets}
 use Rattle.frame.specs.Frame.{escaped}
 
@@ -12,6 +12,10 @@ abbrev pub Writes : List ℕ → ℕ → ℕ → ℕ → List ℕ → ℕ → �
 Writes m o n i m₀ o₀ n₀ i₀ p =
     (sets m o (escaped n (drop i p)) ≡ sets m₀ o₀ (escaped n₀ (drop i₀ p)))
     × (o + length (escaped n (drop i p)) ≡ o₀ + length (escaped n₀ (drop i₀ p)))
+
+-- the first k bytes are no 1b
+abbrev pub NoneEscapes : ℕ → List ℕ → Type 0
+NoneEscapes k p = (j : ℕ) → j < k → slice_index p j ≢ 0x1b
 
 -- the run behind k bytes that are no 1b
 abbrev pub run_after : ℕ → ℕ → ℕ

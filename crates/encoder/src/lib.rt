@@ -1,7 +1,7 @@
 // encode and Encoder of transport.rs. The output is lent memory; the iterator became a lent payload and a place in it.
 #![tactic(auto)]
 
-ghost use Rattle.std.specs.Prelude.{◌≡◌, false, [], ◌∷◌, ◌+◌, ◌≤◌, length, drop, pos, neg_ℤ, leb};
+ghost use Rattle.std.specs.Prelude.{◌≡◌, false, ◌∷◌, ◌+◌, ◌≤◌, length, take, pos, neg_ℤ, leb};
 ghost use Rattle.std.proofs.Math.IntN.{suc_ℤ};
 ghost use Rattle.std.specs.Int.Signed.{lt_z};
 ghost use Rattle.crc_x25.specs.Crc.{register};
@@ -9,18 +9,16 @@ ghost use Rattle.frame.specs.Frame.{run_with, four_more, escaped, missing, frame
 ghost use Rattle.refusals.specs.Numbers.{limit};
 ghost use Rattle.encoder.specs.Encode.{encode_answer, after_encode, encode_to};
 ghost use Rattle.encoder.specs.Encoder.{byte, next_answer, step_of, step_to, encoder_at, fresh_encoder, end_of, end_byte, bad_end, last_end, bad_count, bad_encoder, ended, run_of, looked, step_from, next_step};
-ghost use Rattle.encoder.specs.Parts.{Stored, Writes, run_after};
+ghost use Rattle.encoder.specs.Parts.{Stored, NoneEscapes, run_after};
 
-// What encode answers.
-#[derive(Clone, Copy)]
-pub enum Encoded {
-    // The frame's length.
-    Frame(usize),
+// Why encode writes no frame.
+#[derive(Clone, Copy, PartialEq, Eq)]
+pub enum EncodeError {
     PayloadTooLong,
     OutOfMemory,
 }
 
-#[derive(Clone, Copy)]
+#[derive(Clone, Copy, PartialEq, Eq)]
 pub enum EncoderState {
     Init(u8),
     LookingForEscape(u8),
@@ -29,26 +27,24 @@ pub enum EncoderState {
 }
 
 // Gives the bytes of a payload's frame, one a call.
-#[derive(Clone, Copy)]
+#[derive(Clone, Copy, PartialEq, Eq)]
 pub struct Encoder {
     pub state: EncoderState,
     pub place: usize,
     pub crc: u16,
 }
 
-// What next answers.
-#[derive(Clone, Copy)]
-pub enum Item {
-    Byte(u8),
-    Finished,
+// Why next gives no byte of a frame that is not finished.
+#[derive(Clone, Copy, PartialEq, Eq)]
+pub enum EncoderError {
     PayloadTooLong,
     BadState,
 }
 
 // An answer, and the Encoder for the next call.
-#[derive(Clone, Copy)]
+#[derive(Clone, Copy, PartialEq, Eq)]
 pub struct Given {
-    pub answer: Item,
+    pub answer: Result<Option<u8>, EncoderError>,
     pub encoder: Encoder,
 }
 
@@ -59,28 +55,11 @@ fn num_padding_bytes(len: usize) -> usize
     (4 - len % 4) % 4
 }
 
-// An answer, and the Encoder behind it.
-fn answered(answer: Item, encoder: Encoder) -> Given
-    ensures { step_of result ≡ step_to (next_answer answer) encoder }
-{
-    Given { answer, encoder }
-}
-
-// The byte given, and the Encoder behind it.
-fn give_byte(b: u8, state: EncoderState, place: usize, crc: u16) -> Given
-    ensures { step_of result ≡ step_to (byte b) (encoder_at state place crc) }
-{
-    Given {
-        answer: Item::Byte(b),
-        encoder: Encoder { state, place, crc },
-    }
-}
-
 // Whether an End count is outside -3 to 8.
 fn bad_end(n: i8) -> bool
     ensures { result ≡ bad_end n }
 {
-    if n < -3 { true } else { 8 < n }
+    n < -3 || 8 < n
 }
 
 // Whether all bytes of the end are given.
@@ -91,6 +70,7 @@ fn last_end(n: i8) -> bool
 }
 
 // The next End count.
+#[tactic(auto, using(crate::proofs::Ends::next_fits, crate::proofs::Ends::end_next_is))]
 fn next_end(n: i8) -> i8
     requires { last_end n ≡ false }
     ensures { result ≡ suc_ℤ n }
@@ -99,6 +79,7 @@ fn next_end(n: i8) -> i8
 }
 
 // The End count at the first of `pad` pad bytes.
+#[tactic(auto, using(crate::proofs::Ends::first_fits, crate::proofs::Ends::first_is))]
 fn first_end(pad: usize) -> i8
     requires { pad ≤ 3 }
     ensures { result ≡ neg_ℤ (pos pad) }
@@ -107,6 +88,7 @@ fn first_end(pad: usize) -> i8
 }
 
 // An End count that is not negative.
+#[tactic(auto, using(crate::proofs::Ends::index_fits, crate::proofs::Ends::index_is_lem))]
 fn end_index(n: i8) -> u8
     requires { lt_z n (pos 0) ≡ false }
     ensures { n ≡ pos result }
@@ -122,34 +104,14 @@ fn end_byte(n: i8, pad: u8, crc: u16) -> u8
     if n < 0 {
         return 0x00;
     }
-    let k = end_index(n);
-    if k < 4 {
-        return frame::ESC;
-    }
-    if k == 4 {
-        return 0x1a;
-    }
-    if k == 5 {
-        return pad;
-    }
-    if k == 6 {
-        (crc % 256) as u8
-    } else {
-        (crc / 256) as u8
-    }
-}
-
-// The end's next byte.
-fn give_end(n: i8, place: usize, crc: u16) -> Given
-    requires { last_end n ≡ false }
-    ensures { step_of result ≡ ended n place crc }
-{
-    let pad = num_padding_bytes(place);
-    let b = end_byte(n, pad as u8, crc_x25::finalize(crc));
-    give_byte(b, EncoderState::End(next_end(n)), place, crc)
+    let [a, b, c, d] = frame::ESCAPE;
+    let [low, high] = crc.to_le_bytes();
+    let end = [a, b, c, d, 0x1a, pad, low, high];
+    end[end_index(n) as usize]
 }
 
 // The register behind pad bytes, escape, 1a and the pad count.
+#[tactic(auto, using(crate::proofs::Stores::zeros_length, crate::proofs::Steps::end_register))]
 fn end_crc(crc: u16, pad: usize) -> u16
     requires { pad ≤ 3 }
     ensures { result ≡ register crc (end_of pad) }
@@ -160,26 +122,12 @@ fn end_crc(crc: u16, pad: usize) -> u16
     crc_x25::update(crc_x25::update(padded, &frame::ESCAPE), &tail)
 }
 
-// The 1b of a run with the byte b more; four of them want an escape before the run begins anew.
+// The 1b of a run with the byte b more; four of them want an escape before the run begins anew. That a run here has at most three, the pads too, and that the end is not over, stays a clause: a type for each would be unwrapped at every use.
 fn run_of(n: u8, b: u8) -> u8
     requires { n ≤ 3 }
     ensures { result ≡ run_of n b }
 {
     if b == frame::ESC { n + 1 } else { 0 }
-}
-
-// The payload's next byte, behind n 1b of a run, or the end's first.
-fn looking_for_escape(n: u8, place: usize, crc: u16, payload: &[u8]) -> Given
-    requires { n ≤ 3 }
-    ensures { step_of result ≡ looked n place crc payload.now }
-{
-    if place < payload.len() {
-        let b = payload[place];
-        let state = EncoderState::LookingForEscape(run_of(n, b));
-        return give_byte(b, state, place + 1, crc_x25::update_byte(crc, b));
-    }
-    let pad = num_padding_bytes(place);
-    give_end(first_end(pad), place, end_crc(crc, pad))
 }
 
 // Whether a state's count is one that no call leaves.
@@ -194,46 +142,9 @@ fn bad_count(state: EncoderState) -> bool
     }
 }
 
-// The next byte. Behind the start, and behind an escape, the payload's next one comes in the same call.
-fn next_from_state(state: EncoderState, place: usize, crc: u16, payload: &[u8]) -> Given
-    ensures { step_of result ≡ step_from state place crc payload.now }
-{
-    let run = match state {
-        EncoderState::Init(n) => {
-            if n < 8 {
-                let start = frame::START;
-                let next = n + 1;
-                return give_byte(start[n as usize], EncoderState::Init(next), place, crc);
-            }
-            0
-        }
-        EncoderState::LookingForEscape(run) => {
-            if run < 4 {
-                run
-            } else {
-                let counted = crc_x25::update(crc, &frame::ESCAPE);
-                return give_byte(frame::ESC, EncoderState::HandlingEscape(1), place, counted);
-            }
-        }
-        EncoderState::HandlingEscape(n) => {
-            if n < 4 {
-                let next = n + 1;
-                return give_byte(frame::ESC, EncoderState::HandlingEscape(next), place, crc);
-            }
-            0
-        }
-        EncoderState::End(n) => {
-            if last_end(n) {
-                return answered(Item::Finished, Encoder { state, place, crc });
-            }
-            return give_end(n, place, crc);
-        }
-    };
-    looking_for_escape(run, place, crc, payload)
-}
-
 impl Encoder {
     // An Encoder that gave nothing yet.
+    #[tactic(auto, using(crate::proofs::Steps::new_is))]
     pub fn new() -> Encoder
         ensures { result ≡ fresh_encoder }
     {
@@ -244,59 +155,126 @@ impl Encoder {
         }
     }
 
+    // The byte given, and the Encoder behind it, in this state.
+    fn give_byte(self, b: u8, state: EncoderState) -> Given
+        ensures { step_of result ≡ step_to (byte b) (encoder_at state self.place self.crc) }
+    {
+        Given {
+            answer: Ok(Some(b)),
+            encoder: Encoder { state, ..self },
+        }
+    }
+
+    // The end's next byte.
+    fn give_end(self, n: i8) -> Given
+        requires { last_end n ≡ false }
+        ensures { step_of result ≡ ended n self.place self.crc }
+    {
+        let pad = num_padding_bytes(self.place);
+        let b = end_byte(n, pad as u8, crc_x25::finalize(self.crc));
+        self.give_byte(b, EncoderState::End(next_end(n)))
+    }
+
+    // The payload's next byte, behind n 1b of a run, or the end's first.
+    fn looking_for_escape(self, n: u8, payload: &[u8]) -> Given
+        requires { n ≤ 3 }
+        ensures { step_of result ≡ looked n self.place self.crc payload.now }
+    {
+        if self.place < payload.len() {
+            let b = payload[self.place];
+            let crc = crc_x25::update_byte(self.crc, b);
+            let behind = Encoder {
+                place: self.place + 1,
+                crc,
+                ..self
+            };
+            return behind.give_byte(b, EncoderState::LookingForEscape(run_of(n, b)));
+        }
+        let pad = num_padding_bytes(self.place);
+        let crc = end_crc(self.crc, pad);
+        Encoder { crc, ..self }.give_end(first_end(pad))
+    }
+
+    // The next byte. Behind the start, and behind an escape, the payload's next one comes in the same call.
+    #[tactic(auto, using(crate::proofs::Steps::steps))]
+    fn next_from_state(self, payload: &[u8]) -> Given
+        ensures { step_of result ≡ step_from self.state self.place self.crc payload.now }
+    {
+        let run = match self.state {
+            EncoderState::Init(n) if n < 8 => {
+                return self.give_byte(frame::START[n as usize], EncoderState::Init(n + 1));
+            }
+            EncoderState::LookingForEscape(run) if run < 4 => run,
+            EncoderState::LookingForEscape(_) => {
+                let crc = crc_x25::update(self.crc, &frame::ESCAPE);
+                let behind = Encoder { crc, ..self };
+                return behind.give_byte(frame::ESC, EncoderState::HandlingEscape(1));
+            }
+            EncoderState::HandlingEscape(n) if n < 4 => {
+                return self.give_byte(frame::ESC, EncoderState::HandlingEscape(n + 1));
+            }
+            EncoderState::End(n) if last_end(n) => {
+                return Given {
+                    answer: Ok(None),
+                    encoder: self,
+                };
+            }
+            EncoderState::End(n) => return self.give_end(n),
+            EncoderState::Init(_) | EncoderState::HandlingEscape(_) => 0,
+        };
+        self.looking_for_escape(run, payload)
+    }
+
     // Whether no call leaves this Encoder, on a payload of `len` bytes.
+    #[tactic(auto, using(crate::proofs::Steps::bad_beyond, crate::proofs::Steps::bad_inside))]
     fn bad_encoder(self, len: usize) -> bool
         ensures { result ≡ bad_encoder self len }
     {
-        if len < self.place {
-            return true;
-        }
-        let state = self.state;
-        bad_count(state)
+        len < self.place || bad_count(self.state)
     }
 
     // The next byte of the payload's frame. The payload is the same at every call.
+    #[tactic(auto, using(crate::proofs::Steps::next_long, crate::proofs::Steps::next_bad, crate::proofs::Steps::next_good))]
     pub fn next(self, payload: &[u8]) -> Given
         ensures { step_of result ≡ next_step self payload.now }
     {
         if refusals::LIMIT < payload.len() {
-            return answered(Item::PayloadTooLong, self);
+            return Given {
+                answer: Err(EncoderError::PayloadTooLong),
+                encoder: self,
+            };
         }
         if self.bad_encoder(payload.len()) {
-            return answered(Item::BadState, self);
+            return Given {
+                answer: Err(EncoderError::BadState),
+                encoder: self,
+            };
         }
-        let state = self.state;
-        next_from_state(state, self.place, self.crc, payload)
+        self.next_from_state(payload)
     }
 }
 
-// `bytes` go to `out` from `at` on; answers the place behind them.
+// `bytes` go to `out` from `at` on; answers the place behind them. Crate lines has the like: no public function has a `requires`, so that neither can lend it.
 fn extend_from_slice(out: &mut [u8], at: usize, bytes: &[u8]) -> usize
     requires { at + length bytes.now ≤ length out.old }
     ensures { Stored out.new result out.old at bytes.now }
 {
-    let mut i = 0;
-    while i < bytes.len() {
-        out[at + i] = bytes[i];
-        i += 1;
-    }
-    at + i
+    let end = at + bytes.len();
+    out[at..end].copy_from_slice(bytes);
+    end
 }
 
-// The payload's bytes from `from` on that are no 1b go to `out`, from `at` on; answers how many. n 1b of a run stand before them.
-fn put_unescaped(payload: &[u8], from: usize, n: u8, out: &mut [u8], at: usize) -> usize
-    requires { (from ≤ length payload.now) × (at + length (escaped n (drop from payload.now)) ≤ length out.old) }
-    ensures { (from + result ≤ length payload.now) × Writes out.new (at + result) (run_after result n) (from + result) out.old at n from payload.now }
+// The bytes of `rest` before its first 1b go to `out`, from `at` on; answers how many.
+fn put_unescaped(rest: &[u8], out: &mut [u8], at: usize) -> usize
+    requires { at + length rest.now ≤ length out.old }
+    ensures { (result ≤ length rest.now) × NoneEscapes result rest.now × Stored out.new (at + result) out.old at (take result rest.now) }
 {
-    let left = payload.len() - from;
-    let mut k = 0;
-    while k < left {
-        let b = payload[from + k];
-        if b == frame::ESC {
-            break;
-        }
-        out[at + k] = b;
-        k += 1;
+    let k = rest
+        .iter()
+        .position(|b| *b == frame::ESC)
+        .unwrap_or(rest.len());
+    if k != 0 {
+        extend_from_slice(out, at, &rest[..k]);
     }
     k
 }
@@ -314,13 +292,7 @@ fn run_with(n: u8, b: u8) -> u8
     requires { n ≤ 3 }
     ensures { (result ≡ run_with n b) × (result ≤ 3) }
 {
-    if b != frame::ESC {
-        return 0;
-    }
-    if n == 3 {
-        return 0;
-    }
-    n + 1
+    if b == frame::ESC && n < 3 { n + 1 } else { 0 }
 }
 
 // One byte of the payload, and the escape behind a fourth 1b; answers the place behind them.
@@ -329,13 +301,11 @@ fn put_byte(out: &mut [u8], at: usize, n: u8, b: u8) -> usize
     ensures { Stored out.new result out.old at (b ∷ four_more n b) }
 {
     out[at] = b;
-    if b != frame::ESC {
-        return at + 1;
+    if b == frame::ESC && n == 3 {
+        extend_from_slice(out, at + 1, &frame::ESCAPE)
+    } else {
+        at + 1
     }
-    if n != 3 {
-        return at + 1;
-    }
-    extend_from_slice(out, at + 1, &frame::ESCAPE)
 }
 
 // The escaped payload goes to `out` from `at` on; answers the place behind it.
@@ -345,9 +315,10 @@ fn put_escaped(payload: &[u8], out: &mut [u8], at: usize) -> usize
 {
     let mut o = at;
     let mut n: u8 = 0;
+    // `i` goes on by whole stretches without a 1b: tried: a `for` over single bytes takes 17.0 instructions a byte, this loop 5.3, and 8 is the bar.
     let mut i = 0;
     while i < payload.len() {
-        let k = put_unescaped(payload, i, n, out, o);
+        let k = put_unescaped(&payload[i..], out, o);
         n = run_after(k, n);
         i += k;
         o += k;
@@ -365,49 +336,32 @@ fn put_escaped(payload: &[u8], out: &mut [u8], at: usize) -> usize
 fn bytes_of(run: u8, b: u8) -> usize
     ensures { result ≡ length (b ∷ four_more run b) }
 {
-    if b != frame::ESC {
-        return 1;
-    }
-    if run == 3 { 5 } else { 1 }
+    if b == frame::ESC && run == 3 { 5 } else { 1 }
 }
 
 // The escaped payload's length.
+#[tactic(auto, using(crate::proofs::Stores::counted_more, crate::proofs::Stores::counted_room, crate::proofs::Stores::all_done, crate::proofs::Encodes::escaped_twice))]
 fn escaped_len(payload: &[u8]) -> usize
     requires { length payload.now ≤ limit }
     ensures { result ≡ length (escaped 0 payload.now) }
 {
     let mut len = 0;
     let mut n: u8 = 0;
-    let mut i = 0;
-    while i < payload.len() {
-        let b = payload[i];
-        len += bytes_of(n, b);
-        n = run_with(n, b);
-        i += 1;
+    for b in payload {
+        len += bytes_of(n, *b);
+        n = run_with(n, *b);
     }
     len
 }
 
 // Whether the payload's frame fits in `room` bytes. A payload at most doubles, so most outputs need no count.
+#[tactic(auto, using(crate::proofs::Encodes::escaped_twice, frame::proofs::Frames::length_frame))]
 fn fits(payload: &[u8], room: usize) -> bool
     requires { length payload.now ≤ limit }
     ensures { result ≡ leb (length (frame_of payload.now)) room }
 {
     let len = payload.len();
-    if 2 * len + 19 <= room {
-        return true;
-    }
-    8 + escaped_len(payload) + num_padding_bytes(len) + 8 <= room
-}
-
-// Two bytes go to `out` from `at` on; answers the place behind them.
-fn put_pair(out: &mut [u8], at: usize, a: u8, b: u8) -> usize
-    requires { at + 2 ≤ length out.old }
-    ensures { Stored out.new result out.old at (a ∷ b ∷ []) }
-{
-    out[at] = a;
-    out[at + 1] = b;
-    at + 2
+    2 * len + 19 <= room || 8 + escaped_len(payload) + num_padding_bytes(len) + 8 <= room
 }
 
 // Pad bytes, escape, 1a and the pad count go to `out` from `at` on; answers the place behind them.
@@ -418,10 +372,11 @@ fn put_end(out: &mut [u8], at: usize, pad: usize) -> usize
     let zeros = [0; 3];
     let after = extend_from_slice(out, at, &zeros[..pad]);
     let escape = extend_from_slice(out, after, &frame::ESCAPE);
-    put_pair(out, escape, 0x1a, pad as u8)
+    extend_from_slice(out, escape, &[0x1a, pad as u8])
 }
 
 // The payload's frame goes to `out` from its first place on; answers the frame's length.
+#[tactic(auto, using(crate::proofs::Encodes::frame_room, crate::proofs::Encodes::end_room, crate::proofs::Stores::length_end, crate::proofs::Stores::stored_frame))]
 fn put_frame(payload: &[u8], out: &mut [u8]) -> usize
     requires { length (frame_of payload.now) ≤ length out.old }
     ensures { Stored out.new result out.old 0 (frame_of payload.now) }
@@ -430,19 +385,19 @@ fn put_frame(payload: &[u8], out: &mut [u8]) -> usize
     let at = put_escaped(payload, out, begun);
     let end = put_end(out, at, num_padding_bytes(payload.len()));
     let crc = crc_x25::checksum(&out[..end]);
-    put_pair(out, end, (crc % 256) as u8, (crc / 256) as u8)
+    extend_from_slice(out, end, &crc.to_le_bytes())
 }
 
 // The payload's frame goes to `out`; what stands behind it there is unchanged. A refusal changes nothing.
-pub fn encode(payload: &[u8], out: &mut [u8]) -> Encoded
+#[tactic(auto, using(crate::proofs::Encodes::encode_long, crate::proofs::Encodes::encode_full, crate::proofs::Encodes::encode_whole))]
+pub fn encode(payload: &[u8], out: &mut [u8]) -> Result<usize, EncodeError>
     ensures { after_encode (encode_answer result) out.new ≡ encode_to payload.now out.old }
 {
     if refusals::LIMIT < payload.len() {
-        return Encoded::PayloadTooLong;
+        return Err(EncodeError::PayloadTooLong);
     }
     if !fits(payload, out.len()) {
-        return Encoded::OutOfMemory;
+        return Err(EncodeError::OutOfMemory);
     }
-    let len = put_frame(payload, out);
-    Encoded::Frame(len)
+    Ok(put_frame(payload, out))
 }

@@ -1,3 +1,3 @@
-// What the calls of streaming::parse_next answer on a whole input: statements and laws alone.
+// What the calls of `Reader::parse_next` answer on a whole input: statements and laws alone.
 
 #![tactic(auto)]

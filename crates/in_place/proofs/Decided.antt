@@ -1,13 +1,13 @@
 -- Each view can be undone, so a contract allows one outcome for each input.
 use mathlib.Core.Path.{◌≡◌}
 use Prim.Native.Nat.{ℕ}
+use Rattle.std.specs.Prelude.{Option, Result}
 use Rattle.encoder.specs.Encoder.{step_of}
-use Rattle.encoder.specs.declared.Item.{Item}
+use Rattle.encoder.specs.declared.EncoderError.{EncoderError}
 use Rattle.encoder.specs.declared.Given.{Given}
 use Rattle.encoder.specs.declared.Encoder.{Encoder}
-use Rattle.decoder.specs.Record.{after_push, after_finalize, after_reset}
+use Rattle.decoder.specs.Record.{Event, after_push, after_finalize, after_reset}
 use Rattle.decoder.specs.declared.Decoder.{Decoder}
-use Rattle.decoder.specs.declared.Event.{Event}
 use Rattle.decoder.specs.declared.Pushed.{Pushed}
 use Rattle.decoder.specs.declared.Finalized.{Finalized}
 use Rattle.decoder.specs.declared.AfterReset.{AfterReset}
@@ -43,7 +43,7 @@ reset_in_place r r' h =
     let p : ◌≡◌ {A = AfterReset} (record { decoder = r.lent; count = r.answer }) (record { decoder = r'.lent; count = r'.answer }) = reset_one _ _ h in
     λ i. record { answer = (p i).count; lent = (p i).decoder }
 
-next_in_place : Injective (λ (r : Beside Item Encoder). step_of (record { answer = r.answer; encoder = r.lent }))
+next_in_place : Injective (λ (r : Beside (Result (Option ℕ) EncoderError) Encoder). step_of (record { answer = r.answer; encoder = r.lent }))
 next_in_place r r' h =
     let p : ◌≡◌ {A = Given} (record { answer = r.answer; encoder = r.lent }) (record { answer = r'.answer; encoder = r'.lent }) = next_one _ _ h in
     λ i. record { answer = (p i).answer; lent = (p i).encoder }
@@ -85,7 +85,7 @@ decided =
       push_lent = λ d buf b. injective (λ (r : With Pushed). after_push r.answer r.memory) decoderViews.pushed _;
       finalize_lent = λ d. injective after_finalize decoderViews.finalized _;
       reset_lent = λ d. injective after_reset decoderViews.was_reset _;
-      next = λ e payload. injective (λ (r : Beside Item Encoder). step_of (record { answer = r.answer; encoder = r.lent })) views.next_in_place _;
+      next = λ e payload. injective (λ (r : Beside (Result (Option ℕ) EncoderError) Encoder). step_of (record { answer = r.answer; encoder = r.lent })) views.next_in_place _;
       next_lent = λ e payload. injective step_of encoderViews.next _;
       push_slice_claim =
           λ d buf chunk. injective

@@ -1,6 +1,7 @@
 -- What the contracts rule out: each wrong reading of docs/WRONG-READINGS.md that is told here is an outcome that the definition does not allow, at a small input.
 use mathlib.Core.Path.{◌≡◌, ap}
 use mathlib.Core.List.{List, [], ◌∷◌}
+use Rattle.std.specs.Prelude.{false, Option, Some, Result, Ok}
 use Prim.Native.Nat.{ℕ}
 use native.Mathlib.Omega.{arith}
 use lib.ListN.{replicate, get_or}
@@ -8,12 +9,10 @@ use Rattle.crc_x25.specs.Crc.{reflect, polynomial, bit_step, bit_steps, byte_ste
 use Rattle.encoder.specs.Encoder.{Step, NextAnswer, byte, finished, no_byte, step_of, encoder_at, fresh_encoder, step_from, bad_encoder, next_step}
 use Rattle.encoder.specs.declared.EncoderState.{EncoderState}
 use Rattle.encoder.specs.declared.EncoderState.TheVariants.{Init, LookingForEscape, HandlingEscape, End}
-use Rattle.encoder.specs.declared.Item.{Item}
+use Rattle.encoder.specs.declared.EncoderError.{EncoderError}
 use Rattle.encoder.specs.declared.Encoder.{Encoder}
 use Rattle.decoder.specs.Push.{sized, search, begun, searching, store, step, finalized, reset_count}
-use Rattle.decoder.specs.Record.{DecoderAnswer, nothing, payload, count, refusal, After, Left, after_push, after_finalize, after_reset, wrote, bad_decoder, wrong_buffer, new_record, record_of, pushed, push_record, finalize_record, reset_record}
-use Rattle.decoder.specs.declared.Event.{Event}
-use Rattle.decoder.specs.declared.Event.TheVariants.{Nothing}
+use Rattle.decoder.specs.Record.{Event, DecoderAnswer, nothing, payload, count, refusal, After, Left, after_push, after_finalize, after_reset, wrote, bad_decoder, wrong_buffer, new_record, record_of, pushed, push_record, finalize_record, reset_record}
 use Rattle.decoder.specs.declared.Decoder.{Decoder}
 use Rattle.decoder_slice.specs.Slice.{Took, after_slice, pushes_from, slice_record}
 
@@ -54,7 +53,7 @@ lost (count n) = n
 lost (refusal k values) = get_or values 0 0
 
 -- asked behind its new beginning, a decoder has lost nothing
-in_place_finalize_judges_the_new_decoder : (d : Decoder) → after_finalize (record { decoder = d; event = Nothing }) ≡ finalize_record behind1b → ⊥
+in_place_finalize_judges_the_new_decoder : (d : Decoder) → after_finalize (record { decoder = d; event = Ok false }) ≡ finalize_record behind1b → ⊥
 unfolding finalize_record bad_decoder finalized lost
 in_place_finalize_judges_the_new_decoder d h = let n : ◌≡◌ {A = ℕ} 0 1 = ap (λ (l : Left). lost l.answer) h in omega (arith, n)
 
@@ -85,7 +84,7 @@ started (LookingForEscape n) = 8
 started (HandlingEscape n) = 8
 started (End n) = 8
 
-in_place_next_keeps_the_encoder : (i : Item) → step_of (record { answer = i; encoder = fresh_encoder }) ≡ next_step fresh_encoder [] → ⊥
+in_place_next_keeps_the_encoder : (i : Result (Option ℕ) EncoderError) → step_of (record { answer = i; encoder = fresh_encoder }) ≡ next_step fresh_encoder [] → ⊥
 unfolding next_step bad_encoder step_from fresh_encoder started reflect polynomial bit_step bit_steps byte_step register
 in_place_next_keeps_the_encoder i h = let n : ◌≡◌ {A = ℕ} 0 1 = ap (λ (s : Step). started s.encoder.state) h in omega (arith, n)
 
@@ -96,6 +95,6 @@ byte_given finished = 256
 byte_given (no_byte n) = 256
 
 -- the fourth byte of a start is 1b; the Encoder that this call leaves would give the fifth, 01
-in_place_next_judges_the_new_encoder : (e : Encoder) (reg : ℕ) → step_of (record { answer = Item.Byte 0x01; encoder = e }) ≡ next_step (encoder_at (Init 3) 0 reg) [] → ⊥
+in_place_next_judges_the_new_encoder : (e : Encoder) (reg : ℕ) → step_of (record { answer = Ok (Some 0x01); encoder = e }) ≡ next_step (encoder_at (Init 3) 0 reg) [] → ⊥
 unfolding next_step bad_encoder step_from byte_given
 in_place_next_judges_the_new_encoder e reg h = let b : ◌≡◌ {A = ℕ} 0x01 0x1b = ap (λ (s : Step). byte_given s.answer) h in omega (arith, b)

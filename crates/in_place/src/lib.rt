@@ -9,7 +9,7 @@ ghost use Rattle.encoder.specs.Encoder.{step_of, next_step};
 
 use decoder::{AfterReset, Decoder, Event, Finalized, Pushed};
 use decoder_slice::Sliced;
-use encoder::{Encoder, Given, Item};
+use encoder::{Encoder, EncoderError, Given};
 
 // The first event, and how many bytes were taken up to and with the one that brought it.
 #[derive(Clone, Copy)]
@@ -27,7 +27,7 @@ pub fn push(d: &mut Decoder, buf: &mut [u8], b: u8) -> Event
     r.event
 }
 
-// Says how many bytes are lost, if any; the decoder begins again.
+// Says how many bytes are lost, if any; the decoder begins again. A line over the function by value, as reset is; document 01 wants both forms.
 pub fn finalize(d: &mut Decoder) -> Event
     ensures { after_finalize (record { decoder = d.new; event = result }) ≡ finalize_record d.old }
 {
@@ -58,7 +58,7 @@ pub fn push_slice(d: &mut Decoder, buf: &mut [u8], chunk: &[u8]) -> Taken
 }
 
 // Gives the next byte of the payload's frame, the Encoder lent to be changed in place. The payload is the same at every call.
-pub fn next(e: &mut Encoder, payload: &[u8]) -> Item
+pub fn next(e: &mut Encoder, payload: &[u8]) -> Result<Option<u8>, EncoderError>
     ensures { step_of (record { answer = result; encoder = e.new }) ≡ next_step e.old payload.now }
 {
     let r = (*e).next(payload);

@@ -1,4 +1,5 @@
 -- What sorting may count on: the rows that a whole message leaves in the table are few, and their entries' starts rise.
+use Rattle.std.specs.Prelude.{Err}
 use Prim.Native.Nat.{ℕ, zero, suc, ◌*◌, ◌-◌, ◌^◌, ◌<◌, ◌≤◌}
 use mathlib.Core.Path.{◌≡◌, refl, sym, ap, subst}
 use mathlib.Core.List.Memᴰ
@@ -8,17 +9,19 @@ use mathlib.Core.Logic.{⊎_elim}
 use native.Mathlib.Omega.{arith}
 use lib.ListN.{length, drop}
 use borrow.Author.Tests.{lt-ltb}
-use Rattle.refusals.specs.Read.{Refusal, many}
+use Rattle.refusals.specs.Read.{many}
 use Rattle.refusals.specs.declared.Span.{Span}
 use Rattle.refusals.proofs.Read.{Ok, ok_any, ok_got, ok_then, ok_at}
 use Rattle.common.proofs.Fields.{entry_found}
 use Rattle.message.specs.Messages.{MessageStart, ListEnd, Body, open_body, close_body, list_body, start_at, list_end_at}
 use Rattle.trailer.specs.Trailer.{trailer_at}
-use Rattle.whole.specs.Whole.{EntryRow, row_at, rows_at, WholeMessage, inside_at, whole_at, flat, rows_of, whole_is, broken, refused_alone, AfterWhole, read_to}
-use Rattle.whole.specs.Answers.{after_whole}
+use Rattle.whole.specs.Whole.{EntryRow, row_at, rows_at, WholeMessage, inside_at, whole_at, flat, rows_of, whole_is, AfterWhole, read_to}
+use Rattle.whole.specs.Answers.{whole_refused, after_whole}
+use Rattle.whole.specs.declared.WholeError.{WholeError}
+use Rattle.whole.specs.declared.WholeError.TheVariants as Errors
 use Rattle.whole.proofs.Outcomes.{WholeOutcome, too_long, place_beyond, broken_at, table_full, taken_whole, whole_outcome, not_broken, not_refused_alone, says_so, rows_back, length_stays}
-use Rattle.index.specs.Index.{index_is, index_broken, index_refused, sorted_to, index_of, index_to}
-use Rattle.index.specs.Answers.{after_index}
+use Rattle.index.specs.Index.{index_is, sorted_to, index_of, index_to}
+use Rattle.index.specs.Answers.{indexed, after_index}
 use Rattle.index.specs.Rows.{Distinct}
 use Rattle.index.proofs.Unique.{Ordered, none, more}
 use Rattle.index.proofs.Finds.{starts_before, rows_distinct}
@@ -110,10 +113,9 @@ module _ (s : List ℕ) (at : ℕ) (t u : List ℕ) where
   unfolding index_to index_of
   built start end rows next v e q = rw (← e) (ap (after_index (index_is rows next)) q)
 
-  pub built_broken : (f : Refusal) → after_whole (broken f) u ≡ read_to s at t → after_index (index_broken f) u ≡ index_to s at t
+  pub built_refused : (e : WholeError) → after_whole (whole_refused e) u ≡ read_to s at t → after_index (indexed (Err e)) u ≡ index_to s at t
   unfolding index_to index_of
-  built_broken f e = rw (← e)
-
-  pub built_refused : (n : ℕ) → after_whole (refused_alone n) u ≡ read_to s at t → after_index (index_refused n) u ≡ index_to s at t
-  unfolding index_to index_of
-  built_refused n e = rw (← e)
+  built_refused (Errors.Fault f) e = rw (← e)
+  built_refused Errors.InputTooLong e = rw (← e)
+  built_refused Errors.BadState e = rw (← e)
+  built_refused Errors.TooManyEntries e = rw (← e)

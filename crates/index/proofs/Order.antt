@@ -1,7 +1,7 @@
 -- The order of rows is strict, what is not before passes on, and rows with different starts are one before the other.
 use Prim.Native.Nat.{ℕ, ◌<◌, ◌≤◌}
 use mathlib.Core.List.{List}
-use mathlib.Core.Path.{◌≡◌, refl, sym, ◌∙◌, subst}
+use mathlib.Core.Path.{◌≡◌, refl, sym, ap, ◌∙◌, subst}
 use mathlib.Core.Bool.{Bool, true, false, cond, true≢false}
 use mathlib.Core.Logic.{◌⊎◌, inl, inr}
 use native.Mathlib.Omega.{arith}
@@ -13,8 +13,11 @@ use Rattle.index.specs.Index.{before, has_name}
 use Rattle.frame.proofs.Cases.{by_lt}
 use Rattle.frame.specs.Frame.{same}
 use Rattle.frame.proofs.Same.{same_true, same_self}
+use Rattle.std.specs.declared.cmp.Ordering.{Ordering}
+use Rattle.std.specs.Ordering.{ordering_index}
+use Rattle.std.specs.Bool.{◌==◌}
 use Rattle.name_order.specs.Order.{lower, compared}
-use Rattle.name_order.specs.declared.Ordering.TheVariants.{Less, Equal, Greater}
+use Rattle.std.specs.declared.cmp.Ordering.TheVariants.{Less, Equal, Greater}
 use Rattle.name_order.proofs.Lower as L
 use Rattle.name_order.proofs.Lower.{Lower, true_lower, lower_asym, lower_trans, Compared, comparing}
 use Rattle.name_order.proofs.Compared.{not_lower, same_not, says_less, says_equal, says_greater}
@@ -115,7 +118,7 @@ module _ (s : List ℕ) (p q : EntryRow) where
 
 -- exactly that name
 module _ (s name : List ℕ) (r : EntryRow) where
-  pub named_so : compared (part_of s r.name) name ≡ Equal → has_name s name r ≡ true
+  named_so : compared (part_of s r.name) name ≡ Equal → has_name s name r ≡ true
   unfolding has_name
   named_so e = rw (says_equal _ _ e) (same_self _)
 
@@ -127,8 +130,10 @@ module _ (s name : List ℕ) (r : EntryRow) where
       go true e = absurd (n (same_true _ _ e))
       go false e = e
 
-  pub named_less : compared (part_of s r.name) name ≡ Less → has_name s name r ≡ false
-  named_less e = named_not (λ q. same_not _ _ q (says_less _ _ e))
+  named_index : (o : Ordering) → o ≡ compared (part_of s r.name) name → (ordering_index o == 1) ≡ has_name s name r
+  named_index Less e = sym (named_not (λ q. same_not _ _ q (says_less _ _ (sym e))))
+  named_index Equal e = sym (named_so (sym e))
+  named_index Greater e = sym (named_not (λ q. same_not _ _ (sym q) (says_greater _ _ (sym e))))
 
-  pub named_greater : compared (part_of s r.name) name ≡ Greater → has_name s name r ≡ false
-  named_greater e = named_not (λ q. same_not _ _ (sym q) (says_greater _ _ e))
+  pub named_as : (x : List ℕ) (o : Ordering) → x ≡ part_of s r.name → o ≡ compared x name → (ordering_index o == 1) ≡ has_name s name r
+  named_as x o q e = named_index o (e ∙ ap (λ (z : List ℕ). compared z name) q)

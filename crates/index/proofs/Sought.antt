@@ -1,24 +1,30 @@
--- A lookup: what a turn at row i keeps, and what is known behind the last one.
-use Prim.Native.Nat.{ℕ, zero, suc, ◌+◌, ◌-◌, ◌/◌, ◌%◌, ◌<◌, ◌≤◌}
-use mathlib.Core.Path.{◌≡◌, refl, sym, ap, ◌∙◌, subst}
-use mathlib.Core.List.{List}
+-- A lookup: what the turns that are left find, and that all of them together find what the definition says.
+use Rattle.std.specs.Prelude.{Result}
+use Rattle.std.specs.Prelude as P
+use Rattle.std.specs.Result.{is_ok}
+use Rattle.std.specs.Simd.{first_chunks}
+use Prim.Native.Nat.{ℕ, zero, suc, ◌+◌, ◌/◌, ◌%◌, ◌<◌, ◌≤◌}
+use mathlib.Core.Path.{◌≡◌, refl, sym, ap, ◌∙◌}
+use mathlib.Core.List.{List, [], ◌∷◌, map}
 use mathlib.Core.Bool.{Bool, true, false, cond, true≢false, ◌&&◌}
 use mathlib.Core.Option.{Option, some, none}
 use native.Mathlib.Omega.{arith}
-use lib.ListN.{length}
-use lib.Dec.{eqb}
+use lib.ListN.{length, take, drop, get_or}
+use lib.Seq.{drop-cons}
+use Rattle.std.proofs.lemmas.List.{drop_all}
 use borrow.Author.Tests.{eq-eqb, ne_eqb, lt-ltb, le-ltb}
 use Rattle.refusals.specs.Numbers.{input_too_long_no, bad_span_no, limit}
+use Rattle.refusals.specs.Answers.{opt_of}
 use Rattle.refusals.specs.declared.Span.{Span}
-use Rattle.refusals.proofs.Read.{and_left, and_right}
+use Rattle.refusals.specs.declared.BadSpan.{BadSpan}
 use Rattle.octet_string.specs.Strings.{span_within, span_refusal}
-use Rattle.frame.proofs.Cases.{by_lt, by_test, either}
-use Rattle.whole.specs.Whole.{EntryRow}
-use Rattle.index.specs.Index.{before, row_within, every, rising, is_table, first_with, has_name, found_row, found_none, look_refused, found_said, look_up_in}
-use Rattle.index.specs.Rows.{nth_row}
+use Rattle.octet_string.specs.Answers.{span_check}
+use Rattle.whole.specs.Whole.{EntryRow, first_row, rows_of}
+use Rattle.index.specs.Index.{before, row_within, every, rising, is_table, first_with, has_name, FoundSaid, look_refused, found_said, look_up_in, all_rows_claim}
+use Rattle.index.specs.Answers.{entry_row, found_by}
+use Rattle.index.specs.Rows.{row_from, four_row}
 use Rattle.index.specs.Sought.{sound_at, sought_at}
-use Rattle.index.proofs.Unique.{tab}
-use Rattle.index.proofs.Rows.{rows_tab}
+use Rattle.index.specs.declared.Row.{Row}
 
 -- ---- a part within the input, by the library's question
 
@@ -26,150 +32,109 @@ abbrev is_some : Option ℕ → Bool
 is_some (some n) = true
 is_some none = false
 
-pub within_good : (s : List ℕ) (p : Span) → none ≡ span_refusal s p → true ≡ span_within s p
+pub within_ok : (s : List ℕ) (p : Span) (r : Result (Unit {0}) BadSpan) → span_check r ≡ span_refusal s p → is_ok r ≡ span_within s p
 unfolding span_refusal
-within_good s p e = go (span_within s p) e
+within_ok s p r e = go (span_within s p) r e
   where
-    go : (t : Bool) → none ≡ cond t none (some bad_span_no) → true ≡ t
-    go true f = refl
-    go false f = absurd (true≢false (sym (ap is_some f)))
+    go : (t : Bool) (r : Result (Unit {0}) BadSpan) → span_check r ≡ cond t none (some bad_span_no) → is_ok r ≡ t
+    go true (P.Ok u) f = refl
+    go false (P.Ok u) f = absurd (true≢false (sym (ap is_some f)))
+    go true (P.Err b) f = absurd (true≢false (ap is_some f))
+    go false (P.Err b) f = refl
 
-pub within_bad : (s : List ℕ) (p : Span) → some bad_span_no ≡ span_refusal s p → false ≡ span_within s p
-unfolding span_refusal
-within_bad s p e = go (span_within s p) e
+-- ---- rows as arrays of four numbers
+
+chunk_row : (t : List ℕ) → four_row (take 4 t) ≡ first_row t
+unfolding four_row row_from
+chunk_row [] = refl
+chunk_row (a ∷ []) = refl
+chunk_row (a ∷ b ∷ []) = refl
+chunk_row (a ∷ b ∷ c ∷ []) = refl
+chunk_row (a ∷ b ∷ c ∷ d ∷ t) = refl
+
+chunk_rows : (n : ℕ) (t : List ℕ) → map four_row (first_chunks 4 n t) ≡ rows_of n t
+chunk_rows zero t = refl
+chunk_rows (suc n) t = λ i. chunk_row t i ∷ chunk_rows n (drop 4 t) i
+
+-- ---- the turns that are left, behind a row and with what was found
+
+unfoldable pub turns_left : List ℕ → (EntryRow → Bool) → Option EntryRow → Option EntryRow → List EntryRow → FoundSaid
+turns_left s p b f [] = found_said f
+turns_left s p b f (r ∷ rs) = cond (sound_at s b r) (turns_left s p (some r) (sought_at p f r) rs) (look_refused bad_span_no)
+
+abbrev pub left_at : List ℕ → (EntryRow → Bool) → Option EntryRow → Option EntryRow → List (List ℕ) → ℕ → FoundSaid
+left_at s p b f rows i = turns_left s p b f (map four_row (drop i rows))
+
+module _ (s : List ℕ) (p : EntryRow → Bool) (b f : Option EntryRow) (rows : List (List ℕ)) (i : ℕ) where
+  next_turn : i < length rows → left_at s p b f rows i ≡ turns_left s p b f (four_row (get_or rows i []) ∷ map four_row (drop (suc i) rows))
+  next_turn h = ap (λ (l : List (List ℕ)). turns_left s p b f (map four_row l)) (drop-cons rows i [] h)
+
+  pub turn_taken : (r : EntryRow) → i < length rows → r ≡ four_row (get_or rows i []) → sound_at s b r ≡ true → left_at s p (some r) (sought_at p f r) rows (i + 1) ≡ left_at s p b f rows i
+  unfolding turns_left
+  turn_taken r h q e = let m : i + 1 ≡ suc i = omega arith in sym (next_turn h ∙ rw (← q, e, m))
+
+  pub turn_refused : (r : EntryRow) → i < length rows → r ≡ four_row (get_or rows i []) → sound_at s b r ≡ false → left_at s p b f rows i ≡ look_refused bad_span_no
+  unfolding turns_left
+  turn_refused r h q e = next_turn h ∙ rw (← q, e)
+
+  pub turns_over : length rows ≤ i → left_at s p b f rows i ≡ found_said f
+  unfolding turns_left
+  turns_over h = ap (λ (l : List (List ℕ)). turns_left s p b f (map four_row l)) (drop_all i rows h)
+
+-- ---- all turns
+
+abbrev rises_from : List ℕ → Option EntryRow → List EntryRow → Bool
+rises_from s none l = rising (before s) l
+rises_from s (some q) l = rising (before s) (q ∷ l)
+
+abbrev first_from : (EntryRow → Bool) → Option EntryRow → List EntryRow → Option EntryRow
+first_from p none l = first_with p l
+first_from p (some r) l = some r
+
+found_later : (p : EntryRow → Bool) (f : Option EntryRow) (r : EntryRow) (rs : List EntryRow) → first_from p (sought_at p f r) rs ≡ first_from p f (r ∷ rs)
+unfolding sought_at first_with
+found_later p (some q) r rs = refl
+found_later p none r rs = go (p r)
   where
-    go : (t : Bool) → some bad_span_no ≡ cond t none (some bad_span_no) → false ≡ t
-    go true f = absurd (true≢false (ap is_some f))
-    go false f = refl
+    go : (t : Bool) → first_from p (cond t (some r) none) rs ≡ cond t (some r) (first_with p rs)
+    go true = refl
+    go false = refl
 
--- ---- the first n of a sequence, by tests of each
-
-and_false : (t : Bool) → (t && false) ≡ false
-and_false true = refl
-and_false false = refl
-
-module _ {A : Type 0} where
-  first_hit : (p : A → Bool) (f : ℕ → A) (n k : ℕ) → k < n → ((j : ℕ) → j < k → p (f j) ≡ false) → p (f k) ≡ true → first_with p (tab f n) ≡ some (f k)
-  unfolding first_with tab
-  first_hit p f zero k l m e = absurd (omega arith)
-  first_hit p f (suc n) zero l m e = rw e
-  first_hit p f (suc n) (suc k) l m e = rw (m 0 (omega arith)) (first_hit p (λ i. f (suc i)) n k (omega arith) (λ j h. m (suc j) (omega arith)) e)
-
-  first_miss : (p : A → Bool) (f : ℕ → A) (n : ℕ) → ((j : ℕ) → j < n → p (f j) ≡ false) → first_with p (tab f n) ≡ none
-  unfolding first_with tab
-  first_miss p f zero m = refl
-  first_miss p f (suc n) m = rw (m 0 (omega arith)) (first_miss p (λ i. f (suc i)) n (λ j h. m (suc j) (omega arith)))
-
-  every_all : (q : A → Bool) (f : ℕ → A) (n : ℕ) → ((j : ℕ) → j < n → q (f j) ≡ true) → every q (tab f n) ≡ true
-  unfolding every tab
-  every_all q f zero m = refl
-  every_all q f (suc n) m = rw (m 0 (omega arith)) (every_all q (λ i. f (suc i)) n (λ j h. m (suc j) (omega arith)))
-
-  every_not : (q : A → Bool) (f : ℕ → A) (n k : ℕ) → k < n → q (f k) ≡ false → every q (tab f n) ≡ false
-  unfolding every tab
-  every_not q f zero k l e = absurd (omega arith)
-  every_not q f (suc n) zero l e = rw e
-  every_not q f (suc n) (suc k) l e = rw (every_not q (λ i. f (suc i)) n k (omega arith) e) (and_false (q (f 0)))
-
-  rising_all : (lt : A → A → Bool) (f : ℕ → A) (n : ℕ) → ((j : ℕ) → suc j < n → lt (f j) (f (suc j)) ≡ true) → rising lt (tab f n) ≡ true
-  unfolding rising tab
-  rising_all lt f zero m = refl
-  rising_all lt f (suc zero) m = refl
-  rising_all lt f (suc (suc n)) m = rw (m 0 (omega arith)) (rising_all lt (λ i. f (suc i)) (suc n) (λ j h. m (suc j) (omega arith)))
-
-  rising_not : (lt : A → A → Bool) (f : ℕ → A) (n k : ℕ) → suc k < n → lt (f k) (f (suc k)) ≡ false → rising lt (tab f n) ≡ false
-  unfolding rising tab
-  rising_not lt f zero k l e = absurd (omega arith)
-  rising_not lt f (suc zero) k l e = absurd (omega arith)
-  rising_not lt f (suc (suc n)) zero l e = rw e
-  rising_not lt f (suc (suc n)) (suc k) l e = rw (rising_not lt (λ i. f (suc i)) (suc n) k (omega arith) e) (and_false (lt (f 0) (f 1)))
-
--- ---- sound rows
-
-module _ (s : List ℕ) (f : ℕ → EntryRow) where
-  sound_within : (i : ℕ) → sound_at s f i ≡ true → row_within s (f i) ≡ true
-  unfolding sound_at
-  sound_within i e = and_left (row_within s (f i)) (cond (eqb i 0) true (before s (f (i - 1)) (f i))) e
-
-  sound_later : (i : ℕ) → sound_at s f (suc i) ≡ (row_within s (f (suc i)) && before s (f i) (f (suc i)))
-  unfolding sound_at
-  sound_later i = let z : suc i - 1 ≡ i = omega arith in rw (ne_eqb (suc i) 0 (λ q. omega arith), z)
-
-  sound_behind : (i : ℕ) → sound_at s f (suc i) ≡ true → before s (f i) (f (suc i)) ≡ true
-  sound_behind i e = and_right (row_within s (f (suc i))) (before s (f i) (f (suc i))) (sym (sound_later i) ∙ e)
-
-  sound_all : (n : ℕ) → ((j : ℕ) → j < n → sound_at s f j ≡ true) → (every (row_within s) (tab f n) && rising (before s) (tab f n)) ≡ true
-  sound_all n m =
-      rw (every_all (row_within s) f n (λ j h. sound_within j (m j h)), rising_all (before s) f n (λ j h. sound_behind j (m (suc j) h)))
-
-  -- one that isn't: it is no part of the input, or not behind the one before it
-  not_behind : (i : ℕ) → row_within s (f (suc i)) ≡ true → sound_at s f (suc i) ≡ false → before s (f i) (f (suc i)) ≡ false
-  not_behind i w e = sym (ap (λ (b : Bool). b && before s (f i) (f (suc i))) w) ∙ sym (sound_later i) ∙ e
-
-  first_sound : row_within s (f 0) ≡ true → sound_at s f 0 ≡ true
-  unfolding sound_at
-  first_sound w = rw w
-
-  unsound_so : (n i : ℕ) → i < n → sound_at s f i ≡ false → (every (row_within s) (tab f n) && rising (before s) (tab f n)) ≡ false
-  unsound_so n i h e = go (row_within s (f i)) refl
+-- a turn's test before the tests of the rest, as the tests of each kind
+module _ (w e z : Bool) (x y : FoundSaid) where
+  test_first : cond w (cond (e && z) x y) y ≡ cond ((w && e) && z) x y
+  test_first = go w
     where
-      both : (a b : Bool) → b ≡ false → (a && b) ≡ false
-      both true b q = q
-      both false b q = refl
+      go : (t : Bool) → cond t (cond (e && z) x y) y ≡ cond ((t && e) && z) x y
+      go true = refl
+      go false = refl
 
-      behind : (k : ℕ) → k < n → sound_at s f k ≡ false → row_within s (f k) ≡ true → rising (before s) (tab f n) ≡ false
-      behind zero l q w = absurd (true≢false (sym (first_sound w) ∙ q))
-      behind (suc k) l q w = rising_not (before s) f n k l (not_behind k w q)
+  test_both : (t : Bool) → cond (w && t) (cond (e && z) x y) y ≡ cond ((w && e) && (t && z)) x y
+  test_both t = go w t e
+    where
+      go : (w t e : Bool) → cond (w && t) (cond (e && z) x y) y ≡ cond ((w && e) && (t && z)) x y
+      go true true e = refl
+      go true false true = refl
+      go true false false = refl
+      go false t e = refl
 
-      go : (t : Bool) → row_within s (f i) ≡ t → (every (row_within s) (tab f n) && rising (before s) (tab f n)) ≡ false
-      go true w = both (every (row_within s) (tab f n)) (rising (before s) (tab f n)) (behind i h e w)
-      go false w = rw (every_not (row_within s) f n i h w)
-
--- ---- the loop: before row i all rows are sound, and found is the first of them with the name; n stands for none
-
-pub record Looking (s : List ℕ) (f : ℕ → EntryRow) (p : EntryRow → Bool) (n found i : ℕ) : Type 0 where
-  pub low : i ≤ n
-  pub sound : (j : ℕ) → j < i → sound_at s f j ≡ true
-  pub misses : (j : ℕ) → j < i → j < found → p (f j) ≡ false
-  pub hit : found < n → (found < i) × (p (f found) ≡ true)
-
-module _ {s : List ℕ} {f : ℕ → EntryRow} {p : EntryRow → Bool} {n : ℕ} where
-  pub look_begin : Looking s f p n n 0
-  look_begin = record { low = omega arith; sound = λ j h. absurd (omega arith); misses = λ j h k. absurd (omega arith); hit = λ h. absurd (omega arith) }
-
-  sound_next : {found i : ℕ} → Looking s f p n found i → sound_at s f i ≡ true → (j : ℕ) → j < i + 1 → sound_at s f j ≡ true
-  sound_next {found} {i} w e j h = either j i (λ q. rw q e) (λ m. w.sound j (omega arith))
-
-  pub look_next : {found next i : ℕ} → Looking s f p n found i → i < n → sound_at s f i ≡ true → next ≡ sought_at p f found n i → Looking s f p n next (i + 1)
-  unfolding sought_at
-  look_next {found} {next} {i} w l e q =
-      rw q
-      (by_lt (λ v. Looking s f p n v (i + 1)) found n found (cond (p (f i)) i n)
-      (λ h. record {
-        low = omega arith;
-        sound = sound_next w e;
-        misses = λ j k m. w.misses j (omega (arith, (w.hit h).0)) m;
-        hit = λ k. let z = w.hit h in (omega (arith, z.0), z.1);
-      })
-      (λ h. by_test (λ v. Looking s f p n v (i + 1)) (p (f i)) i n
-      (λ t. record {
-        low = omega arith;
-        sound = sound_next w e;
-        misses = λ j k m. w.misses j m (omega arith);
-        hit = λ k. (omega arith, t);
-      })
-      (λ t. record {
-        low = omega arith;
-        sound = sound_next w e;
-        misses = λ j k m. either j i (λ z. rw z t) (λ z. w.misses j (omega arith) (omega arith));
-        hit = λ k. absurd (omega arith);
-      })))
-
-  -- behind the last row
-  look_all : {found i : ℕ} → Looking s f p n found i → n ≤ i → Looking s f p n found n
-  look_all {found} {i} w h = let e : i ≡ n = omega (arith, w.low) in subst (λ (j : ℕ). Looking s f p n found j) e w
+turns_judge : (s : List ℕ) (p : EntryRow → Bool) (b f : Option EntryRow) (l : List EntryRow)
+    → turns_left s p b f l ≡ cond (every (row_within s) l && rises_from s b l) (found_said (first_from p f l)) (look_refused bad_span_no)
+unfolding turns_left every rising first_with sound_at
+turns_judge s p none none [] = refl
+turns_judge s p none (some q) [] = refl
+turns_judge s p (some r) none [] = refl
+turns_judge s p (some r) (some q) [] = refl
+turns_judge s p none f (r ∷ rs) =
+    rw (turns_judge s p (some r) (sought_at p f r) rs, found_later p f r rs) (test_first (row_within s r) (every (row_within s) rs) (rising (before s) (r ∷ rs)) _ _)
+turns_judge s p (some q) f (r ∷ rs) =
+    rw (turns_judge s p (some r) (sought_at p f r) rs, found_later p f r rs) (test_both (row_within s r) (every (row_within s) rs) (rising (before s) (r ∷ rs)) _ _ (before s q r))
 
 -- ---- what a lookup answers
+
+pub found_is : (f : P.Option Row) → found_by (P.Ok f) ≡ found_said (opt_of entry_row f)
+found_is (P.Some r) = refl
+found_is P.None = refl
 
 module _ (s t name : List ℕ) where
   pub look_long : limit < length s → look_refused input_too_long_no ≡ look_up_in s t name
@@ -180,22 +145,8 @@ module _ (s t name : List ℕ) where
   unfolding look_up_in is_table
   look_part h e = rw (le-ltb limit (length s) h, ne_eqb (length t % 4) 0 e)
 
-  module _ (h : length s ≤ limit) (e : length t % 4 ≡ 0) where
-    pub look_unsound : (i : ℕ) → i < length t / 4 → sound_at s (nth_row t) i ≡ false → look_refused bad_span_no ≡ look_up_in s t name
-    unfolding look_up_in is_table
-    look_unsound i l q = rw (le-ltb limit (length s) h, eq-eqb (length t % 4) 0 e, rows_tab (length t / 4) t, unsound_so s (nth_row t) (length t / 4) i l q)
-
-    taken : {n found : ℕ} → Looking s (nth_row t) (has_name s name) n found n → n ≡ length t / 4 → look_up_in s t name ≡ found_said (first_with (has_name s name) (tab (nth_row t) n))
-    unfolding look_up_in is_table
-    taken {n} w q = rw (le-ltb limit (length s) h, eq-eqb (length t % 4) 0 e, rows_tab (length t / 4) t, ← q, sound_all s (nth_row t) n w.sound)
-
-    pub look_found : {n found i : ℕ} → Looking s (nth_row t) (has_name s name) n found i → n ≡ length t / 4 → n ≤ i → found < n → (r : EntryRow) → r ≡ nth_row t found → found_row r ≡ look_up_in s t name
-    look_found {n} {found} {i} w q k l r z =
-        let z' = look_all w k in
-        let x = w.hit l in
-        sym (taken z' q ∙ ap found_said (first_hit (has_name s name) (nth_row t) n found l (λ j b. z'.misses j (omega arith) b) x.1 ∙ ap some (sym z)))
-
-    pub look_none : {n found i : ℕ} → Looking s (nth_row t) (has_name s name) n found i → n ≡ length t / 4 → n ≤ i → n ≤ found → found_none ≡ look_up_in s t name
-    look_none {n} {found} {i} w q k l =
-        let z' = look_all w k in
-        sym (taken z' q ∙ ap found_said (first_miss (has_name s name) (nth_row t) n (λ j b. z'.misses j b (omega arith))))
+  pub look_all : (rows : List (List ℕ)) → length s ≤ limit → length t % 4 ≡ 0 → rows ≡ first_chunks 4 (length t / 4) t → turns_left s (has_name s name) none none (map four_row rows) ≡ look_up_in s t name
+  unfolding look_up_in is_table
+  look_all rows h e q =
+      let m : map four_row rows ≡ all_rows_claim t = ap (map four_row) q ∙ chunk_rows (length t / 4) t in
+      rw (le-ltb limit (length s) h, eq-eqb (length t % 4) 0 e, m) (turns_judge s (has_name s name) none none (all_rows_claim t))

@@ -2,7 +2,6 @@
 use Rattle.std.specs.Prelude.{ℕ, ◌+◌, ◌*◌, ◌<◌, ◌≡◌, List, get_or}
 use Rattle.whole.specs.Whole.{EntryRow}
 use Rattle.whole.specs.Cut.{put_row}
-use Rattle.index.specs.declared.Four.{Four}
 
 -- the row that four numbers are
 unfoldable pub row_from : ℕ → ℕ → ℕ → ℕ → EntryRow
@@ -11,8 +10,8 @@ row_from a b c d = record { name = record { start = a; len = b }; entry = record
 unfoldable pub nth_row : List ℕ → ℕ → EntryRow
 nth_row t k = row_from (get_or t (4 * k) 0) (get_or t (4 * k + 1) 0) (get_or t (4 * k + 2) 0) (get_or t (4 * k + 3) 0)
 
-unfoldable pub four_row : Four → EntryRow
-four_row f = row_from f.a f.b f.c f.d
+unfoldable pub four_row : List ℕ → EntryRow
+four_row f = row_from (get_or f 0 0) (get_or f 1 0) (get_or f 2 0) (get_or f 3 0)
 
 -- the rows i and j change places
 unfoldable pub exchanged : List ℕ → ℕ → ℕ → List ℕ

@@ -3,7 +3,6 @@ use Prim.Native.Nat.{ℕ, zero, suc, ◌+◌, ◌-◌, ◌*◌, ◌/◌, ◌%◌
 use mathlib.Core.List.{List, [], ◌∷◌, ◌++◌}
 use mathlib.Core.Path.{◌≡◌, refl, ap, sym, ◌∙◌, subst}
 use native.Mathlib.Omega.{arith}
-use native.Mathlib.Numerals.{add-one}
 use borrow.Author.Tests.{lt-ltb}
 use lib.ListN.{length, set, drop, get_or, length-append, drop_of_length-le}
 use lib.Seq.{sets}
@@ -18,11 +17,6 @@ pub hex_length : (bytes : List ℕ) → length (hex_of bytes) ≡ 2 * length byt
 unfolding hex_of
 hex_length [] = refl
 hex_length (b ∷ bytes) = omega (arith, hex_length bytes)
-
--- the two of one byte
-pub hex_pair : (m : List ℕ) (o b x y : ℕ) → x ≡ digit_of (b / 16) → y ≡ digit_of (b % 16) → Stored (set (set m o x) (o + 1) y) (o + 2) m o (hex_of (b ∷ []))
-unfolding hex_of
-hex_pair m o b x y e f = rw (add-one, e, f) (refl, refl)
 
 -- the digits of the byte at i, then the rest
 pub hex_more : (m m' s : List ℕ) (o r i : ℕ) → i < length s → Stored m' r m o (hex_of (get_or s i 0 ∷ [])) → sets m' r (hex_of (drop (i + 1) s)) ≡ sets m o (hex_of (drop i s))

@@ -9,9 +9,9 @@ use borrow.Author.Tests.{le-leb, lt-leb}
 use lib.ListN.{length, take, drop, length-append}
 use lib.Seq.{sets-eq, take_at}
 use Rattle.frame.proofs.Cases.{by_le}
-use Rattle.decoder.specs.Record.{payload, refusal, flag, answer_of}
-use Rattle.decoder.specs.declared.Event.{Event}
-use Rattle.decoder.specs.declared.Event.TheVariants.{Nothing, Payload, DiscardedBytes, InvalidEsc, OutOfMemory, InvalidMessage, BadState, WrongBuffer}
+use Rattle.std.specs.Prelude.{Ok, Err}
+use Rattle.decoder.specs.Record.{payload, refusal, flag, Event, answer_of}
+use Rattle.decoder.specs.declared.DecodeErr.TheVariants.{DiscardedBytes, InvalidEsc, OutOfMemory, InvalidMessage, BadState, WrongBuffer}
 use Rattle.encoder.specs.Parts.{Stored}
 use Rattle.encoder.proofs.Stores.{stored_then, stored_take}
 use Rattle.lines.specs.Lines.{text, hex_of, hex_four, decimal, aligned_word, refusal_line, line_of, LineAnswer, line_length, no_line, AfterLine, after_line, line_to}
@@ -124,11 +124,11 @@ payload_most (b ∷ p) = omega (arith, hex_line_length (text "payload ") (b ∷ 
 -- the places that are enough for every line
 pub line_most : (e : Event) (p : List ℕ) → length (line_of (answer_of e p)) ≤ max 40 (9 + 2 * length p)
 unfolding refusal_line line_of
-line_most Nothing p = omega arith
-line_most Payload p = omega (arith, payload_most p)
-line_most (DiscardedBytes n) p = simp length-append (omega (arith, decimal_ten n))
-line_most (InvalidEsc a b c d) p = simp (length-append, hex_length) (omega arith)
-line_most OutOfMemory p = omega arith
-line_most (InvalidMessage read computed misaligned pads) p = simp (length-append, hex_length) (omega (arith, decimal_ten pads, aligned_short misaligned))
-line_most BadState p = omega arith
-line_most WrongBuffer p = omega arith
+line_most (Ok false) p = omega arith
+line_most (Ok true) p = omega (arith, payload_most p)
+line_most (Err OutOfMemory) p = omega arith
+line_most (Err BadState) p = omega arith
+line_most (Err WrongBuffer) p = omega arith
+line_most (Err (DiscardedBytes n)) p = simp length-append (omega (arith, decimal_ten n))
+line_most (Err (InvalidEsc a b c d)) p = simp (length-append, hex_length) (omega arith)
+line_most (Err (InvalidMessage read computed misaligned pads)) p = simp (length-append, hex_length) (omega (arith, decimal_ten pads, aligned_short misaligned))

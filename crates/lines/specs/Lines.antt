@@ -1,11 +1,11 @@
 -- rule: the program's lines of document 01, one for each answer of the decoder, as the codes of their characters; what write_line answers, and what it leaves in the output.
-use Rattle.std.specs.Prelude.{cond, List, [], ◌∷◌, ◌++◌, ℕ, zero, suc, ◌+◌, ◌-◌, ◌/◌, ◌%◌, length, drop, get_or, eqb, ltb, leb}
+use Rattle.std.specs.Prelude.{◌≡◌, cond, List, [], ◌∷◌, ◌++◌, ℕ, zero, suc, ◌+◌, ◌-◌, ◌/◌, ◌%◌, length, drop, get_or, eqb, ltb, leb, Result, Ok, Err}
 use Prim.Native.Char.{code}
 use Prim.Native.String.{String, [] as []ˢ, ◌∷◌ as ◌∷ˢ◌}
 use Rattle.refusals.specs.Numbers.{decoder_out_of_memory_no, discarded_bytes_no, invalid_esc_no, invalid_message_no, output_too_short_no}
-use Rattle.decoder.specs.Record.{DecoderAnswer, nothing, payload, count, refusal}
-use Rattle.lines.specs.declared.Written.{Written}
-use Rattle.lines.specs.declared.Written.TheVariants.{Length, OutputTooShort}
+use Rattle.decoder.specs.declared.DecodeErr.TheVariants.{DiscardedBytes, InvalidEsc, OutOfMemory, InvalidMessage, BadState, WrongBuffer}
+use Rattle.decoder.specs.Record.{Event, DecoderAnswer, nothing, payload, count, refusal}
+use Rattle.lines.specs.declared.OutputTooShort.{OutputTooShort}
 
 -- the codes of a text's characters
 abbrev pub text : String → List ℕ
@@ -63,9 +63,9 @@ pub data LineAnswer : Type 0 where
   line_length : ℕ → LineAnswer
   no_line : ℕ → LineAnswer  -- document 02's number
 
-abbrev pub line_answer : Written → LineAnswer
-line_answer (Length n) = line_length n
-line_answer OutputTooShort = no_line output_too_short_no
+abbrev pub line_answer : Result ℕ OutputTooShort → LineAnswer
+line_answer (Ok n) = line_length n
+line_answer (Err short) = no_line output_too_short_no
 
 pub record AfterLine : Type 0 where
   pub answer : LineAnswer

@@ -15,9 +15,11 @@ use Rattle.decoder.specs.Push.{in_way, finalized}
 use Rattle.decoder.specs.Record.{new_record, unknown_way, bad_decoder, wrong_buffer, finalize_record}
 use Rattle.since.proofs.KeptExactly.{reads_fresh_exactly}
 use Rattle.losses.specs.Loss.{LossSaid, loss_after, lost_is, none_lost, loss_refused, next_behind, next_loss}
-use Rattle.losses.specs.Watch.{WatchSaid, quietly, kept_over, lost_over, watch_refused, WatchAfter, after_watch, watch_new, watch_slice, watches_from, EndAfter, said_at_end, watch_end}
+use Rattle.losses.specs.Watch.{WatchSaid, quietly, kept_over, lost_over, watch_refused, seen_as, WatchAfter, after_watch, watch_new, watch_slice, watches_from, EndAfter, said_at_end, watch_end}
 use Rattle.losses.specs.Cut.{next_seen}
-use Rattle.losses.specs.declared.Loss.{Loss}
+use Rattle.std.specs.Prelude.{Err}
+use Rattle.losses.specs.declared.LossError.{LossError}
+use Rattle.losses.specs.declared.LossError.TheVariants.{BadState, WrongBuffer}
 use Rattle.losses.specs.declared.Watch.{Watch}
 use Rattle.losses.specs.declared.Watched.{Watched}
 use Rattle.losses.proofs.Events.{is_good_watch, end_good}
@@ -89,6 +91,22 @@ going_new recording way m from w good room is =
     subst (λ (x : Watch). Going recording way m from x m from) (sym is)
     (record { there = refl; still = record { begun = from; bytes = []; is = new_reads recording way m from good room }; next = new_next_lem recording way m from good room })
 
+-- what a slice of all the rest brings: it goes on behind the bytes that were taken, or the loss is there; it isn't refused
+abbrev pub GoesBy : WatchSaid → List ℕ → ℕ → List ℕ → ℕ → Watched → List ℕ → ℕ → Type 0
+GoesBy quietly recording way m₀ from r m at = Going recording way m₀ from r.watch m at
+GoesBy (kept_over first last) recording way m₀ from r m at = Going recording way m₀ from r.watch m at
+GoesBy (lost_over l) recording way m₀ from r m at = loss_after (lost_is l) m ≡ next_loss recording way m₀ from
+GoesBy (watch_refused n) recording way m₀ from r m at = ⊥
+
+pub record Gone (recording : List ℕ) (way : ℕ) (m₀ : List ℕ) (from : ℕ) (at : ℕ) (r : Watched) (m : List ℕ) : Type 0 where
+  pub some : 1 ≤ r.taken
+  pub room : at + r.taken ≤ length recording
+  pub by : GoesBy (after_watch r m).seen recording way m₀ from r m (at + r.taken)
+
+pub refused_never_goes : {G : Type 0} (e : LossError) (recording : List ℕ) (way : ℕ) (m₀ : List ℕ) (from : ℕ) (r : Watched) (m : List ℕ) (at : ℕ) → GoesBy (seen_as (Err e)) recording way m₀ from r m at → G
+refused_never_goes BadState recording way m₀ from r m at g = absurd g
+refused_never_goes WrongBuffer recording way m₀ from r m at g = absurd g
+
 module _ (recording : List ℕ) (way : ℕ) (m₀ : List ℕ) (from : ℕ) (w : Watch) (m : List ℕ) (at : ℕ) (k : Going recording way m₀ from w m at) (small : length recording < 2 ^ 63) where
   ordered : w.begun ≤ w.pushed
   ordered = let t = k.still.is.tracks in omega (arith, t.begun', t.pushed')
@@ -111,10 +129,10 @@ module _ (recording : List ℕ) (way : ℕ) (m₀ : List ℕ) (from : ℕ) (w : 
     taken_is : r.taken ≡ t.taken
     taken_is = ap (λ (x : WatchAfter). x.taken) is_watches
 
-    pub going_room : at + r.taken ≤ length recording
+    going_room : at + r.taken ≤ length recording
     going_room = omega (arith, taken_is, (watches_taken rest 0 w m).1, length-drop at recording, lt)
 
-    pub going_some : 1 ≤ r.taken
+    going_some : 1 ≤ r.taken
     going_some = rw taken_is (watches_some rest w m (omega (arith, length-drop at recording, lt)))
 
     next_is : next_by (after_watch r m').seen (after_watch r m') (drop (at + r.taken) recording) ≡ next_loss recording way m₀ from
@@ -130,17 +148,14 @@ module _ (recording : List ℕ) (way : ℕ) (m₀ : List ℕ) (from : ℕ) (w : 
       next = next;
     }
 
-    pub going_quiet : (after_watch r m').seen ≡ quietly → Going recording way m₀ from r.watch m' (at + r.taken)
-    going_quiet e = goes (ap (λ (s : WatchSaid). next_by s (after_watch r m') (drop (at + r.taken) recording)) (sym e) ∙ next_is)
+    goes_by : (s : WatchSaid) → (after_watch r m').seen ≡ s → GoesBy s recording way m₀ from r m' (at + r.taken)
+    goes_by quietly e = goes (ap (λ (s : WatchSaid). next_by s (after_watch r m') (drop (at + r.taken) recording)) (sym e) ∙ next_is)
+    goes_by (kept_over first last) e = goes (ap (λ (s : WatchSaid). next_by s (after_watch r m') (drop (at + r.taken) recording)) (sym e) ∙ next_is)
+    goes_by (lost_over l) e = ap (λ (s : WatchSaid). next_by s (after_watch r m') (drop (at + r.taken) recording)) (sym e) ∙ next_is
+    goes_by (watch_refused n) e = subst Unrefused (sym (ap (λ (x : WatchAfter). x.seen) is_watches) ∙ e) (watches_unrefused rest 0 w m)
 
-    pub going_kept : (first last : ℕ) → (after_watch r m').seen ≡ kept_over first last → Going recording way m₀ from r.watch m' (at + r.taken)
-    going_kept first last e = goes (ap (λ (s : WatchSaid). next_by s (after_watch r m') (drop (at + r.taken) recording)) (sym e) ∙ next_is)
-
-    pub going_lost : (l : Loss) → (after_watch r m').seen ≡ lost_over l → loss_after (lost_is l) m' ≡ next_loss recording way m₀ from
-    going_lost l e = ap (λ (s : WatchSaid). next_by s (after_watch r m') (drop (at + r.taken) recording)) (sym e) ∙ next_is
-
-    pub going_unrefused : (n : ℕ) → (after_watch r m').seen ≡ watch_refused n → ⊥
-    going_unrefused n e = subst Unrefused (sym (ap (λ (x : WatchAfter). x.seen) is_watches) ∙ e) (watches_unrefused rest 0 w m)
+    pub going_on : Gone recording way m₀ from at r m'
+    going_on = record { some = going_some; room = going_room; by = goes_by (after_watch r m').seen refl }
 
   -- the recording's end
   pub going_ends : length recording ≤ at → at ≤ length recording → (e : EndAfter) → e ≡ watch_end w → loss_after e.told m ≡ next_loss recording way m₀ from

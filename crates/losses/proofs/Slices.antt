@@ -15,7 +15,6 @@ use Rattle.losses.specs.Loss.{LossAfter, loss_after, lost_is, is_refusal, hands_
 use Rattle.losses.specs.Watch.{WatchSaid, quietly, kept_over, lost_over, watch_refused, WatchAfter, watch_after, over_of, loss_seen, sight_of, sight_at, moved_on, watch_behind, watches_from}
 use Rattle.losses.specs.Cut.{next_seen}
 use Rattle.losses.specs.declared.Look.{Look}
-use Rattle.losses.specs.declared.Loss.{Loss}
 use Rattle.losses.specs.declared.Watch.{Watch}
 use Rattle.losses.proofs.Next.{WatchReads, push_quiet, push_loud, push_event}
 
@@ -158,17 +157,3 @@ pub watch_next : (bytes : List ℕ) (w : Watch) (m : List ℕ) (begun : ℕ) (h 
 watch_next bytes w m begun h k =
     slice_from bytes 0 w m begun h k
     ∙ ap (λ (i : ℕ). next_by (watches_from 0 w m bytes).seen (watches_from 0 w m bytes) (drop i bytes)) (sub-zero (watches_from 0 w m bytes).taken)
-
--- the same by what the slice brought
-module _ (bytes : List ℕ) (w : Watch) (m : List ℕ) (begun : ℕ) (h : List ℕ) (k : WatchReads w m begun h) where
-  abbrev t : WatchAfter
-  t = watches_from 0 w m bytes
-
-  pub slice_goes_quiet : t.seen ≡ quietly → next_seen w m bytes ≡ next_seen t.watch t.memory (drop t.taken bytes)
-  slice_goes_quiet e = watch_next bytes w m begun h k ∙ ap (λ (s : WatchSaid). next_by s t (drop t.taken bytes)) e
-
-  pub slice_goes_kept : (first last : ℕ) → t.seen ≡ kept_over first last → next_seen w m bytes ≡ next_seen t.watch t.memory (drop t.taken bytes)
-  slice_goes_kept first last e = watch_next bytes w m begun h k ∙ ap (λ (s : WatchSaid). next_by s t (drop t.taken bytes)) e
-
-  pub slice_goes_lost : (l : Loss) → t.seen ≡ lost_over l → next_seen w m bytes ≡ loss_after (lost_is l) t.memory
-  slice_goes_lost l e = watch_next bytes w m begun h k ∙ ap (λ (s : WatchSaid). next_by s t (drop t.taken bytes)) e

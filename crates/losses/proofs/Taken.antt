@@ -10,10 +10,9 @@ use lib.Seq.{take-append_seam}
 use lib.Dec.{eqb}
 use Rattle.refusals.specs.Numbers.{discarded_bytes_no}
 use Rattle.decoder.proofs.Split.{cases}
-use Rattle.decoder.specs.Record.{DecoderAnswer, nothing, payload, count, refusal, answer_of, After, bad_decoder, wrong_buffer, push_record}
+use Rattle.decoder.specs.Record.{Event, DecoderAnswer, nothing, payload, count, refusal, answer_of, After, bad_decoder, wrong_buffer, push_record}
 use Rattle.decoder.specs.declared.Decoder.{Decoder}
-use Rattle.decoder.specs.declared.Event.{Event}
-use Rattle.decoder.specs.declared.Event.TheVariants.{Nothing, Payload, DiscardedBytes, InvalidEsc, OutOfMemory, InvalidMessage, BadState, WrongBuffer}
+use Rattle.std.specs.Prelude.{Ok, Err}
 use Rattle.decoder_slice.specs.Slice.{says_nothing, Took, took, after_slice, pushes_from, slice_record}
 use Rattle.decoder_slice.specs.declared.Sliced.{Sliced}
 use Rattle.decoder_slice.proofs.Taken.{slice_pushes, taken_from}
@@ -48,24 +47,14 @@ module _ (w : Watch) (chunk : List ℕ) (t : Took) where
 pub watched_same : (w : Watch) (chunk : List ℕ) (e : Event) (bytes : List ℕ) (d : Decoder) (n : ℕ) (m : List ℕ)
     → watched_of w chunk (took (answer_of e []) d n m) ≡ watched_of w chunk (took (answer_of e bytes) d n m)
 unfolding watched_of
-watched_same w chunk Nothing bytes d n m = refl
-watched_same w chunk Payload bytes d n m = refl
-watched_same w chunk (DiscardedBytes k) bytes d n m = refl
-watched_same w chunk (InvalidEsc x y z u) bytes d n m = refl
-watched_same w chunk OutOfMemory bytes d n m = refl
-watched_same w chunk (InvalidMessage read computed misaligned p) bytes d n m = refl
-watched_same w chunk BadState bytes d n m = refl
-watched_same w chunk WrongBuffer bytes d n m = refl
+watched_same w chunk (Ok false) bytes d n m = refl
+watched_same w chunk (Ok true) bytes d n m = refl
+watched_same w chunk (Err e) bytes d n m = refl
 
 same_said : (e : Event) (bytes : List ℕ) → says_nothing (answer_of e []) ≡ says_nothing (answer_of e bytes)
-same_said Nothing bytes = refl
-same_said Payload bytes = refl
-same_said (DiscardedBytes n) bytes = refl
-same_said (InvalidEsc a b c d) bytes = refl
-same_said OutOfMemory bytes = refl
-same_said (InvalidMessage read computed misaligned p) bytes = refl
-same_said BadState bytes = refl
-same_said WrongBuffer bytes = refl
+same_said (Ok false) bytes = refl
+same_said (Ok true) bytes = refl
+same_said (Err e) bytes = refl
 
 -- what says something has taken a byte
 loud_taken : (bs : List ℕ) (n : ℕ) (d : Decoder) (m : List ℕ) → says_nothing (pushes_from n d m bs).answer ≡ false → suc n ≤ (pushes_from n d m bs).taken

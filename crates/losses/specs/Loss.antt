@@ -1,5 +1,5 @@
 -- rule: what was lost of a recording and why, document 02's Q-10: the answers of a new decoder that is pushed the recording's bytes, then finalized.
-use Rattle.std.specs.Prelude.{Bool, true, false, cond, not, ◌||◌, List, [], ◌∷◌, ◌++◌, ℕ, suc, ◌+◌, ◌-◌, length, take, drop, get_or, eqb, ltb}
+use Rattle.std.specs.Prelude.{Bool, true, false, cond, not, ◌||◌, Option, Some, None, Result, Ok, Err, List, [], ◌∷◌, ◌++◌, ℕ, suc, ◌+◌, ◌-◌, length, take, drop, get_or, eqb, ltb}
 use Rattle.refusals.specs.Numbers.{bad_state_no, wrong_buffer_no, discarded_bytes_no, invalid_esc_no, invalid_message_no, limit}
 use Rattle.frame.specs.Frame.{start_seq, same}
 use Rattle.decoder.specs.Push.{in_way}
@@ -8,8 +8,8 @@ use Rattle.decoder.specs.declared.Decoder.{Decoder}
 use Rattle.losses.specs.declared.Cause.{Cause}
 use Rattle.losses.specs.declared.Cause.TheVariants.{Noise, Unfinished, Hidden, Cut, UnknownEscape, NoRoom, Invalid}
 use Rattle.losses.specs.declared.Loss.{Loss}
-use Rattle.losses.specs.declared.Told.{Told}
-use Rattle.losses.specs.declared.Told.TheVariants.{Lost, Whole, BadState, WrongBuffer}
+use Rattle.losses.specs.declared.LossError.{LossError}
+use Rattle.losses.specs.declared.LossError.TheVariants.{BadState, WrongBuffer}
 
 -- ---- whole start sequences
 
@@ -68,11 +68,11 @@ pub data LossSaid : Type 0 where
   none_lost : LossSaid  -- nothing more is lost
   loss_refused : ℕ → LossSaid  -- document 01's number
 
-abbrev pub loss_told : Told → LossSaid
-loss_told (Lost l) = lost_is l
-loss_told Whole = none_lost
-loss_told BadState = loss_refused bad_state_no
-loss_told WrongBuffer = loss_refused wrong_buffer_no
+abbrev pub loss_told : Result (Option Loss) LossError → LossSaid
+loss_told (Ok (Some l)) = lost_is l
+loss_told (Ok None) = none_lost
+loss_told (Err BadState) = loss_refused bad_state_no
+loss_told (Err WrongBuffer) = loss_refused wrong_buffer_no
 
 -- an answer, and the lent memory as it is then
 pub record LossAfter : Type 0 where

@@ -1,5 +1,5 @@
 -- rule: the same byte by byte, in a few numbers in place of the bytes since the search or frame began.
-use Rattle.std.specs.Prelude.{Bool, true, false, cond, not, ◌||◌, List, [], ◌∷◌, ◌++◌, ℕ, suc, ◌+◌, ◌-◌, ◌^◌, length, take, eqb, ltb}
+use Rattle.std.specs.Prelude.{Bool, true, false, cond, not, ◌||◌, Option, Some, None, Result, Ok, Err, List, [], ◌∷◌, ◌++◌, ℕ, suc, ◌+◌, ◌-◌, ◌^◌, length, take, eqb, ltb}
 use Rattle.refusals.specs.Numbers.{bad_state_no, wrong_buffer_no, discarded_bytes_no}
 use Rattle.frame.specs.Frame.{start_seq}
 use Rattle.search.specs.Search.{most_matched}
@@ -11,8 +11,10 @@ use Rattle.losses.specs.Loss.{cause_of, loss_over, LossSaid, lost_is, none_lost,
 use Rattle.losses.specs.declared.Loss.{Loss}
 use Rattle.losses.specs.declared.Look.{Look}
 use Rattle.losses.specs.declared.Watch.{Watch}
+use Rattle.losses.specs.declared.LossError.{LossError}
+use Rattle.losses.specs.declared.LossError.TheVariants.{BadState, WrongBuffer}
 use Rattle.losses.specs.declared.Seen.{Seen}
-use Rattle.losses.specs.declared.Seen.TheVariants.{Nothing, Kept, Lost, BadState, WrongBuffer}
+use Rattle.losses.specs.declared.Seen.TheVariants.{Kept, Lost}
 use Rattle.losses.specs.declared.Watched.{Watched}
 use Rattle.losses.specs.declared.WatchEnded.{WatchEnded}
 
@@ -52,12 +54,12 @@ pub data WatchSaid : Type 0 where
   lost_over : Loss → WatchSaid
   watch_refused : ℕ → WatchSaid  -- document 01's number
 
-abbrev pub seen_as : Seen → WatchSaid
-seen_as Nothing = quietly
-seen_as (Kept first last) = kept_over first last
-seen_as (Lost l) = lost_over l
-seen_as BadState = watch_refused bad_state_no
-seen_as WrongBuffer = watch_refused wrong_buffer_no
+abbrev pub seen_as : Result (Option Seen) LossError → WatchSaid
+seen_as (Ok None) = quietly
+seen_as (Ok (Some (Kept first last))) = kept_over first last
+seen_as (Ok (Some (Lost l))) = lost_over l
+seen_as (Err BadState) = watch_refused bad_state_no
+seen_as (Err WrongBuffer) = watch_refused wrong_buffer_no
 
 -- what is seen, how many bytes were taken, with the watch and the lent memory as they are then
 pub record WatchAfter : Type 0 where

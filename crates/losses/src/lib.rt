@@ -1,18 +1,18 @@
 // Why bytes of a recording were lost (document 02, Q-10): for each refusal of a decoder that gets the recording, then finalize, its piece of the recording and the causes.
 #![tactic(auto)]
 
-ghost use Rattle.std.specs.Prelude.{◌≡◌, false, not, List, [], ℕ, suc, ◌+◌, ◌-◌, ◌≤◌, ◌<◌, ◌^◌, length, eqb};
-ghost use Rattle.decoder.specs.Record.{answer_of};
+ghost use Rattle.std.specs.Prelude.{◌≡◌, false, not, List, [], ℕ, Ok, Err, suc, ◌+◌, ◌-◌, ◌≤◌, ◌<◌, ◌^◌, length, eqb};
+ghost use Rattle.decoder.specs.Record.{answer_err, answer_of};
 ghost use Rattle.decoder_slice.specs.Slice.{says_nothing, took};
-ghost use Rattle.losses.specs.Loss.{dropped_for, wrong_pads, cause_of, loss_over, loss_told, loss_after, hands_out, next_loss};
-ghost use Rattle.losses.specs.Watch.{watch_new, bad_watch, over_of, look_behind, seen_as, sight_of, watched, after_watch, watch_slice, said_at_end, after_end, watch_end};
+ghost use Rattle.losses.specs.Loss.{dropped_for, wrong_pads, cause_of, loss_over, loss_told, loss_after, next_loss};
+ghost use Rattle.losses.specs.Watch.{watch_new, bad_watch, over_of, look_behind, seen_as, sight_of, after_watch, watch_slice, said_at_end, after_end, watch_end};
 ghost use Rattle.losses.specs.Cut.{looked_over, found_start, watched_of};
 
-use decoder::{Decoder, Event};
+use decoder::{DecodeErr, Decoder, Event};
 use decoder_slice::Sliced;
 
 // Why bytes were lost. Several may be true of an end sequence, at least one is.
-#[derive(Clone, Copy)]
+#[derive(Clone, Copy, PartialEq, Eq)]
 pub enum Cause {
     Noise,
     Unfinished,
@@ -28,18 +28,16 @@ pub enum Cause {
 }
 
 // A piece of the recording, its first and last byte counted from 1.
-#[derive(Clone, Copy)]
+#[derive(Clone, Copy, PartialEq, Eq)]
 pub struct Loss {
     pub cause: Cause,
     pub first: usize,
     pub last: usize,
 }
 
-// What next_loss answers. Whole: nothing more is lost.
-#[derive(Clone, Copy)]
-pub enum Told {
-    Lost(Loss),
-    Whole,
+// Refusals 4 and 5.
+#[derive(Clone, Copy, PartialEq, Eq)]
+pub enum LossError {
     BadState,
     WrongBuffer,
 }
@@ -49,7 +47,7 @@ pub enum Told {
 pub struct Look {
     // So many bytes of a start sequence stand last, while none is found.
     pub matched: u8,
-    // Behind so many bytes the first whole one ends; 0: none yet. Behind 8: a frame is running.
+    // Behind so many bytes the first whole one ends; 0: none yet. Behind 8: a frame is running. No Option: C keeps it as a number (sgh_watch), where Some(0) would be None.
     pub start_end: usize,
 }
 
@@ -64,26 +62,24 @@ pub struct Watch {
 }
 
 // What a slice brings: a frame whose payload stands in the buffer, from its first to its last byte, or a loss.
-#[derive(Clone, Copy)]
+#[derive(Clone, Copy, PartialEq, Eq)]
 pub enum Seen {
-    Nothing,
     Kept { first: usize, last: usize },
     Lost(Loss),
-    BadState,
-    WrongBuffer,
 }
 
 #[derive(Clone, Copy)]
 pub struct Watched {
     pub watch: Watch,
-    pub seen: Seen,
+    pub seen: Result<Option<Seen>, LossError>,
     pub taken: usize,
 }
 
+// `Ok(None)`: nothing more is lost.
 #[derive(Clone, Copy)]
 pub struct WatchEnded {
     pub watch: Watch,
-    pub told: Told,
+    pub told: Result<Option<Loss>, LossError>,
 }
 
 // No byte of a search.
@@ -101,26 +97,20 @@ impl Watch {
     }
 }
 
-// A watch is made here alone.
-fn watch_of(d: Decoder, pushed: usize, begun: usize, l: Look) -> Watch
-    ensures { result ≡ watched d pushed begun l }
-{
-    Watch {
-        decoder: d,
-        pushed: pushed,
-        begun: begun,
-        look: l,
-    }
-}
-
 // A new decoder behind the recording's first `from` bytes.
 fn watch_from(capacity: usize, way: u8, from: usize) -> Watch
     ensures { result ≡ watch_new capacity way from }
 {
-    watch_of(Decoder::with_way(capacity, way), from, from, NO_LOOK)
+    Watch {
+        decoder: Decoder::with_way(capacity, way),
+        pushed: from,
+        begun: from,
+        look: NO_LOOK,
+    }
 }
 
 // The first whole start sequence among n bytes that were looked at and these.
+#[tactic(auto, using(crate::proofs::Looks::over_found, crate::proofs::Looks::look_ends, crate::proofs::Looks::look_further, crate::proofs::Looks::look_done, crate::proofs::Looks::unfound))]
 fn look_over(l: Look, n: usize, bytes: &[u8]) -> Look
     requires { n + length bytes.now < 2 ^ 64 }
     ensures { result ≡ looked_over l n bytes.now }
@@ -129,19 +119,17 @@ fn look_over(l: Look, n: usize, bytes: &[u8]) -> Look
         return l;
     }
     let mut matched = l.matched;
-    let mut i = 0;
-    while i < bytes.len() {
+    for i in 0..bytes.len() {
         matched = search::advance(matched, bytes[i]);
-        i += 1;
         if matched == 8 {
             return Look {
-                matched: matched,
-                start_end: n + i,
+                matched,
+                start_end: n + i + 1,
             };
         }
     }
     Look {
-        matched: matched,
+        matched,
         start_end: 0,
     }
 }
@@ -150,17 +138,16 @@ fn look_over(l: Look, n: usize, bytes: &[u8]) -> Look
 fn dropped_for(at_end: bool, l: Look) -> Cause
     ensures { result ≡ dropped_for at_end (eqb l.start_end 8) (not (eqb l.start_end 0)) }
 {
-    if l.start_end == 8 {
-        return if at_end {
-            Cause::Unfinished
-        } else {
-            Cause::Cut
-        };
-    }
-    if l.start_end != 0 {
-        Cause::Hidden
-    } else {
-        Cause::Noise
+    match l.start_end {
+        8 => {
+            if at_end {
+                Cause::Unfinished
+            } else {
+                Cause::Cut
+            }
+        }
+        0 => Cause::Noise,
+        _ => Cause::Hidden,
     }
 }
 
@@ -168,34 +155,28 @@ fn dropped_for(at_end: bool, l: Look) -> Cause
 fn wrong_pads(long: usize, p: u8) -> bool
     ensures { result ≡ wrong_pads long p }
 {
-    if 3 < p {
-        return true;
-    }
-    long < p as usize + 16
+    3 < p || long < p as usize + 16
 }
 
-// Why a piece of so many bytes was lost. An answer that is no refusal has no cause.
-fn cause_of(at_end: bool, l: Look, long: usize, e: Event) -> Cause
-    ensures { result ≡ cause_of at_end (eqb l.start_end 8) (not (eqb l.start_end 0)) long (answer_of e []) }
+// Why a piece of so many bytes was lost.
+#[tactic(auto, unfolding(crate::specs::Loss::cause_of))]
+fn cause_of(at_end: bool, l: Look, long: usize, e: DecodeErr) -> Cause
+    ensures { result ≡ cause_of at_end (eqb l.start_end 8) (not (eqb l.start_end 0)) long (answer_err e) }
 {
     match e {
-        Event::Nothing => Cause::Noise,
-        Event::Payload => Cause::Noise,
-        Event::DiscardedBytes(_) => dropped_for(at_end, l),
-        Event::InvalidEsc(_, _, _, _) => Cause::UnknownEscape,
-        Event::OutOfMemory => Cause::NoRoom,
-        Event::InvalidMessage {
+        DecodeErr::DiscardedBytes(_) => dropped_for(at_end, l),
+        DecodeErr::InvalidEsc(_, _, _, _) => Cause::UnknownEscape,
+        DecodeErr::InvalidMessage {
             read_crc,
             calculated_crc,
             misaligned,
             num_padding_bytes,
         } => Cause::Invalid {
             wrong_crc: read_crc != calculated_crc,
-            misaligned: misaligned,
+            misaligned,
             wrong_pads: wrong_pads(long, num_padding_bytes),
         },
-        Event::BadState => Cause::NoRoom,
-        Event::WrongBuffer => Cause::NoRoom,
+        DecodeErr::OutOfMemory | DecodeErr::BadState | DecodeErr::WrongBuffer => Cause::NoRoom,
     }
 }
 
@@ -205,100 +186,38 @@ fn loss_over(cause: Cause, begun: usize, long: usize) -> Loss
     ensures { result ≡ loss_over cause begun long }
 {
     Loss {
-        cause: cause,
+        cause,
         first: begun + 1,
         last: begun + long,
     }
 }
 
 // The counts can't be, or n bytes more could not be counted.
+#[tactic(auto, unfolding(crate::specs::Watch::bad_watch))]
 fn bad_watch(w: Watch, n: usize) -> bool
     ensures { result ≡ bad_watch w n }
 {
-    if w.pushed < w.begun {
-        return true;
-    }
-    let most = 18_446_744_073_709_551_614;
-    if most < n {
-        return true;
-    }
-    most - n < w.pushed
-}
-
-// No event.
-fn says_nothing(e: Event) -> bool
-    ensures { result ≡ says_nothing (answer_of e []) }
-{
-    match e {
-        Event::Nothing => true,
-        Event::Payload => false,
-        Event::DiscardedBytes(_) => false,
-        Event::InvalidEsc(_, _, _, _) => false,
-        Event::OutOfMemory => false,
-        Event::InvalidMessage {
-            read_crc: _,
-            calculated_crc: _,
-            misaligned: _,
-            num_padding_bytes: _,
-        } => false,
-        Event::BadState => false,
-        Event::WrongBuffer => false,
-    }
-}
-
-// A payload stands in the buffer.
-fn hands_out(e: Event) -> bool
-    ensures { result ≡ hands_out (answer_of e []) }
-{
-    match e {
-        Event::Nothing => false,
-        Event::Payload => true,
-        Event::DiscardedBytes(_) => false,
-        Event::InvalidEsc(_, _, _, _) => false,
-        Event::OutOfMemory => false,
-        Event::InvalidMessage {
-            read_crc: _,
-            calculated_crc: _,
-            misaligned: _,
-            num_padding_bytes: _,
-        } => false,
-        Event::BadState => false,
-        Event::WrongBuffer => false,
-    }
+    w.pushed < w.begun || w.pushed.saturating_add(n) == usize::MAX
 }
 
 // A new start was found: its eight bytes have begun.
 fn found_start(e: Event) -> bool
     ensures { result ≡ found_start (answer_of e []) }
 {
-    match e {
-        Event::Nothing => false,
-        Event::Payload => false,
-        Event::DiscardedBytes(_) => true,
-        Event::InvalidEsc(_, _, _, _) => false,
-        Event::OutOfMemory => false,
-        Event::InvalidMessage {
-            read_crc: _,
-            calculated_crc: _,
-            misaligned: _,
-            num_padding_bytes: _,
-        } => false,
-        Event::BadState => false,
-        Event::WrongBuffer => false,
-    }
+    matches!(e, Err(DecodeErr::DiscardedBytes(_)))
 }
 
 // The bytes that are over with an event, of so many since the search or frame began: all but the eight of a new start.
 fn over_of(e: Event, long: usize) -> usize
     ensures { result ≡ over_of (answer_of e []) long }
 {
-    if says_nothing(e) {
-        return 0;
+    if matches!(e, Ok(false)) {
+        0
+    } else if found_start(e) {
+        long.saturating_sub(8)
+    } else {
+        long
     }
-    if !found_start(e) {
-        return long;
-    }
-    if long < 8 { 0 } else { long - 8 }
 }
 
 // How the bytes look that have begun behind an event.
@@ -315,146 +234,151 @@ fn look_behind(e: Event) -> Look
 }
 
 // What an event is seen as, of a piece or frame of so many bytes.
-fn sight_of(e: Event, l: Look, begun: usize, long: usize) -> Seen
+fn sight_of(e: Event, l: Look, begun: usize, long: usize) -> Option<Seen>
     requires { suc begun + long < 2 ^ 64 }
-    ensures { seen_as result ≡ sight_of (answer_of e []) l begun long }
+    ensures { seen_as (Ok result) ≡ sight_of (answer_of e []) l begun long }
 {
-    if says_nothing(e) {
-        return Seen::Nothing;
-    }
-    if hands_out(e) {
-        return Seen::Kept {
+    match e {
+        Ok(false) => None,
+        Ok(true) => Some(Seen::Kept {
             first: begun + 1,
             last: begun + long,
-        };
+        }),
+        Err(e) => {
+            let cause = cause_of(false, l, long, e);
+            Some(Seen::Lost(loss_over(cause, begun, long)))
+        }
     }
-    Seen::Lost(loss_over(cause_of(false, l, long, e), begun, long))
 }
 
 // The watch behind a slice of which so many bytes were taken.
+#[tactic(auto, unfolding(crate::specs::Cut::watched_of), using(crate::proofs::Taken::over_most))]
 fn watched_of(w: Watch, chunk: &[u8], s: Sliced) -> Watched
     requires { (w.begun ≤ w.pushed) × (w.pushed + s.taken < 2 ^ 64 - 1) × (s.taken ≤ length chunk.now) × (says_nothing (answer_of s.event []) ≡ false → 1 ≤ s.taken) }
     ensures { (m : List ℕ) → after_watch result m ≡ watched_of w chunk.now (took (answer_of s.event []) s.decoder s.taken m) }
 {
     let n = w.pushed - w.begun;
     let taken = s.taken;
-    let d = s.decoder;
-    let e = s.event;
-    let l = w.look;
-    if says_nothing(e) {
-        let on = look_over(l, n, &chunk[..taken]);
+    let pushed = w.pushed + taken;
+    if matches!(s.event, Ok(false)) {
         return Watched {
-            watch: watch_of(d, w.pushed + taken, w.begun, on),
-            seen: Seen::Nothing,
-            taken: taken,
+            watch: Watch {
+                decoder: s.decoder,
+                pushed,
+                begun: w.begun,
+                look: look_over(w.look, n, &chunk[..taken]),
+            },
+            seen: Ok(None),
+            taken,
         };
     }
-    let before = look_over(l, n, &chunk[..taken - 1]);
-    let over = over_of(e, n + taken);
+    let before = look_over(w.look, n, &chunk[..taken - 1]);
+    let over = over_of(s.event, n + taken);
     Watched {
-        watch: watch_of(d, w.pushed + taken, w.begun + over, look_behind(e)),
-        seen: sight_of(e, before, w.begun, over),
-        taken: taken,
+        watch: Watch {
+            decoder: s.decoder,
+            pushed,
+            begun: w.begun + over,
+            look: look_behind(s.event),
+        },
+        seen: Ok(sight_of(s.event, before, w.begun, over)),
+        taken,
     }
 }
 
 // A slice that was refused.
-fn refused(w: Watch, seen: Seen) -> Watched
-    ensures { result ≡ record { watch = w; seen = seen; taken = 0 } }
+fn refused(w: Watch, e: LossError) -> Watched
+    ensures { result ≡ record { watch = w; seen = Err e; taken = 0 } }
 {
     Watched {
         watch: w,
-        seen: seen,
+        seen: Err(e),
         taken: 0,
     }
 }
 
 // Pushes bytes up to and with the first that brings a payload or a loss. The checks come first, and a refused slice takes no byte.
+#[tactic(auto, using(crate::proofs::Taken::slice_bad_watch, crate::proofs::Taken::slice_bad_decoder, crate::proofs::Taken::slice_wrong_buffer, crate::proofs::Taken::slice_needs, crate::proofs::Taken::slice_watched))]
 pub fn watch_slice(w: Watch, buf: &mut [u8], chunk: &[u8]) -> Watched
     ensures { after_watch result buf.new ≡ watch_slice w buf.old chunk.now }
 {
-    let d = w.decoder;
-    if bad_watch(w, chunk.len()) {
-        return refused(w, Seen::BadState);
+    if bad_watch(w, chunk.len()) || decoder::bad_decoder(w.decoder) {
+        return refused(w, LossError::BadState);
     }
-    if decoder::bad_decoder(d) {
-        return refused(w, Seen::BadState);
+    if decoder::wrong_buffer(w.decoder.capacity, buf.len()) {
+        return refused(w, LossError::WrongBuffer);
     }
-    if decoder::wrong_buffer(d.capacity, buf.len()) {
-        return refused(w, Seen::WrongBuffer);
-    }
-    let s = decoder_slice::push_slice(d, buf, chunk);
+    let s = decoder_slice::push_slice(w.decoder, buf, chunk);
     watched_of(w, chunk, s)
 }
 
-// What finalize's event, which is no payload, is told as.
-fn told_at_end(w: Watch, e: Event) -> Told
-    requires { (w.begun ≤ w.pushed) × (w.pushed < 2 ^ 64 - 1) × (hands_out (answer_of e []) ≡ false) }
-    ensures { loss_told result ≡ said_at_end w (answer_of e []) }
+// What finalize's event is told as.
+fn told_at_end(w: Watch, e: Event) -> Option<Loss>
+    requires { (w.begun ≤ w.pushed) × (w.pushed < 2 ^ 64 - 1) }
+    ensures { loss_told (Ok result) ≡ said_at_end w (answer_of e []) }
 {
-    if says_nothing(e) {
-        return Told::Whole;
-    }
-    let l = w.look;
+    let Err(e) = e else {
+        return None;
+    };
     let long = w.pushed - w.begun;
-    Told::Lost(loss_over(cause_of(true, l, long, e), w.begun, long))
+    Some(loss_over(cause_of(true, w.look, long, e), w.begun, long))
 }
 
 // The recording ends: what is left is lost.
+#[tactic(auto, unfolding(crate::specs::Watch::watch_end), using(crate::proofs::Events::good_watch))]
 pub fn watch_end(w: Watch) -> WatchEnded
     ensures { after_end result ≡ watch_end w }
 {
-    let d = w.decoder;
-    if bad_watch(w, 0) {
+    if bad_watch(w, 0) || decoder::bad_decoder(w.decoder) {
         return WatchEnded {
             watch: w,
-            told: Told::BadState,
+            told: Err(LossError::BadState),
         };
     }
-    if decoder::bad_decoder(d) {
-        return WatchEnded {
-            watch: w,
-            told: Told::BadState,
-        };
-    }
-    let f = d.finalize();
-    let g = f.decoder;
-    let e = f.event;
+    let f = w.decoder.finalize();
     WatchEnded {
-        watch: watch_of(g, w.pushed, w.pushed, NO_LOOK),
-        told: told_at_end(w, e),
+        watch: Watch {
+            decoder: f.decoder,
+            pushed: w.pushed,
+            begun: w.pushed,
+            look: NO_LOOK,
+        },
+        told: Ok(told_at_end(w, f.event)),
     }
 }
 
-// What is lost next behind the recording's first `from` bytes. The first call has 0, each later one the last byte of the loss before.
-pub fn next_loss(recording: &[u8], way: u8, buf: &mut [u8], from: usize) -> Told
+// What is lost next behind the recording's first `from` bytes; `Ok(None)`: nothing more is. The first call has 0, each later one the last byte of the loss before.
+#[tactic(auto, using(crate::proofs::Calls::loss_bad, crate::proofs::Calls::loss_wrong, crate::proofs::Calls::loss_past))]
+pub fn next_loss(
+    recording: &[u8],
+    way: u8,
+    buf: &mut [u8],
+    from: usize,
+) -> Result<Option<Loss>, LossError>
     ensures { loss_after (loss_told result) buf.new ≡ next_loss recording.now way buf.old from }
 {
     let capacity = buf.len();
     if decoder::bad_decoder(Decoder::with_way(capacity, way)) {
-        return Told::BadState;
+        return Err(LossError::BadState);
     }
     if decoder::wrong_buffer(capacity, capacity) {
-        return Told::WrongBuffer;
+        return Err(LossError::WrongBuffer);
     }
     if recording.len() <= from {
-        return Told::Whole;
+        return Ok(None);
     }
     let mut w = watch_from(capacity, way, from);
     let mut at = from;
+    // No `for`: a slice says itself how many bytes it took.
     while at < recording.len() {
         let r = watch_slice(w, buf, &recording[at..]);
         w = r.watch;
         at += r.taken;
-        let seen = r.seen;
-        match seen {
-            Seen::Nothing => {}
-            Seen::Kept { first: _, last: _ } => {}
-            Seen::Lost(l) => return Told::Lost(l),
-            Seen::BadState => return Told::BadState,
-            Seen::WrongBuffer => return Told::WrongBuffer,
+        match r.seen? {
+            Some(Seen::Lost(l)) => return Ok(Some(l)),
+            Some(Seen::Kept { .. }) => {}
+            None => {}
         }
     }
-    let e = watch_end(w);
-    e.told
+    watch_end(w).told
 }

@@ -33,7 +33,7 @@ reader_calls s at start pending (suc k) =
     reader_calls s n.place n.start n.pending k
 
 parser_calls : (i : Bor (List ℕ)) (at start pending k : ℕ)
-    → says_at our_parser i (record { input = i; place = at; start = start; pending = pending }) k ≡ call k i.now at start pending
+    → says_at our_parser i (record { input = i; reader = record { place = at; start = start; pending = pending } }) k ≡ call k i.now at start pending
 unfolding says_at call
 parser_calls i at start pending zero = refl
 parser_calls i at start pending (suc k) =

@@ -24,7 +24,7 @@ pub record Reader (I S : Type 0) : Type 0 where
 
 -- ---- ours
 
--- the three numbers that parse_next is called with: the place in the input, where the message there began, and what of it is pending
+-- the three numbers that Reader::parse_next is called with: the place in the input, where the message there began, and what of it is pending
 pub record Numbers : Type 0 where
   pub place : ℕ
   pub start : ℕ
@@ -34,7 +34,7 @@ pub record Numbers : Type 0 where
 abbrev pub told : ReaderAfter → Told Numbers
 told a = record { said = a.answer; reader = record { place = a.place; start = a.start; pending = a.pending } }
 
--- by the definition that the contracts of parse_next and next_from cite: the first call has 0, 0, 0, each later one the numbers that the one before gave
+-- by the definition that the contracts of Reader::parse_next and next_from cite: the first call has 0, 0, 0, each later one the numbers that the one before gave
 abbrev pub our_reader : Reader (List ℕ) Numbers
 our_reader =
     record {
@@ -71,7 +71,7 @@ abbrev pub reader_with : List ℕ → Numbers → Numbers
 reader_with s n = n
 
 abbrev pub parser_with : Bor (List ℕ) → Numbers → Parser
-parser_with i n = record { input = i; place = n.place; start = n.start; pending = n.pending }
+parser_with i n = record { input = i; reader = record { place = n.place; start = n.start; pending = n.pending } }
 
 -- the calls from k on say n entries and then the end, or a refusal before that
 pub data Follows (says : ℕ → Said) : ℕ → ℕ → Type 0 where

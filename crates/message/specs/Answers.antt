@@ -1,6 +1,4 @@
 -- view: what each answer says, field for field.
-use Rattle.refusals.specs.Read.{Read, got, refused}
-use Rattle.refusals.specs.Answers.{fault_of}
 use Rattle.refusals.specs.declared.Span.{Span}
 use Rattle.octet_string.specs.Answers.{opt_span}
 use Rattle.value.specs.Answers.{opt_time}
@@ -11,14 +9,6 @@ use Rattle.message.specs.declared.GetListResponseEnd.{GetListResponseEnd}
 use Rattle.message.specs.declared.MessageBody.{MessageBody}
 use Rattle.message.specs.declared.MessageBody.TheVariants as BodyC
 use Rattle.message.specs.declared.MessageStart as Starts
-use Rattle.message.specs.declared.ListStartRead.{ListStartRead}
-use Rattle.message.specs.declared.ListStartRead.TheVariants as ListStartR
-use Rattle.message.specs.declared.ListEndRead.{ListEndRead}
-use Rattle.message.specs.declared.ListEndRead.TheVariants as ListEndR
-use Rattle.message.specs.declared.BodyRead.{BodyRead}
-use Rattle.message.specs.declared.BodyRead.TheVariants as BodyR
-use Rattle.message.specs.declared.StartRead.{StartRead}
-use Rattle.message.specs.declared.StartRead.TheVariants as StartR
 
 abbrev pub list_start : GetListResponseStart → ListStart Span
 list_start x =
@@ -30,25 +20,13 @@ list_start x =
       num_vals = x.num_vals;
     }
 
-abbrev pub list_start_read : ListStartRead → Read (ListStart Span)
-list_start_read (ListStartR.Is response next) = got (list_start response) next
-list_start_read (ListStartR.Refused f) = refused (fault_of f)
-
 abbrev pub list_end : GetListResponseEnd → ListEnd Span
 list_end x = record { list_signature = opt_span x.list_signature; act_gateway_time = opt_time x.act_gateway_time }
-
-abbrev pub list_end_read : ListEndRead → Read (ListEnd Span)
-list_end_read (ListEndR.Is response next) = got (list_end response) next
-list_end_read (ListEndR.Refused f) = refused (fault_of f)
 
 abbrev pub message_body : MessageBody → Body Span
 message_body (BodyC.OpenResponse x) = open_body (open_response x)
 message_body (BodyC.CloseResponse x) = close_body (close_response x)
 message_body (BodyC.GetListResponse x) = list_body (list_start x)
-
-abbrev pub body_read : BodyRead → Read (Body Span)
-body_read (BodyR.Is body next) = got (message_body body) next
-body_read (BodyR.Refused f) = refused (fault_of f)
 
 abbrev pub message_start : Starts.MessageStart → MessageStart Span
 message_start x =
@@ -58,7 +36,3 @@ message_start x =
       abort_on_error = x.abort_on_error;
       message_body = message_body x.message_body;
     }
-
-abbrev pub start_read : StartRead → Read (MessageStart Span)
-start_read (StartR.Is message next) = got (message_start message) next
-start_read (StartR.Refused f) = refused (fault_of f)

@@ -1,4 +1,3 @@
 pub mod Messages
-pub mod Cut
 pub mod Answers
 pub mod Decided

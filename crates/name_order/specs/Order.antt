@@ -1,7 +1,7 @@
 -- rule: the order of names, by document 02's Q-6.
 use Rattle.std.specs.Prelude.{ℕ, List, [], ◌∷◌, Bool, true, false, cond, ltb, eqb}
-use Rattle.name_order.specs.declared.Ordering.{Ordering}
-use Rattle.name_order.specs.declared.Ordering.TheVariants.{Less, Equal, Greater}
+use Rattle.std.specs.declared.cmp.Ordering.{Ordering}
+use Rattle.std.specs.declared.cmp.Ordering.TheVariants.{Less, Equal, Greater}
 
 -- byte by byte; a beginning comes before the longer one
 unfoldable pub lower : List ℕ → List ℕ → Bool

@@ -4,34 +4,16 @@
 ghost use Rattle.std.specs.Prelude.{◌≡◌};
 ghost use Rattle.name_order.specs.Order.{compared};
 
-// As Rust's own: the first name is less, equal or greater.
-#[derive(Clone, Copy)]
-pub enum Ordering {
-    Less,
-    Equal,
-    Greater,
-}
+use std::cmp::Ordering;
 
-// Byte by byte, unsigned; a beginning is less than the longer one.
+// Byte by byte, unsigned; a beginning is less than the longer one. Tried: `x.cmp(y)`, by which sorting 2,000 rows took a quarter more instructions, since names are short.
 pub fn compare(x: &[u8], y: &[u8]) -> Ordering
     ensures { result ≡ compared x.now y.now }
 {
-    let mut i = 0;
-    while i < x.len() {
-        if y.len() <= i {
-            return Ordering::Greater;
+    for i in 0..x.len().min(y.len()) {
+        if x[i] != y[i] {
+            return x[i].cmp(&y[i]);
         }
-        if x[i] < y[i] {
-            return Ordering::Less;
-        }
-        if y[i] < x[i] {
-            return Ordering::Greater;
-        }
-        i += 1;
     }
-    if i < y.len() {
-        Ordering::Less
-    } else {
-        Ordering::Equal
-    }
+    x.len().cmp(&y.len())
 }

@@ -13,8 +13,8 @@ use lib.Signed.{mag}
 use lib.IntN.{ℤ, pos, negsuc, ◌-ℤ◌}
 use mir.Syntax.{Width, w8, w64}
 use mir.Val.{to_z, of_z, Fits, SFits}
-use mir.ValLaws.{to_z-of_z}
-use borrow.Author.Tests.{leb-true, ltb-true, ltb-false}
+use mir.ValLaws.{to_z_pos, to_z-neg, to_z-of_z}
+use borrow.Author.Tests.{leb-true, ltb-true, ltb-false, lt-ltb, le-ltb}
 use Rattle.refusals.specs.Read.{got, then, span_at}
 use Rattle.refusals.specs.declared.Span.{Span}
 use Rattle.refusals.proofs.Read.{Ok, ok_at, ok_got, ok_then, ok_guard, Ahead, byte_ok, span_ok, and_left, and_right}
@@ -36,6 +36,9 @@ number_snoc high b (x ∷ xs) = number_snoc (high * 256 + x) b xs
 pub number_next : (s : List ℕ) (at i : ℕ) → i < length (drop at s)
     → number 0 (take (i + 1) (drop at s)) ≡ number 0 (take i (drop at s)) * 256 + get_or s (at + i) 0
 number_next s at i h = rw (add-one, take-suc (drop at s) i 0 h, number_snoc, get_or-drop)
+
+pub number_on : (s : List ℕ) (i : ℕ) → i < length s → number 0 (take (i + 1) s) ≡ number 0 (take i s) * 256 + get_or s i 0
+number_on s i h = rw (add-one, take-suc s i 0 h, number_snoc)
 
 -- every element is a byte
 abbrev pub Bytes : List ℕ → Type 0
@@ -145,3 +148,15 @@ bool_ok s at =
 pub bytes_gets : (x : List ℕ) (n : ℕ) {s : List ℕ} {p : ℕ} (l : List ℕ) → length x ≡ n → Rest s p (x ++ l) → Gets (λ (v : ℕ). v ≡ number 0 x) s l (bytes_at_claim s p n)
 unfolding bytes_at_claim
 bytes_gets x n l e h = gets_then _ _ (span_gets x n l e h) (λ a m q k. gets_got (rw q) k)
+
+-- one byte's bits, read as a signed number
+one_at : (b : ℕ) (t : Bool) → ltb b 128 ≡ t → b < 256 → to_z w8 b ≡ signed_of 1 b
+unfolding signed_of
+one_at b true e h = rw (to_z_pos w8 b (ltb-true b 128 e), lt-ltb (2 * b) 256 (omega (arith, ltb-true b 128 e)))
+one_at b false e h =
+    let k : 128 ≤ b = ltb-false b 128 e in
+    let z : 256 - suc (255 - b) ≡ b = omega arith in
+    rw (le-ltb (2 * b) 256 (omega arith)) (rw z at (to_z-neg w8 (255 - b) (omega arith)))
+
+pub one_signed : (b : ℕ) → b < 256 → to_z w8 b ≡ signed_of 1 b
+one_signed b h = one_at b (ltb b 128) refl h

@@ -1,156 +1,152 @@
-// Ports parser/num.rs: eight widths and bool. `impl_num!` becomes eight thin functions over `parse_num`.
+// Ports parser/num.rs, eight widths and bool, and SmlParse of parser/mod.rs with its Option. `impl_num!` becomes an impl a width over `parse_num`: an impl that a macro writes would not be proved.
 #![tactic(auto)]
 
-ghost use Rattle.std.specs.Prelude.{true, cond, ◌&&◌, ◌≡◌, ◌+◌, ◌*◌, ◌-◌, ◌^◌, ◌≤◌, ◌<◌, eqb, length, get_or, take, drop};
+ghost use Rattle.std.specs.Prelude.{cond, ◌&&◌, ◌≡◌, ◌+◌, ◌*◌, ◌-◌, ◌^◌, ◌≤◌, ◌<◌, true, eqb, length, get_or, Bool, ℕ, ℤ, List, IfSome};
+ghost use Rattle.std.proofs.Math.Option.{Option};
+ghost use Rattle.refusals.specs.Read.{Read};
+ghost use Rattle.refusals.specs.Answers.{as_it_is, opt_of, reads_as};
+ghost use Rattle.refusals.specs.declared.Span.{Span};
+ghost use Rattle.octet_string.specs.Optional.{optional};
+ghost use Rattle.octet_string.specs.Strings.{octets_at};
 ghost use Rattle.tlf.specs.Lengths.{is_boolean};
-ghost use Rattle.numbers.specs.Numbers.{number, bytes_at_claim, is_number, fits_width, raw_from, raw_at, unsigned_at, signed_of, signed_at, bool_from, bool_at};
-ghost use Rattle.numbers.specs.Answers.{raw_read, u8_read, u16_read, u32_read, u64_read, i8_read, i16_read, i32_read, i64_read, bool_read};
+ghost use Rattle.numbers.specs.Numbers.{number, is_number, fits_width, raw_from, raw_at, unsigned_at, signed_of, signed_at, bool_from, bool_at};
+ghost use Rattle.numbers.specs.Answers.{raw};
 
-use refusals::{ByteRead, Fault, ParseError, SpanRead};
-use tlf::{TlfRead, Ty, TypeLengthField};
+use refusals::{ParseError, ResTy, Span};
+use tlf::{Ty, TypeLengthField};
+
+// SmlParse of parser/mod.rs: what can be read at any place of any input. It stands here since the impls of numbers do: an impl stands with its trait or its type.
+pub trait SmlParse: Copy {
+    // What a value says in document 01's words, and the rule that it is read by.
+    ghost Meaning: { Type 0 };
+
+    ghost means: { Self → Meaning };
+
+    ghost read_at: { List ℕ → ℕ → Read Meaning };
+
+    // The value that stands at `at`.
+    fn parse(input: &[u8], at: usize) -> ResTy<Self>
+        ensures { reads_as means result ≡ read_at input.now at };
+}
+
+// Option of parser/mod.rs: absent is the one byte 01.
+impl<T: SmlParse> SmlParse for Option<T> {
+    ghost Meaning = { Option T.Meaning };
+
+    ghost means = { opt_of T.means };
+
+    ghost read_at = { optional T.read_at };
+
+    // A field that is there is read as its own type is.
+    #[tactic(auto, unfolding(octet_string::specs::Optional::optional, octet_string::specs::Optional::absent_at, refusals::specs::Read::then))]
+    fn parse(input: &[u8], at: usize) -> ResTy<Option<T>> {
+        if octet_string::is_absent(input, at) {
+            return Ok((None, at + 1));
+        }
+        let (value, next) = T::parse(input, at)?;
+        Ok((Some(value), next))
+    }
+}
+
+// A string is an octet string wherever a string is read.
+impl SmlParse for Span {
+    ghost Meaning = { Span };
+
+    ghost means = { as_it_is };
+
+    ghost read_at = { octets_at };
+
+    // OctetStr of octet_string.rs.
+    fn parse(input: &[u8], at: usize) -> ResTy<Span> {
+        octet_string::parse_octet_str(input, at)
+    }
+}
 
 // The bytes of a number: how many, and the number that they are.
 #[derive(Clone, Copy)]
-enum RawRead {
-    Is { len: u32, value: u64, next: usize },
-    Refused(Fault),
+struct RawNum {
+    len: u32,
+    value: u64,
 }
 
-// A byte as a number of 64 bits: as a call, the index alone has to be proved.
-fn wide(x: u8) -> u64
-    ensures { result ≡ x }
-{
-    x as u64
-}
-
-// from_be_bytes of the Rust: the number of the `n` bytes from `at` on, high byte first.
-fn from_be_bytes(input: &[u8], at: usize, n: usize) -> u64
-    requires { (n ≤ 8) × (at + n ≤ length input.now) }
-    ensures { result ≡ number 0 (take n (drop at input.now)) }
+// from_be_bytes of the Rust: the number that the bytes are, high byte first. That they are at most eight, and `SIZE` too, stands in the clauses: no type of a const parameter can say it.
+fn from_be_bytes(bytes: &[u8]) -> u64
+    requires { length bytes.now ≤ 8 }
+    ensures { result ≡ number 0 bytes.now }
 {
     let mut value: u64 = 0;
-    let mut i = 0;
-    while i < n {
-        value = value * 256 + wide(input[at + i]);
-        i += 1;
+    for b in bytes {
+        value = value * 256 + *b as u64;
     }
     value
 }
 
-// The first test of check_tlf: Integer where the number is signed, else Unsigned.
-fn is_number(signed: bool, ty: Ty) -> bool
-    ensures { result ≡ is_number signed ty }
-{
-    match ty {
-        Ty::OctetString => false,
-        Ty::Boolean => false,
-        Ty::Integer => signed,
-        Ty::Unsigned => !signed,
-        Ty::ListOf => false,
-    }
-}
-
 // check_tlf of impl_num: the type, at least one byte and at most as many as the number has.
-fn check_tlf(tlf: TypeLengthField, signed: bool, size: u32) -> bool
-    ensures { result ≡ fits_width signed size tlf }
+fn check_tlf<const SIZE: u32, const IS_SIGNED: bool>(tlf: TypeLengthField) -> bool
+    ensures { result ≡ fits_width IS_SIGNED SIZE tlf }
 {
-    let ty = tlf.ty;
-    let len = tlf.len;
-    if is_number(signed, ty) {
-        if 1 <= len { len <= size } else { false }
-    } else {
-        false
-    }
+    let ty = if IS_SIGNED { Ty::Integer } else { Ty::Unsigned };
+    tlf.ty == ty && 1 <= tlf.len && tlf.len <= SIZE
 }
 
 // parse_with_tlf of the Rust, before the sign.
-fn take_num(input: &[u8], at: usize, len: u32) -> RawRead
+#[tactic(auto, unfolding(crate::specs::Numbers::raw_from, crate::specs::Numbers::bytes_at_claim, refusals::specs::Read::then))]
+fn take_num(input: &[u8], at: usize, len: u32) -> ResTy<RawNum>
     requires { len ≤ 8 }
-    ensures { raw_read result ≡ raw_from input.now at len }
+    ensures { reads_as raw result ≡ raw_from input.now at len }
 {
-    let n = len as usize;
-    match refusals::take_n(input, at, n) {
-        SpanRead::Is { span: _, next } => RawRead::Is {
-            len,
-            value: from_be_bytes(input, at, n),
-            next,
-        },
-        SpanRead::Refused(f) => RawRead::Refused(f),
-    }
+    let (_, next) = refusals::take_n(input, at, len as usize)?;
+    let value = from_be_bytes(&input[at..next]);
+    Ok((RawNum { len, value }, next))
 }
 
-// What one length byte adds to the number of bytes: 51 for a signed number, 61 for an unsigned one.
-fn short_head(signed: bool) -> u32
-    ensures { result ≡ cond signed 0x51 0x61 }
-{
-    if signed { 0x51 } else { 0x61 }
-}
-
-// The bytes of a number that has one length byte and stands within the input; 0 for any other.
-fn short_len(input: &[u8], at: usize, signed: bool, size: u32) -> u32
-    ensures { 1 ≤ result → (at + 1 + result ≤ length input.now) × (result ≤ size) × (get_or input.now at 0 ≡ cond signed 0x51 0x61 + result) }
+// The bytes of a number that has one length byte and stands within the input; none for any other.
+fn short_len<const SIZE: u32, const IS_SIGNED: bool>(input: &[u8], at: usize) -> Option<u32>
+    ensures { IfSome result (λ len. (1 ≤ len) × (at + 1 + len ≤ length input.now) × (len ≤ SIZE) × (get_or input.now at 0 ≡ cond IS_SIGNED 0x51 0x61 + len)) }
 {
     if input.len() <= at {
-        return 0;
+        return None;
     }
-    let b = input[at] as u32;
-    let head = short_head(signed);
-    if b <= head {
-        return 0;
+    let head: u8 = if IS_SIGNED { 0x51 } else { 0x61 };
+    let len = input.get(at)?.checked_sub(head)? as u32;
+    if len == 0 || SIZE < len || input.len() - at - 1 < len as usize {
+        return None;
     }
-    let len = b - head;
-    if size < len {
-        return 0;
-    }
-    if input.len() - at - 1 < len as usize {
-        return 0;
-    }
-    len
+    Some(len)
 }
 
 // A number behind any length field.
-fn parse_any(input: &[u8], at: usize, signed: bool, size: u32) -> RawRead
-    requires { size ≤ 8 }
-    ensures { raw_read result ≡ raw_at signed size input.now at }
+#[tactic(auto, unfolding(crate::specs::Numbers::raw_at, refusals::specs::Read::then, refusals::specs::Read::guard))]
+fn parse_any<const SIZE: u32, const IS_SIGNED: bool>(input: &[u8], at: usize) -> ResTy<RawNum>
+    requires { SIZE ≤ 8 }
+    ensures { reads_as raw result ≡ raw_at IS_SIGNED SIZE input.now at }
 {
-    match TypeLengthField::parse(input, at) {
-        TlfRead::Is { tlf, next } => {
-            if check_tlf(tlf, signed, size) {
-                take_num(input, next, tlf.len)
-            } else {
-                RawRead::Refused(Fault {
-                    error: ParseError::TlfMismatch,
-                    place: at,
-                })
-            }
-        }
-        TlfRead::Refused(f) => RawRead::Refused(f),
+    let (tlf, next) = TypeLengthField::parse(input, at)?;
+    if !check_tlf::<SIZE, IS_SIGNED>(tlf) {
+        return Err(ParseError::TlfMismatch.at(at));
     }
+    take_num(input, next, tlf.len)
 }
 
-// What the eight widths share.
-fn parse_num(input: &[u8], at: usize, signed: bool, size: u32) -> RawRead
-    requires { size ≤ 8 }
-    ensures { raw_read result ≡ raw_at signed size input.now at }
+// parse_num of num.rs, before the sign.
+fn parse_num<const SIZE: u32, const IS_SIGNED: bool>(input: &[u8], at: usize) -> ResTy<RawNum>
+    requires { SIZE ≤ 8 }
+    ensures { reads_as raw result ≡ raw_at IS_SIGNED SIZE input.now at }
 {
-    let len = short_len(input, at, signed, size);
-    if 1 <= len {
-        let n = len as usize;
-        return RawRead::Is {
-            len,
-            value: from_be_bytes(input, at + 1, n),
-            next: at + 1 + n,
-        };
+    if let Some(len) = short_len::<SIZE, IS_SIGNED>(input, at) {
+        let next = at + 1 + len as usize;
+        let value = from_be_bytes(&input[at + 1..next]);
+        return Ok((RawNum { len, value }, next));
     }
-    parse_any(input, at, signed, size)
+    parse_any::<SIZE, IS_SIGNED>(input, at)
 }
 
-// The signed number whose `len` bytes are the number `value`: the upper half is negative.
+// The signed number whose `len` bytes are the number `value`: the upper half is negative. A sum, as the rule has it: shifts up and down would say the same less plainly.
 fn carry_sign(len: u32, value: u64) -> i64
     requires { (1 ≤ len) × (len ≤ 8) × (value < 256 ^ len) }
     ensures { result ≡ signed_of len value }
 {
-    let ones = 0xffff_ffff_ffff_ffff >> (64 - 8 * len);
+    let ones = u64::MAX >> (64 - 8 * len);
     if value <= ones / 2 {
         value as i64
     } else {
@@ -158,254 +154,179 @@ fn carry_sign(len: u32, value: u64) -> i64
     }
 }
 
-#[derive(Clone, Copy)]
-pub enum U64Read {
-    Is { value: u64, next: usize },
-    Refused(Fault),
-}
-
 // parse_num of num.rs, without a sign: the bytes missing in front are zero.
-fn parse_unsigned(input: &[u8], at: usize, size: u32) -> U64Read
-    requires { size ≤ 8 }
-    ensures { u64_read result ≡ unsigned_at size input.now at }
+#[tactic(auto, unfolding(crate::specs::Numbers::unsigned_at, refusals::specs::Read::then))]
+fn parse_unsigned<const SIZE: u32>(input: &[u8], at: usize) -> ResTy<u64>
+    requires { SIZE ≤ 8 }
+    ensures { reads_as as_it_is result ≡ unsigned_at SIZE input.now at }
 {
-    match parse_num(input, at, false, size) {
-        RawRead::Is {
-            len: _,
-            value,
-            next,
-        } => U64Read::Is { value, next },
-        RawRead::Refused(f) => U64Read::Refused(f),
-    }
-}
-
-#[derive(Clone, Copy)]
-pub enum I64Read {
-    Is { value: i64, next: usize },
-    Refused(Fault),
+    let (num, next) = parse_num::<SIZE, false>(input, at)?;
+    Ok((num.value, next))
 }
 
 // parse_num of num.rs, with a sign: the bytes missing in front are those of the sign.
-fn parse_integer(input: &[u8], at: usize, size: u32) -> I64Read
-    requires { size ≤ 8 }
-    ensures { i64_read result ≡ signed_at size input.now at }
+#[tactic(auto, unfolding(crate::specs::Numbers::signed_at, refusals::specs::Read::then))]
+fn parse_integer<const SIZE: u32>(input: &[u8], at: usize) -> ResTy<i64>
+    requires { SIZE ≤ 8 }
+    ensures { reads_as as_it_is result ≡ signed_at SIZE input.now at }
 {
-    match parse_num(input, at, true, size) {
-        RawRead::Is { len, value, next } => I64Read::Is {
-            value: carry_sign(len, value),
-            next,
-        },
-        RawRead::Refused(f) => I64Read::Refused(f),
-    }
+    let (num, next) = parse_num::<SIZE, true>(input, at)?;
+    Ok((carry_sign(num.len, num.value), next))
 }
 
 // Whether a number of one byte stands at `at`, its length byte being `head`.
 fn is_short(input: &[u8], at: usize, head: u8) -> bool
     ensures { result ≡ true → (at + 1 < length input.now) × (get_or input.now at 0 ≡ head) }
 {
-    if input.len() <= at {
-        return false;
-    }
-    if input.len() - at <= 1 {
-        return false;
-    }
-    input[at] == head
+    at < input.len() && 1 < input.len() - at && input[at] == head
 }
 
-#[derive(Clone, Copy)]
-pub enum U8Read {
-    Is { value: u8, next: usize },
-    Refused(Fault),
-}
+impl SmlParse for u8 {
+    ghost Meaning = { ℕ };
 
-// u8 of impl_num. One length byte and one byte is by far the most frequent form, and goes by a short way.
-pub fn parse_u8(input: &[u8], at: usize) -> U8Read
-    ensures { u8_read result ≡ unsigned_at 1 input.now at }
-{
-    if is_short(input, at, 0x62) {
-        return U8Read::Is {
-            value: input[at + 1],
-            next: at + 2,
-        };
-    }
-    match parse_unsigned(input, at, 1) {
-        U64Read::Is { value, next } => U8Read::Is {
-            value: value as u8,
-            next,
-        },
-        U64Read::Refused(f) => U8Read::Refused(f),
+    ghost means = { as_it_is };
+
+    ghost read_at = { unsigned_at 1 };
+
+    // u8 of impl_num. One length byte and one byte is by far the most frequent form, and goes by a short way.
+    fn parse(input: &[u8], at: usize) -> ResTy<u8> {
+        if is_short(input, at, 0x62) {
+            return Ok((input[at + 1], at + 2));
+        }
+        let (value, next) = parse_unsigned::<1>(input, at)?;
+        Ok((value as u8, next))
     }
 }
 
-#[derive(Clone, Copy)]
-pub enum U16Read {
-    Is { value: u16, next: usize },
-    Refused(Fault),
-}
+impl SmlParse for u16 {
+    ghost Meaning = { ℕ };
 
-// u16 of impl_num.
-pub fn parse_u16(input: &[u8], at: usize) -> U16Read
-    ensures { u16_read result ≡ unsigned_at 2 input.now at }
-{
-    match parse_unsigned(input, at, 2) {
-        U64Read::Is { value, next } => U16Read::Is {
-            value: value as u16,
-            next,
-        },
-        U64Read::Refused(f) => U16Read::Refused(f),
+    ghost means = { as_it_is };
+
+    ghost read_at = { unsigned_at 2 };
+
+    // u16 of impl_num.
+    fn parse(input: &[u8], at: usize) -> ResTy<u16> {
+        let (value, next) = parse_unsigned::<2>(input, at)?;
+        Ok((value as u16, next))
     }
 }
 
-#[derive(Clone, Copy)]
-pub enum U32Read {
-    Is { value: u32, next: usize },
-    Refused(Fault),
-}
+impl SmlParse for u32 {
+    ghost Meaning = { ℕ };
 
-// u32 of impl_num.
-pub fn parse_u32(input: &[u8], at: usize) -> U32Read
-    ensures { u32_read result ≡ unsigned_at 4 input.now at }
-{
-    match parse_unsigned(input, at, 4) {
-        U64Read::Is { value, next } => U32Read::Is {
-            value: value as u32,
-            next,
-        },
-        U64Read::Refused(f) => U32Read::Refused(f),
+    ghost means = { as_it_is };
+
+    ghost read_at = { unsigned_at 4 };
+
+    // u32 of impl_num.
+    fn parse(input: &[u8], at: usize) -> ResTy<u32> {
+        let (value, next) = parse_unsigned::<4>(input, at)?;
+        Ok((value as u32, next))
     }
 }
 
-// u64 of impl_num.
-pub fn parse_u64(input: &[u8], at: usize) -> U64Read
-    ensures { u64_read result ≡ unsigned_at 8 input.now at }
-{
-    parse_unsigned(input, at, 8)
-}
+impl SmlParse for u64 {
+    ghost Meaning = { ℕ };
 
-// The signed number that one byte is.
-fn sign_of_byte(b: u8) -> i8
-    ensures { result ≡ signed_of 1 b }
-{
-    if b < 128 {
-        b as i8
-    } else {
-        -1 - (255 - b) as i8
+    ghost means = { as_it_is };
+
+    ghost read_at = { unsigned_at 8 };
+
+    // u64 of impl_num.
+    fn parse(input: &[u8], at: usize) -> ResTy<u64> {
+        parse_unsigned::<8>(input, at)
     }
 }
 
-#[derive(Clone, Copy)]
-pub enum I8Read {
-    Is { value: i8, next: usize },
-    Refused(Fault),
-}
+impl SmlParse for i8 {
+    ghost Meaning = { ℤ };
 
-// i8 of impl_num.
-pub fn parse_i8(input: &[u8], at: usize) -> I8Read
-    ensures { i8_read result ≡ signed_at 1 input.now at }
-{
-    if is_short(input, at, 0x52) {
-        let b = input[at + 1];
-        return I8Read::Is {
-            value: sign_of_byte(b),
-            next: at + 2,
-        };
-    }
-    match parse_integer(input, at, 1) {
-        I64Read::Is { value, next } => I8Read::Is {
-            value: value as i8,
-            next,
-        },
-        I64Read::Refused(f) => I8Read::Refused(f),
+    ghost means = { as_it_is };
+
+    ghost read_at = { signed_at 1 };
+
+    // i8 of impl_num. The same short way.
+    fn parse(input: &[u8], at: usize) -> ResTy<i8> {
+        if is_short(input, at, 0x52) {
+            return Ok((input[at + 1].cast_signed(), at + 2));
+        }
+        let (value, next) = parse_integer::<1>(input, at)?;
+        Ok((value as i8, next))
     }
 }
 
-#[derive(Clone, Copy)]
-pub enum I16Read {
-    Is { value: i16, next: usize },
-    Refused(Fault),
-}
+impl SmlParse for i16 {
+    ghost Meaning = { ℤ };
 
-// i16 of impl_num.
-pub fn parse_i16(input: &[u8], at: usize) -> I16Read
-    ensures { i16_read result ≡ signed_at 2 input.now at }
-{
-    match parse_integer(input, at, 2) {
-        I64Read::Is { value, next } => I16Read::Is {
-            value: value as i16,
-            next,
-        },
-        I64Read::Refused(f) => I16Read::Refused(f),
+    ghost means = { as_it_is };
+
+    ghost read_at = { signed_at 2 };
+
+    // i16 of impl_num.
+    fn parse(input: &[u8], at: usize) -> ResTy<i16> {
+        let (value, next) = parse_integer::<2>(input, at)?;
+        Ok((value as i16, next))
     }
 }
 
-#[derive(Clone, Copy)]
-pub enum I32Read {
-    Is { value: i32, next: usize },
-    Refused(Fault),
-}
+impl SmlParse for i32 {
+    ghost Meaning = { ℤ };
 
-// i32 of impl_num.
-pub fn parse_i32(input: &[u8], at: usize) -> I32Read
-    ensures { i32_read result ≡ signed_at 4 input.now at }
-{
-    match parse_integer(input, at, 4) {
-        I64Read::Is { value, next } => I32Read::Is {
-            value: value as i32,
-            next,
-        },
-        I64Read::Refused(f) => I32Read::Refused(f),
+    ghost means = { as_it_is };
+
+    ghost read_at = { signed_at 4 };
+
+    // i32 of impl_num.
+    fn parse(input: &[u8], at: usize) -> ResTy<i32> {
+        let (value, next) = parse_integer::<4>(input, at)?;
+        Ok((value as i32, next))
     }
 }
 
-// i64 of impl_num.
-pub fn parse_i64(input: &[u8], at: usize) -> I64Read
-    ensures { i64_read result ≡ signed_at 8 input.now at }
-{
-    parse_integer(input, at, 8)
-}
+impl SmlParse for i64 {
+    ghost Meaning = { ℤ };
 
-#[derive(Clone, Copy)]
-pub enum BoolRead {
-    Is { value: bool, next: usize },
-    Refused(Fault),
+    ghost means = { as_it_is };
+
+    ghost read_at = { signed_at 8 };
+
+    // i64 of impl_num.
+    fn parse(input: &[u8], at: usize) -> ResTy<i64> {
+        parse_integer::<8>(input, at)
+    }
 }
 
 // check_tlf of bool: type Boolean, one byte.
 fn is_bool(tlf: TypeLengthField) -> bool
     ensures { result ≡ (is_boolean tlf.ty && eqb tlf.len 1) }
 {
-    let ty = tlf.ty;
-    ty.is_boolean() && tlf.len == 1
+    tlf.ty.is_boolean() && tlf.len == 1
 }
 
 // parse_with_tlf of bool: every byte over 0 is true.
-fn take_bool(input: &[u8], at: usize) -> BoolRead
-    ensures { bool_read result ≡ bool_from input.now at }
+#[tactic(auto, unfolding(crate::specs::Numbers::bool_from, refusals::specs::Read::then))]
+fn take_bool(input: &[u8], at: usize) -> ResTy<bool>
+    ensures { reads_as as_it_is result ≡ bool_from input.now at }
 {
-    match refusals::take_byte(input, at) {
-        ByteRead::Is { byte, next } => BoolRead::Is {
-            value: byte != 0,
-            next,
-        },
-        ByteRead::Refused(f) => BoolRead::Refused(f),
-    }
+    let (b, next) = refusals::take_byte(input, at)?;
+    Ok((b != 0, next))
 }
 
-// bool of num.rs.
-pub fn parse_bool(input: &[u8], at: usize) -> BoolRead
-    ensures { bool_read result ≡ bool_at input.now at }
-{
-    match TypeLengthField::parse(input, at) {
-        TlfRead::Is { tlf, next } => {
-            if is_bool(tlf) {
-                take_bool(input, next)
-            } else {
-                BoolRead::Refused(Fault {
-                    error: ParseError::TlfMismatch,
-                    place: at,
-                })
-            }
+impl SmlParse for bool {
+    ghost Meaning = { Bool };
+
+    ghost means = { as_it_is };
+
+    ghost read_at = { bool_at };
+
+    // bool of num.rs.
+    #[tactic(auto, unfolding(crate::specs::Numbers::bool_at, refusals::specs::Read::then, refusals::specs::Read::guard))]
+    fn parse(input: &[u8], at: usize) -> ResTy<bool> {
+        let (tlf, next) = TypeLengthField::parse(input, at)?;
+        if !is_bool(tlf) {
+            return Err(ParseError::TlfMismatch.at(at));
         }
-        TlfRead::Refused(f) => BoolRead::Refused(f),
+        take_bool(input, next)
     }
 }

@@ -1,6 +1,6 @@
 -- Packing again what bytes say: which of the bytes have to be looked at.
 use mathlib.Core.Path.{◌≡◌, refl, sym, ◌∙◌}
-use mathlib.Core.Bool.{Bool, true, false, cond}
+use mathlib.Core.Bool.{Bool, true, false, cond, false≢true}
 use mathlib.Core.List.{List, ◌∷◌, ◌++◌, append_assoc}
 use Prim.Native.Nat.{ℕ, zero, suc, ◌+◌, ◌*◌, ◌%◌, ◌/◌, ◌<◌, ◌≤◌}
 use native.Mathlib.Omega.{arith}
@@ -38,6 +38,20 @@ low_and_high v g n r small =
     let high : v / 256 ≡ n → ⊥ = λ h. e (omega arith) in
     rw (low, ne_eqb _ _ high, no))
     (λ low. rw (low, no)))
+
+-- all but the last of the tests
+pub record AsPacked (l : List ℕ) (d : Decoder) : Type 0 where
+  pub kind : kind_no d.state ≡ get_or l 0 0
+  pub count : small_count d.state ≡ get_or l 1 0
+  pub third : get_or l 3 0 ≡ 0
+  pub sixth : get_or l 6 0 ≡ 0
+  pub seventh : get_or l 7 0 ≡ 0
+  pub index : used_in d.state d.crc_idx ≡ d.crc_idx
+  pub raw : used_in d.state d.raw_msg_len ≡ d.raw_msg_len
+
+and_both : (a b : Bool) → cond a b false ≡ true → (a ≡ true) × (b ≡ true)
+and_both true b e = (refl, e)
+and_both false b e = absurd (false≢true e)
 
 -- the bytes l, each below 256
 module _ (l : List ℕ) (small : (i : ℕ) → get_or l i 0 < 256) where
@@ -165,26 +179,37 @@ module _ (l : List ℕ) (small : (i : ℕ) → get_or l i 0 < 256) where
       (eq-eqb (get_or l 2 0) (get_or l 2 0) refl, eq-eqb (number_at_claim l 4 2) (number_at_claim l 4 2) refl, eq-eqb (number_at_claim l 8 4) (number_at_claim l 8 4) refl, eq-eqb (number_at_claim l 24 4) (number_at_claim l 24 4) refl, last_test)
 
 -- packing again what bytes say gives these bytes exactly if those that have to be looked at are as they should
-pub packs_again : (l : List ℕ) (small : (i : ℕ) → get_or l i 0 < 256) (d : Decoder) → 28 ≤ length l → d ≡ record_in l
-    → same (packed_in d l) l ≡ as_packed l small d
-packs_again l small d long is = rw is (as_record l small long)
+module _ (l : List ℕ) (small : (i : ℕ) → get_or l i 0 < 256) (d : Decoder) (long : 28 ≤ length l) (is : d ≡ record_in l) where
+  pub packs_again : same (packed_in d l) l ≡ as_packed l small d
+  packs_again = rw is (as_record l small long)
 
--- the five tests of bytes passed, one of the last three decides
-module _ (l : List ℕ) (small : (i : ℕ) → get_or l i 0 < 256) (d : Decoder) (long : 28 ≤ length l) (is : d ≡ record_in l) (kind : kind_no d.state ≡ get_or l 0 0)
-    (count : small_count d.state ≡ get_or l 1 0) (third : get_or l 3 0 ≡ 0) (sixth : get_or l 6 0 ≡ 0) (seventh : get_or l 7 0 ≡ 0) where
-  tests_left : same (packed_in d l) l
-      ≡ cond (eqb (used_in d.state d.crc_idx) d.crc_idx)
-      (cond (eqb (used_in d.state d.raw_msg_len) d.raw_msg_len) (eqb (noise_count d.state) (number_at_claim l 20 4)) false)
-      false
+  pub noise_left : AsPacked l d → eqb (noise_count d.state) (number_at_claim l 20 4) ≡ same (packed_in d l) l
   unfolding as_packed
-  tests_left = packs_again l small d long is ∙ simp (eq-eqb _ _ kind, eq-eqb _ _ count, eq-eqb _ _ (sym third), eq-eqb _ _ (sym sixth), eq-eqb _ _ (sym seventh))
+  noise_left p =
+      sym (packs_again ∙ simp (eq-eqb _ _ p.kind, eq-eqb _ _ p.count, eq-eqb _ _ (sym p.third), eq-eqb _ _ (sym p.sixth), eq-eqb _ _ (sym p.seventh), eq-eqb _ _ p.index, eq-eqb _ _ p.raw))
 
-  pub index_left : (used_in d.state d.crc_idx ≡ d.crc_idx → ⊥) → false ≡ same (packed_in d l) l
-  index_left other = sym (tests_left ∙ simp (ne_eqb _ _ other))
-
-  pub raw_left : used_in d.state d.crc_idx ≡ d.crc_idx → (used_in d.state d.raw_msg_len ≡ d.raw_msg_len → ⊥) → false ≡ same (packed_in d l) l
-  raw_left idx other = sym (tests_left ∙ simp (eq-eqb _ _ idx, ne_eqb _ _ other))
-
-  pub noise_left : used_in d.state d.crc_idx ≡ d.crc_idx → used_in d.state d.raw_msg_len ≡ d.raw_msg_len
-      → eqb (noise_count d.state) (number_at_claim l 20 4) ≡ same (packed_in d l) l
-  noise_left idx raw = sym (tests_left ∙ simp (eq-eqb _ _ idx, eq-eqb _ _ raw))
+  pub not_packing : (AsPacked l d → ⊥) → false ≡ same (packed_in d l) l
+  unfolding as_packed
+  not_packing n =
+      cases (same (packed_in d l) l)
+      (λ t.
+      let e : as_packed l small d ≡ true = sym packs_again ∙ t in
+      let k = and_both _ _ e in
+      let c = and_both _ _ k.1 in
+      let third = and_both _ _ c.1 in
+      let sixth = and_both _ _ third.1 in
+      let seventh = and_both _ _ sixth.1 in
+      let index = and_both _ _ seventh.1 in
+      let raw = and_both _ _ index.1 in
+      absurd
+      (n
+      (record {
+        kind = eqb-true _ _ k.0;
+        count = eqb-true _ _ c.0;
+        third = sym (eqb-true _ _ third.0);
+        sixth = sym (eqb-true _ _ sixth.0);
+        seventh = sym (eqb-true _ _ seventh.0);
+        index = eqb-true _ _ index.0;
+        raw = eqb-true _ _ raw.0;
+      })))
+      sym

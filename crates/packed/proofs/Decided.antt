@@ -6,57 +6,55 @@ use Prim.Native.Nat.{ℕ}
 use lib.Dec.{eqb}
 use Rattle.decided.specs.One.{With, Beside, Injective}
 use Rattle.decided.proofs.Laws.{injective}
-use Rattle.decoder.specs.Record.{DecoderAnswer, nothing, payload, count, refusal, after, left, answer_asked}
-use Rattle.decoder.specs.declared.Event.{Event}
+use Rattle.decoder.specs.Record.{Event, DecoderAnswer, nothing, payload, count, refusal, after, left, answer_asked}
 use Rattle.decoder.specs.declared.Pushed.{Pushed}
 use Rattle.decoder.proofs.Answers.{one_push, finalize_one}
 use Rattle.decoder.proofs.Decided.{views as decoderViews}
 use Rattle.in_place.specs.declared.Taken.{Taken}
 use Rattle.packed.specs.Layout.{record_in}
 use Rattle.packed.specs.Packed.{Filled, filled, Unpacked, holds, no_record, unpacked_as, kept_push, tried, kept_slice, KeptLeft, kept_event, kept_reset}
-use Rattle.packed.specs.declared.Packing.{Packing}
-use Rattle.packed.specs.declared.Packing.TheVariants as P
-use Rattle.packed.specs.declared.Unpacking.{Unpacking}
-use Rattle.packed.specs.declared.Unpacking.TheVariants as U
-use Rattle.packed.specs.declared.WasReset.{WasReset}
-use Rattle.packed.specs.declared.WasReset.TheVariants as W
+use Rattle.decoder.specs.declared.Decoder.{Decoder}
+use Rattle.packed.specs.declared.BadState.{BadState}
+use Rattle.packed.specs.declared.PackError.{PackError}
+use Rattle.packed.specs.declared.PackError.TheVariants as P
+use Rattle.std.specs.Prelude.{Result, Ok, Err}
 use Rattle.packed.specs.Decided.{Views, Decided}
 
 -- what packing answered
-packing_of : DecoderAnswer → Packing
-packing_of nothing = P.Good
-packing_of (payload bytes) = P.Good
-packing_of (count n) = P.Good
-packing_of (refusal n v) = cond (eqb n 4) P.BadState (cond (eqb n 5) P.WrongBuffer P.OutputTooShort)
+packing_of : DecoderAnswer → Result (Unit {0}) PackError
+packing_of nothing = Ok tt
+packing_of (payload bytes) = Ok tt
+packing_of (count n) = Ok tt
+packing_of (refusal n v) = Err (cond (eqb n 4) P.BadState (cond (eqb n 5) P.WrongBuffer P.OutputTooShort))
 
-packing_back : (r : Packing) (m : List ℕ) → packing_of (filled r m).answer ≡ r
+packing_back : (r : Result (Unit {0}) PackError) (m : List ℕ) → packing_of (filled r m).answer ≡ r
 unfolding packing_of
-packing_back P.Good m = refl
-packing_back P.BadState m = refl
-packing_back P.WrongBuffer m = refl
-packing_back P.OutputTooShort m = refl
+packing_back (Ok a) m = refl
+packing_back (Err P.BadState) m = refl
+packing_back (Err P.WrongBuffer) m = refl
+packing_back (Err P.OutputTooShort) m = refl
 
-filled_output : (r : Packing) (m : List ℕ) → (filled r m).output ≡ m
-filled_output P.Good m = refl
-filled_output P.BadState m = refl
-filled_output P.WrongBuffer m = refl
-filled_output P.OutputTooShort m = refl
+filled_output : (r : Result (Unit {0}) PackError) (m : List ℕ) → (filled r m).output ≡ m
+filled_output (Ok a) m = refl
+filled_output (Err P.BadState) m = refl
+filled_output (Err P.WrongBuffer) m = refl
+filled_output (Err P.OutputTooShort) m = refl
 
-packing_one : Injective (λ (r : With Packing). filled r.answer r.memory)
+packing_one : Injective (λ (r : With (Result (Unit {0}) PackError)). filled r.answer r.memory)
 packing_one r r' h =
     let a : r.answer ≡ r'.answer = sym (packing_back r.answer r.memory) ∙ ap (λ (f : Filled). packing_of f.answer) h ∙ packing_back r'.answer r'.memory in
     let m : r.memory ≡ r'.memory = sym (filled_output r.answer r.memory) ∙ ap (λ (f : Filled). f.output) h ∙ filled_output r'.answer r'.memory in
     λ i. record { answer = a i; memory = m i }
 
 -- what unpacking answered
-unpacking_of : Unpacked → Unpacking
-unpacking_of (holds d) = U.Good d
-unpacking_of (no_record n) = U.BadState
+unpacking_of : Unpacked → Result Decoder BadState
+unpacking_of (holds d) = Ok d
+unpacking_of (no_record n) = Err (record {})
 
-unpacking_back : (r : Unpacking) → unpacking_of (unpacked_as r) ≡ r
+unpacking_back : (r : Result Decoder BadState) → unpacking_of (unpacked_as r) ≡ r
 unfolding unpacking_of
-unpacking_back (U.Good d) = refl
-unpacking_back U.BadState = refl
+unpacking_back (Ok d) = refl
+unpacking_back (Err e) = refl
 
 unpacking_one : Injective unpacked_as
 unpacking_one r r' h = sym (unpacking_back r) ∙ ap unpacking_of h ∙ unpacking_back r'
@@ -87,18 +85,18 @@ left_one r r' h =
     λ i. record { answer = (p i).event; lent = (h i).bytes }
 
 -- what reset answered
-reset_of : DecoderAnswer → WasReset
-reset_of nothing = W.BadState
-reset_of (payload bytes) = W.BadState
-reset_of (count n) = W.Count n
-reset_of (refusal n v) = W.BadState
+reset_of : DecoderAnswer → Result ℕ BadState
+reset_of nothing = Err (record {})
+reset_of (payload bytes) = Err (record {})
+reset_of (count n) = Ok n
+reset_of (refusal n v) = Err (record {})
 
-reset_back : (r : WasReset) (l : List ℕ) → (reset_of (kept_reset r l).answer ≡ r) × ((kept_reset r l).bytes ≡ l)
+reset_back : (r : Result ℕ BadState) (l : List ℕ) → (reset_of (kept_reset r l).answer ≡ r) × ((kept_reset r l).bytes ≡ l)
 unfolding reset_of
-reset_back (W.Count n) l = (refl, refl)
-reset_back W.BadState l = (refl, refl)
+reset_back (Ok n) l = (refl, refl)
+reset_back (Err e) l = (refl, refl)
 
-reset_over : Injective (λ (r : Beside WasReset (List ℕ)). kept_reset r.answer r.lent)
+reset_over : Injective (λ (r : Beside (Result ℕ BadState) (List ℕ)). kept_reset r.answer r.lent)
 reset_over r r' h =
     let b = reset_back r.answer r.lent in
     let b' = reset_back r'.answer r'.lent in
@@ -121,13 +119,13 @@ views =
 pub decided : Decided
 decided =
     record {
-      pack = λ d out. injective (λ (r : With Packing). filled r.answer r.memory) views.packing _;
+      pack = λ d out. injective (λ (r : With (Result (Unit {0}) PackError)). filled r.answer r.memory) views.packing _;
       unpack = λ bytes. injective unpacked_as views.unpacking _;
       push_plain = λ bytes buf b. injective (λ (r : With (Beside Bool (List ℕ))). tried r.answer.answer r.answer.lent r.memory) views.tried_over _;
       push_packed_claim = λ bytes buf b. injective (λ (r : With (Beside Event (List ℕ))). kept_push r.answer.answer r.answer.lent r.memory) views.pushed_over _;
       push_slice_packed = λ bytes buf chunk. injective (λ (r : With (Beside Taken (List ℕ))). kept_slice r.answer.answer r.answer.lent r.memory) views.sliced_over _;
       finalize_packed_claim = λ bytes. injective (λ (r : Beside Event (List ℕ)). kept_event r.answer r.lent) views.finalized_over _;
-      reset_packed_claim = λ bytes. injective (λ (r : Beside WasReset (List ℕ)). kept_reset r.answer r.lent) views.was_reset_over _;
+      reset_packed_claim = λ bytes. injective (λ (r : Beside (Result ℕ BadState) (List ℕ)). kept_reset r.answer r.lent) views.was_reset_over _;
       payload_packed_claim = λ bytes buf r r' h h'. h ∙ sym h';
       ask_payload_packed = λ bytes buf. injective answer_asked decoderViews.asked _;
     }

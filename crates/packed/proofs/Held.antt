@@ -7,16 +7,13 @@ use native.Mathlib.Omega.{arith}
 use lib.ListN.{length}
 use lib.Dec.{ltb}
 use borrow.Author.Tests.{lt-ltb, le-ltb, ltb-true, ltb-false}
-use Rattle.refusals.specs.Numbers.{bad_state_no, wrong_buffer_no, bad_span_no, output_too_short_no, limit}
+use Rattle.refusals.specs.Numbers.{bad_state_no, wrong_buffer_no, output_too_short_no, limit}
 use Rattle.frame.specs.Frame.{same}
 use Rattle.frame.proofs.Same.{same_true}
 use Rattle.decoder.specs.declared.Setup.{Setup}
-use Rattle.decoder.specs.Record.{DecoderAnswer, nothing, refusal, After, setup, after_push, after_finalize, after_reset, bad_decoder, wrong_buffer, push_record, finalize_record, reset_record, payload_record, ask_record}
+use Rattle.decoder.specs.Record.{DecoderAnswer, nothing, refusal, After, setup, after_push, bad_decoder, wrong_buffer, push_record}
 use Rattle.decoder.specs.declared.Decoder.{Decoder}
-use Rattle.decoder.specs.declared.Event.TheVariants as E
 use Rattle.decoder.specs.declared.Pushed.{Pushed}
-use Rattle.decoder.specs.declared.Finalized.{Finalized}
-use Rattle.decoder.specs.declared.AfterReset.{AfterReset}
 use Rattle.decoder.proofs.Split.{cases}
 use Rattle.decoder.proofs.Valid.{sane}
 use Rattle.decoder.proofs.Reached.{push_good_stays, push_setup}
@@ -24,10 +21,7 @@ use Rattle.decoder_slice.specs.Slice.{Took, says_nothing, after_slice, pushes_fr
 use Rattle.decoder_slice.specs.declared.Sliced.{Sliced}
 use Rattle.decoder_slice.proofs.Runs.{never}
 use Rattle.packed.specs.Layout.{low_first, number_at_claim, packed_bytes, packed_in, record_in}
-use Rattle.packed.specs.Packed.{answering, pack_into, holds, no_record, unpacked_as, unpack_of, kept_push, push_packed, kept_slice, slice_packed, kept_event, finalize_packed, kept_reset, reset_packed, payload_packed, ask_packed}
-use Rattle.packed.specs.declared.Unpacking.{Unpacking}
-use Rattle.packed.specs.declared.Unpacking.TheVariants as U
-use Rattle.packed.specs.declared.WasReset.TheVariants as W
+use Rattle.packed.specs.Packed.{answering, pack_into, holds, no_record, unpack_of, kept_push, push_packed, kept_slice, slice_packed}
 
 pub never_held : {G : Type 0} {n : ℕ} {d : Decoder} → no_record n ≡ holds d → G
 never_held h =
@@ -74,33 +68,29 @@ module _ (l : List ℕ) where
   unfolding unpack_of
   refused_as_lem a not e = rw (e, not)
 
-  pub unpack_bad : (d : Decoder) → d ≡ record_in l → bad_decoder d ≡ true → no_record bad_state_no ≡ unpack_of l
-  unpack_bad d is b = refused_as_lem _ refl (pack_bad (record_in l) l (rw is at b))
+  pub unpack_bad : bad_decoder (record_in l) ≡ true → no_record bad_state_no ≡ unpack_of l
+  unpack_bad b = refused_as_lem _ refl (pack_bad (record_in l) l b)
 
-  pub unpack_over : (d : Decoder) → d ≡ record_in l → bad_decoder d ≡ false → limit < d.capacity → no_record bad_state_no ≡ unpack_of l
-  unpack_over d is b o = refused_as_lem _ refl (pack_over (record_in l) l (rw is at b) (rw is at o))
+  pub unpack_over : limit < (record_in l).capacity → no_record bad_state_no ≡ unpack_of l
+  unpack_over o = cases (bad_decoder (record_in l)) unpack_bad (λ b. refused_as_lem _ refl (pack_over (record_in l) l b o))
 
   pub unpack_short : length l < 28 → no_record bad_state_no ≡ unpack_of l
   unpack_short s =
-      cases (bad_decoder (record_in l)) (λ b. unpack_bad (record_in l) refl b) (λ b.
-      cases (ltb limit (record_in l).capacity) (λ o. unpack_over (record_in l) refl b (ltb-true _ _ o)) (λ o. refused_as_lem _ refl (pack_short (record_in l) l b (ltb-false _ _ o) s)))
+      cases (bad_decoder (record_in l)) unpack_bad (λ b.
+      cases (ltb limit (record_in l).capacity) (λ o. unpack_over (ltb-true _ _ o)) (λ o. refused_as_lem _ refl (pack_short (record_in l) l b (ltb-false _ _ o) s)))
 
   -- else packing it again decides
-  module _ (d : Decoder) (is : d ≡ record_in l) (b : bad_decoder d ≡ false) (o : d.capacity ≤ limit) (room : 28 ≤ length l) where
+  module _ (b : bad_decoder (record_in l) ≡ false) (o : (record_in l).capacity ≤ limit) (room : 28 ≤ length l) where
     accepted_as : pack_into (record_in l) l ≡ answering nothing (packed_in (record_in l) l)
-    accepted_as = pack_good (record_in l) l (rw is at b) (rw is at o) room
+    accepted_as = pack_good (record_in l) l b o room
 
-    pub unpack_same : same (packed_in d l) l ≡ true → holds d ≡ unpack_of l
+    pub unpack_same : same (packed_in (record_in l) l) l ≡ true → holds (record_in l) ≡ unpack_of l
     unfolding unpack_of
-    unpack_same t =
-        let t' : same (packed_in (record_in l) l) l ≡ true = rw is at t in
-        rw (accepted_as, t', is)
+    unpack_same t = rw (accepted_as, t)
 
-    pub unpack_other : same (packed_in d l) l ≡ false → no_record bad_state_no ≡ unpack_of l
+    pub unpack_other : same (packed_in (record_in l) l) l ≡ false → no_record bad_state_no ≡ unpack_of l
     unfolding unpack_of
-    unpack_other t =
-        let t' : same (packed_in (record_in l) l) l ≡ false = rw is at t in
-        rw (accepted_as, t')
+    unpack_other t = rw (accepted_as, t)
 
 -- bytes that hold the record d
 pub record HoldsRecord (l : List ℕ) (d : Decoder) : Type 0 where
@@ -178,52 +168,3 @@ module _ (l : List ℕ) (d : Decoder) (e : unpack_of l ≡ holds d) where
       let is : (slice_record d m chunk).decoder ≡ r.decoder = ap (λ (a : Took). a.decoder) (sym q) in
       let s : Stays d r.decoder = rw is at (slice_stays d m chunk h.good) in
       rw (e, ← q, fill_back r.decoder l (fill_small d r.decoder h.small s))
-
-  pub finalize_held : (r : Finalized) → after_finalize r ≡ finalize_record d → kept_event r.event (packed_in r.decoder l) ≡ finalize_packed l
-  unfolding finalize_packed
-  finalize_held r q = rw (e, ← q)
-
-  pub reset_held : (r : AfterReset) → after_reset r ≡ reset_record d → kept_reset (W.Count r.count) (packed_in r.decoder l) ≡ reset_packed l
-  unfolding reset_packed
-  reset_held r q = rw (e, ← q)
-
-  pub payload_over : (m : List ℕ) → payload_record d m ≡ payload_packed l m
-  unfolding payload_packed
-  payload_over m = rw e
-
-  pub ask_held_lem : (m : List ℕ) → ask_record d m ≡ ask_packed l m
-  unfolding ask_packed
-  ask_held_lem m = rw e
-
--- bytes that no packing gives
-module _ (l : List ℕ) (e : unpack_of l ≡ no_record bad_state_no) where
-  pub push_refused : (m : List ℕ) (b : ℕ) → kept_push E.BadState l m ≡ push_packed l m b
-  unfolding push_packed
-  push_refused m b = rw e
-
-  pub slice_refused : (m chunk : List ℕ) → kept_slice (record { event = E.BadState; taken = 0 }) l m ≡ slice_packed l m chunk
-  unfolding slice_packed
-  slice_refused m chunk = rw e
-
-  pub finalize_refused : kept_event E.BadState l ≡ finalize_packed l
-  unfolding finalize_packed
-  finalize_refused = rw e
-
-  pub reset_refused : kept_reset W.BadState l ≡ reset_packed l
-  unfolding reset_packed
-  reset_refused = rw e
-
-  pub payload_refused : (m : List ℕ) → [] ≡ payload_packed l m
-  unfolding payload_packed
-  payload_refused m = rw e
-
-  pub ask_refused : (m : List ℕ) → refusal bad_span_no [] ≡ ask_packed l m
-  unfolding ask_packed
-  ask_refused m = rw e
-
--- what unpack's answer says of the bytes
-pub said_held : (l : List ℕ) (r : Unpacking) (d : Decoder) → unpacked_as r ≡ unpack_of l → r ≡ U.Good d → unpack_of l ≡ holds d
-said_held l r d told is = sym told ∙ ap unpacked_as is
-
-pub said_refused : (l : List ℕ) (r : Unpacking) → unpacked_as r ≡ unpack_of l → r ≡ U.BadState → unpack_of l ≡ no_record bad_state_no
-said_refused l r told is = sym told ∙ ap unpacked_as is

@@ -4,7 +4,7 @@ use mathlib.Core.Bool.{true, false}
 use mathlib.Core.List.{List, [], ◌∷◌}
 use Prim.Native.Nat.{ℕ, suc, ◌+◌, ◌*◌, ◌<◌, ◌≤◌}
 use native.Mathlib.Omega.{arith}
-use lib.ListN.{length, get_or, set}
+use lib.ListN.{length, get_or}
 use lib.Seq.{sets}
 use lib.Dec.{eqb, ltb, leb}
 use borrow.Author.Tests.{eq-eqb, ne_eqb, lt-ltb, le-ltb, lt-leb, eqb-true, ltb-true, ltb-false, leb-true, leb-false}
@@ -25,26 +25,6 @@ use Rattle.packed.specs.Packed.{Unpacked, holds, no_record, unpack_of, kept_byte
 use Rattle.packed.specs.Cut.{normal_head, normal_in, PlainIn, plain_bytes, plain_memory}
 use Rattle.packed.proofs.Again.{noise_left}
 use Rattle.packed.proofs.Held.{HoldsRecord, unpack_same, holds_record, push_held_lem}
-
--- the two counts are read, then put back, one more each, and the byte is stored
-pub put_plain : (l₁ l₂ l m : List ℕ) (fill raw more b : ℕ) → fill ≡ number_at_claim l 8 4 → raw ≡ number_at_claim l 16 4 → l₁ ≡ sets l 8 (low_first 4 (fill + 1)) → more ≡ stopped (suc raw) → l₂ ≡ sets l₁ 16 (low_first 4 more)
-    → (l₂ ≡ plain_bytes l) × (set m fill b ≡ plain_memory l m b)
-unfolding plain_bytes plain_memory
-put_plain l₁ l₂ l m fill raw more b f r e₁ e e₂ = (rw (e₂, e₁, e, f, r), rw f)
-
--- the tests of normal_in, in their order
-module _ (l : List ℕ) where
-  pub not_head : normal_head (number_at_claim l 0 4) ≡ false → false ≡ normal_in l
-  unfolding normal_in
-  not_head h = rw h
-
-  pub not_six : (number_at_claim l 6 2 ≡ 0 → ⊥) → false ≡ normal_in l
-  unfolding normal_in
-  not_six n = cases (normal_head (number_at_claim l 0 4)) (λ h. rw (h, ne_eqb _ _ n)) (λ h. rw h)
-
-  pub head_six : normal_head (number_at_claim l 0 4) ≡ true → number_at_claim l 6 2 ≡ 0 → (noise : ℕ) → noise ≡ number_at_claim l 20 4 → eqb noise 0 ≡ normal_in l
-  unfolding normal_in
-  head_six h six noise is = rw (h, eq-eqb _ _ six, is)
 
 -- the kind of ParsingNormal and a known way, and 0 in all that such a record doesn't use
 pub record NormalIn (l : List ℕ) : Type 0 where
@@ -108,8 +88,9 @@ module _ (l : List ℕ) (small : (i : ℕ) → get_or l i 0 < 256) where
         let normal = normal_says p.normal in
         let s = state_is in
         let again : same (packed_in d l) l ≡ true =
-        sym (noise_left l small d p.long refl (rw (s, normal.kind)) (rw (s, normal.small)) normal.third normal.sixth normal.seventh (rw s) (rw s)) ∙ rw (s, normal.noise) in
-        sym (unpack_same l d refl (plain_good d lent b (plain_says d lent b plain_byte)) (omega (arith, p.capacity, p.small)) p.long again)
+        sym (noise_left l small d p.long refl (record { kind = rw (s, normal.kind); count = rw (s, normal.small); third = normal.third; sixth = normal.sixth; seventh = normal.seventh; index = rw s; raw = rw s }))
+        ∙ rw (s, normal.noise) in
+        sym (unpack_same l (plain_good d lent b (plain_says d lent b plain_byte)) (omega (arith, p.capacity, p.small)) p.long again)
 
     plain_for_lem : plain_for d.state d.fill d.capacity lent b ≡ true
     unfolding d record_in state_in wrong_buffer

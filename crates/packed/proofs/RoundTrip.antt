@@ -157,8 +157,8 @@ module _ (d : Decoder) (l : List ℕ) where
   pub comes_back : Narrow d → Packs d l → unpack_of (packed_in d l) ≡ holds (tidied d)
   comes_back n p =
       let again : packed_in (tidied d) (packed_in d l) ≡ packed_in d l = packed_over (tidied d) ∙ packed_tidy in
-      sym
-      (unpack_same (packed_in d l) (tidied d) (sym (record_back n p.good p.small)) (tidy_good d p.good) p.small packed_room (rw again (same_self (packed_in d l))))
+      let back : record_in (packed_in d l) ≡ tidied d = record_back n p.good p.small in
+      sym (unpack_same (packed_in d l) (rw back (tidy_good d p.good)) (rw back p.small) packed_room (rw (back, again) (same_self (packed_in d l)))) ∙ ap holds back
 
 -- what bytes say is as wide as the record's types
 pub bytes_narrow : (l : List ℕ) → ((i : ℕ) → get_or l i 0 < 256) → Narrow (record_in l)

@@ -1,21 +1,17 @@
 -- rule: packing, unpacking and the decoder's calls over the 28 bytes, by the definitions that the calls over the record cite; what is refused, and what each call leaves.
-use Rattle.std.specs.Prelude.{Bool, true, false, cond, List, [], ℕ, length, take, eqb, ltb}
+use Rattle.std.specs.Prelude.{Bool, true, false, cond, List, [], ℕ, Result, Ok, Err, length, take, eqb, ltb}
 use Rattle.refusals.specs.Numbers.{bad_state_no, wrong_buffer_no, bad_span_no, output_too_short_no, limit}
 use Rattle.frame.specs.Frame.{same}
-use Rattle.decoder.specs.Record.{DecoderAnswer, nothing, count, refusal, answer_of, bad_decoder, wrong_buffer, After, Left, push_record, finalize_record, reset_record, payload_record, ask_record}
+use Rattle.decoder.specs.Record.{Event, DecoderAnswer, nothing, count, refusal, answer_of, bad_decoder, wrong_buffer, After, Left, push_record, finalize_record, reset_record, payload_record, ask_record}
 use Rattle.decoder.specs.declared.DecodeState.{DecodeState}
 use Rattle.decoder.specs.declared.DecodeState.TheVariants.{LookingForMessageStart, ParsingNormal, ParsingEscChars, ParsingEscPayload, Done}
 use Rattle.decoder.specs.declared.Decoder.{Decoder}
-use Rattle.decoder.specs.declared.Event.{Event}
 use Rattle.decoder_slice.specs.Slice.{Took, says_nothing, slice_record}
 use Rattle.in_place.specs.declared.Taken.{Taken}
 use Rattle.packed.specs.Layout.{number_at_claim, packed_in, record_in}
-use Rattle.packed.specs.declared.Packing.{Packing}
-use Rattle.packed.specs.declared.Packing.TheVariants as P
-use Rattle.packed.specs.declared.Unpacking.{Unpacking}
-use Rattle.packed.specs.declared.Unpacking.TheVariants as U
-use Rattle.packed.specs.declared.WasReset.{WasReset}
-use Rattle.packed.specs.declared.WasReset.TheVariants as W
+use Rattle.packed.specs.declared.PackError.{PackError}
+use Rattle.packed.specs.declared.PackError.TheVariants as P
+use Rattle.packed.specs.declared.BadState.{BadState}
 
 -- ---- packing
 
@@ -27,11 +23,11 @@ pub record Filled : Type 0 where
 abbrev pub answering : DecoderAnswer → List ℕ → Filled
 answering a out = record { answer = a; output = out }
 
-abbrev pub filled : Packing → List ℕ → Filled
-filled P.Good out = answering nothing out
-filled P.BadState out = answering (refusal bad_state_no []) out
-filled P.WrongBuffer out = answering (refusal wrong_buffer_no []) out
-filled P.OutputTooShort out = answering (refusal output_too_short_no []) out
+abbrev pub filled : Result (Unit {0}) PackError → List ℕ → Filled
+filled (Ok a) out = answering nothing out
+filled (Err P.BadState) out = answering (refusal bad_state_no []) out
+filled (Err P.WrongBuffer) out = answering (refusal wrong_buffer_no []) out
+filled (Err P.OutputTooShort) out = answering (refusal output_too_short_no []) out
 
 -- 4, 5 and 18 in this order, the output unchanged; else the record stands in the first 28 bytes, and what is behind them stays
 unfoldable pub pack_into : Decoder → List ℕ → Filled
@@ -46,9 +42,9 @@ pub data Unpacked : Type 0 where
   holds : Decoder → Unpacked
   no_record : ℕ → Unpacked  -- document 01's number
 
-abbrev pub unpacked_as : Unpacking → Unpacked
-unpacked_as (U.Good d) = holds d
-unpacked_as U.BadState = no_record bad_state_no
+abbrev pub unpacked_as : Result Decoder BadState → Unpacked
+unpacked_as (Ok d) = holds d
+unpacked_as (Err e) = no_record bad_state_no
 
 -- the bytes are some packing's exactly if packing what they say into them is accepted and changes nothing; else 4
 unfoldable pub unpack_of : List ℕ → Unpacked
@@ -146,9 +142,9 @@ kept_left a l = record { answer = a; bytes = l }
 abbrev pub kept_event : Event → List ℕ → KeptLeft
 kept_event e l = kept_left (answer_of e []) l
 
-abbrev pub kept_reset : WasReset → List ℕ → KeptLeft
-kept_reset (W.Count n) l = kept_left (count n) l
-kept_reset W.BadState l = kept_left (refusal bad_state_no []) l
+abbrev pub kept_reset : Result ℕ BadState → List ℕ → KeptLeft
+kept_reset (Ok n) l = kept_left (count n) l
+kept_reset (Err e) l = kept_left (refusal bad_state_no []) l
 
 -- what a call that takes no memory leaves of the record that the bytes hold
 abbrev pub left_held : (Decoder → Left) → Unpacked → List ℕ → KeptLeft

@@ -6,111 +6,77 @@ ghost use Rattle.std.specs.Prelude.{◌≡◌, suc, ◌+◌, ◌*◌, ◌%◌, �
 ghost use Rattle.std.proofs.lemmas.List.Edits.{sets};
 ghost use Rattle.decided.specs.Part.{handed, part_at};
 ghost use Rattle.frame.specs.Frame.{same};
-ghost use Rattle.decoder.specs.Push.{stopped};
 ghost use Rattle.decoder.specs.Record.{answer_asked};
-ghost use Rattle.packed.specs.Layout.{low_first, number_at_claim, head_of, counts_of, kind_no, small_count, noise_count, used_in, state_in, record_in, packed_in};
+ghost use Rattle.decoder.specs.declared.DecodeErr.TheVariants as Refusal;
+ghost use Rattle.packed.specs.Layout.{low_first, number_at_claim, head_of, kind_no, small_count, noise_count, used_in, state_in, record_in, packed_in};
 ghost use Rattle.packed.specs.Packed.{filled, pack_into, unpacked_as, unpack_of, kept_push, push_packed, plain_held, tried, plain_packed, kept_slice, slice_packed, kept_event, finalize_packed, kept_reset, reset_packed, payload_packed, ask_packed};
 ghost use Rattle.packed.specs.Cut.{normal_head, normal_in, PlainIn, plain_bytes, plain_memory};
 
-use decoder::{Asked, DecodeState, Decoder, Event};
+use decoder::{DecodeErr, DecodeState, Decoder, Event};
 use in_place::Taken;
+use refusals::BadSpan;
 
 // How many bytes a record takes.
 pub const LEN: usize = 28;
 
-// What packing answers: it is done, or refusals 4, 5 and 18.
-#[derive(Clone, Copy)]
-pub enum Packing {
-    Good,
+// Why a record isn't packed: refusals 4, 5 and 18.
+#[derive(Clone, Copy, PartialEq, Eq)]
+pub enum PackError {
     BadState,
     WrongBuffer,
     OutputTooShort,
 }
 
-// The record that bytes hold, or refusal 4.
-#[derive(Clone, Copy)]
-pub enum Unpacking {
-    Good(Decoder),
-    BadState,
-}
+// Refusal 4: the bytes hold no record.
+#[derive(Clone, Copy, PartialEq, Eq)]
+pub struct BadState;
 
-// How many bytes are lost, or refusal 4 where the bytes hold no record; by value every record can be reset.
-#[derive(Clone, Copy)]
-pub enum WasReset {
-    Count(u32),
-    BadState,
+impl From<BadState> for DecodeErr {
+    ghost from_gives = { λ _ e. e ≡ Refusal.BadState };
+
+    // A push over such bytes is refused as one over a bad record.
+    fn from(_e: BadState) -> DecodeErr {
+        DecodeErr::BadState
+    }
 }
 
 // ---- numbers, low byte first
 
-// The number of two bytes.
-fn of_two(a: u8, b: u8) -> u16
-    ensures { result ≡ a + 256 * b }
-{
-    (a as u16) + 256 * (b as u16)
-}
-
-// The number of four bytes.
-fn of_four(a: u8, b: u8, c: u8, d: u8) -> u32
-    ensures { result ≡ a + 256 * (b + 256 * (c + 256 * d)) }
-{
-    (a as u32) + 256 * ((b as u32) + 256 * ((c as u32) + 256 * (d as u32)))
-}
-
-// The number in two bytes from `at` on.
+// The number in two bytes from `at` on. Two widths are two functions: `from_le_bytes` is of no trait.
+#[tactic(auto, unfolding(crate::specs::Layout::number_at_claim))]
 fn number2(bytes: &[u8], at: usize) -> u16
     requires { at + 2 ≤ length bytes.now }
     ensures { result ≡ number_at_claim bytes.now at 2 }
 {
-    of_two(bytes[at], bytes[at + 1])
+    u16::from_le_bytes([bytes[at], bytes[at + 1]])
 }
 
 // The number in four bytes from `at` on.
+#[tactic(auto, unfolding(crate::specs::Layout::number_at_claim))]
 fn number4(bytes: &[u8], at: usize) -> u32
     requires { at + 4 ≤ length bytes.now }
     ensures { result ≡ number_at_claim bytes.now at 4 }
 {
-    of_four(bytes[at], bytes[at + 1], bytes[at + 2], bytes[at + 3])
-}
-
-// The low byte of x.
-fn low(x: u64) -> u8
-    ensures { result ≡ x % 256 }
-{
-    (x % 256) as u8
-}
-
-// The two low bytes of x go to `at` and behind it.
-fn put2(out: &mut [u8], at: usize, x: u64)
-    requires { at + 2 ≤ length out.old }
-    ensures { out.new ≡ sets out.old at (low_first 2 x) }
-{
-    out[at] = low(x);
-    out[at + 1] = low(x / 256);
+    u32::from_le_bytes([bytes[at], bytes[at + 1], bytes[at + 2], bytes[at + 3]])
 }
 
 // The four low bytes of x go to `at` and behind it.
+#[tactic(auto, using(crate::proofs::Bytes::put_low))]
 fn put4(out: &mut [u8], at: usize, x: u64)
     requires { at + 4 ≤ length out.old }
     ensures { out.new ≡ sets out.old at (low_first 4 x) }
 {
-    out[at] = low(x);
-    out[at + 1] = low(x / 256);
-    out[at + 2] = low(x / 65536);
-    out[at + 3] = low(x / 16777216);
+    out[at..at + 4].copy_from_slice(&x.to_le_bytes()[..4]);
 }
 
 // ---- the state
 
-// Its kind, in the order of the Rust's DecodeState.
+// Its kind, in the order of the Rust's DecodeState. The numbers are the packed format, which may not change (document 02, Q-12).
 fn kind_no(s: DecodeState) -> u8
     ensures { result ≡ kind_no s }
 {
     match s {
-        DecodeState::LookingForMessageStart {
-            num_discarded_bytes: _,
-            num_init_seq_bytes: _,
-        } => 0,
+        DecodeState::LookingForMessageStart { .. } => 0,
         DecodeState::ParsingNormal => 1,
         DecodeState::ParsingEscChars(_) => 2,
         DecodeState::ParsingEscPayload(_) => 3,
@@ -124,13 +90,12 @@ fn small_count(s: DecodeState) -> u8
 {
     match s {
         DecodeState::LookingForMessageStart {
-            num_discarded_bytes: _,
-            num_init_seq_bytes,
-        } => num_init_seq_bytes,
-        DecodeState::ParsingNormal => 0,
-        DecodeState::ParsingEscChars(n) => n,
-        DecodeState::ParsingEscPayload(n) => n,
-        DecodeState::Done => 0,
+            num_init_seq_bytes: n,
+            ..
+        }
+        | DecodeState::ParsingEscChars(n)
+        | DecodeState::ParsingEscPayload(n) => n,
+        DecodeState::ParsingNormal | DecodeState::Done => 0,
     }
 }
 
@@ -141,12 +106,9 @@ fn noise_count(s: DecodeState) -> u32
     match s {
         DecodeState::LookingForMessageStart {
             num_discarded_bytes,
-            num_init_seq_bytes: _,
+            ..
         } => num_discarded_bytes,
-        DecodeState::ParsingNormal => 0,
-        DecodeState::ParsingEscChars(_) => 0,
-        DecodeState::ParsingEscPayload(_) => 0,
-        DecodeState::Done => 0,
+        _ => 0,
     }
 }
 
@@ -154,19 +116,11 @@ fn noise_count(s: DecodeState) -> u32
 fn used_in(s: DecodeState, x: u64) -> u64
     ensures { result ≡ used_in s x }
 {
-    match s {
-        DecodeState::LookingForMessageStart {
-            num_discarded_bytes: _,
-            num_init_seq_bytes: _,
-        } => x,
-        DecodeState::ParsingNormal => x,
-        DecodeState::ParsingEscChars(_) => x,
-        DecodeState::ParsingEscPayload(_) => x,
-        DecodeState::Done => 0,
-    }
+    if matches!(s, DecodeState::Done) { 0 } else { x }
 }
 
-// The state of a kind. A kind over 4 is none, and `is_packing` finds it out.
+// The state of a kind, a number of the packed format. A kind over 4 is none, and `is_packing` finds it out.
+#[tactic(auto, unfolding(crate::specs::Layout::state_in), using(crate::proofs::Bytes::state_over))]
 fn state_in(kind: u8, small: u8, noise: u32) -> DecodeState
     ensures { result ≡ state_in kind small noise }
 {
@@ -185,74 +139,63 @@ fn state_in(kind: u8, small: u8, noise: u32) -> DecodeState
 // ---- packing
 
 // Kind, small count, way and CRC register go to the first eight bytes.
+#[tactic(auto, unfolding(crate::specs::Layout::low_first), using(crate::proofs::Bytes::put_all))]
 fn put_head(out: &mut [u8], kind: u8, small: u8, way: u8, crc: u16)
     requires { 8 ≤ length out.old }
     ensures { out.new ≡ sets out.old 0 (head_of kind small way crc) }
 {
+    // Byte by byte: tried, as one array of eight it costs a push 6 instructions more.
     out[0] = kind;
     out[1] = small;
     out[2] = way;
     out[3] = 0;
-    put2(out, 4, crc as u64);
+    out[4..6].copy_from_slice(&crc.to_le_bytes());
     out[6] = 0;
     out[7] = 0;
 }
 
-// Five numbers go behind the head.
-fn put_counts(out: &mut [u8], fill: u64, idx: u64, raw: u64, noise: u64, capacity: u64)
-    requires { 28 ≤ length out.old }
-    ensures { out.new ≡ sets out.old 8 (counts_of fill idx raw noise capacity) }
-{
-    put4(out, 8, fill);
-    put4(out, 12, idx);
-    put4(out, 16, raw);
-    put4(out, 20, noise);
-    put4(out, 24, capacity);
-}
-
 // The record, its unused counts 0, goes to the first 28 bytes.
+#[tactic(auto, unfolding(crate::specs::Layout::low_first), using(crate::proofs::Bytes::put_record))]
 fn put_record(d: Decoder, out: &mut [u8])
     requires { 28 ≤ length out.old }
     ensures { out.new ≡ packed_in d out.old }
 {
     let s = d.state;
-    let idx = used_in(s, d.crc_idx as u64);
-    let raw = used_in(s, d.raw_msg_len as u64);
     put_head(out, kind_no(s), small_count(s), d.way, d.crc);
-    put_counts(
-        out,
-        d.fill as u64,
-        idx,
-        raw,
-        noise_count(s) as u64,
-        d.capacity as u64,
-    );
+    put4(out, 8, d.fill as u64);
+    put4(out, 12, used_in(s, d.crc_idx as u64));
+    put4(out, 16, used_in(s, d.raw_msg_len as u64));
+    put4(out, 20, noise_count(s) as u64);
+    put4(out, 24, d.capacity as u64);
 }
 
 // Packs a record into the output's first 28 bytes; those behind them stay. What is refused leaves the output as it is.
-pub fn pack(d: Decoder, out: &mut [u8]) -> Packing
+#[tactic(auto, unfolding(crate::specs::Packed::pack_into))]
+pub fn pack(d: Decoder, out: &mut [u8]) -> Result<(), PackError>
     ensures { filled result out.new ≡ pack_into d out.old }
 {
     if decoder::bad_decoder(d) {
-        return Packing::BadState;
+        return Err(PackError::BadState);
     }
     if refusals::LIMIT < d.capacity {
-        return Packing::WrongBuffer;
+        return Err(PackError::WrongBuffer);
     }
     if out.len() < LEN {
-        return Packing::OutputTooShort;
+        return Err(PackError::OutputTooShort);
     }
     put_record(d, out);
-    Packing::Good
+    Ok(())
 }
 
 // ---- unpacking
 
 // The record whose fields the bytes say.
+#[tactic(auto, unfolding(crate::specs::Layout::record_in))]
 fn record_in(bytes: &[u8]) -> Decoder
     requires { 28 ≤ length bytes.now }
     ensures { result ≡ record_in bytes.now }
 {
+    // No struct keeps that there are 28 bytes: its constructor's contract would say more than the three `requires` that it spares.
     Decoder {
         capacity: number4(bytes, 24) as usize,
         fill: number4(bytes, 8) as usize,
@@ -270,50 +213,34 @@ fn is_packing(d: Decoder, bytes: &[u8]) -> bool
     ensures { result ≡ same (packed_in d bytes.now) bytes.now }
 {
     let s = d.state;
-    if kind_no(s) != bytes[0] {
-        return false;
-    }
-    if small_count(s) != bytes[1] {
-        return false;
-    }
-    if bytes[3] != 0 {
-        return false;
-    }
-    if bytes[6] != 0 {
-        return false;
-    }
-    if bytes[7] != 0 {
-        return false;
-    }
     let idx = d.crc_idx as u64;
-    if used_in(s, idx) != idx {
-        return false;
-    }
     let raw = d.raw_msg_len as u64;
-    if used_in(s, raw) != raw {
+    if kind_no(s) != bytes[0]
+        || small_count(s) != bytes[1]
+        || bytes[3] != 0
+        || bytes[6] != 0
+        || bytes[7] != 0
+        || used_in(s, idx) != idx
+        || used_in(s, raw) != raw
+    {
         return false;
     }
     noise_count(s) == number4(bytes, 20)
 }
 
 // The record that the first 28 bytes hold, where some packing gives them.
-pub fn unpack(bytes: &[u8]) -> Unpacking
+#[tactic(auto, using(crate::proofs::Held::unpack_bad, crate::proofs::Held::unpack_over, crate::proofs::Held::unpack_short, crate::proofs::Held::unpack_same, crate::proofs::Held::unpack_other))]
+pub fn unpack(bytes: &[u8]) -> Result<Decoder, BadState>
     ensures { unpacked_as result ≡ unpack_of bytes.now }
 {
     if bytes.len() < LEN {
-        return Unpacking::BadState;
+        return Err(BadState);
     }
     let d = record_in(bytes);
-    if decoder::bad_decoder(d) {
-        return Unpacking::BadState;
+    if decoder::bad_decoder(d) || refusals::LIMIT < d.capacity || !is_packing(d, bytes) {
+        return Err(BadState);
     }
-    if refusals::LIMIT < d.capacity {
-        return Unpacking::BadState;
-    }
-    if is_packing(d, bytes) {
-        return Unpacking::Good(d);
-    }
-    Unpacking::BadState
+    Ok(d)
 }
 
 // ---- the short way of a push
@@ -324,82 +251,59 @@ const NORMAL_FIRST: u32 = 0x0001_0001;
 const NORMAL_SECOND: u32 = 0x0002_0001;
 
 // Whether the first four bytes say that.
+#[tactic(auto, unfolding(crate::specs::Cut::normal_head))]
 fn is_normal_head(head: u32) -> bool
     ensures { result ≡ normal_head head }
 {
-    if head == NORMAL_FIRST {
-        return true;
-    }
-    head == NORMAL_SECOND
+    head == NORMAL_FIRST || head == NORMAL_SECOND
 }
 
 // Whether the bytes say ParsingNormal, with 0 in all that it doesn't use.
+#[tactic(auto, unfolding(crate::specs::Cut::normal_in))]
 fn is_normal_in(bytes: &[u8]) -> bool
     requires { 28 ≤ length bytes.now }
     ensures { result ≡ normal_in bytes.now }
 {
-    if !is_normal_head(number4(bytes, 0)) {
-        return false;
-    }
-    if number2(bytes, 6) != 0 {
-        return false;
-    }
-    number4(bytes, 20) == 0
+    is_normal_head(number4(bytes, 0)) && number2(bytes, 6) == 0 && number4(bytes, 20) == 0
 }
 
 // Whether the bytes are some packing's, and b a byte of its frame that is no 1b and has room: what most bytes are. The record itself isn't made.
 fn is_plain_in(bytes: &[u8], lent: usize, b: u8) -> bool
     ensures { result ≡ plain_held (unpack_of bytes.now) lent b }
 {
-    if bytes.len() < LEN {
-        return false;
-    }
-    if !is_normal_in(bytes) {
-        return false;
-    }
-    if b == Decoder::ESC {
+    if bytes.len() < LEN || !is_normal_in(bytes) || b == Decoder::ESC {
         return false;
     }
     let fill = number4(bytes, 8);
-    if lent <= fill as usize {
-        return false;
-    }
-    if fill < number4(bytes, 12) {
-        return false;
-    }
-    if number4(bytes, 16) < Decoder::START_LEN {
-        return false;
-    }
-    if lent != number4(bytes, 24) as usize {
+    if lent <= fill as usize
+        || fill < number4(bytes, 12)
+        || number4(bytes, 16) < Decoder::START_LEN
+        || lent != number4(bytes, 24) as usize
+    {
         return false;
     }
     lent <= refusals::LIMIT
 }
 
-// One more, or as many as 32 bits hold.
-fn one_more(x: u32) -> u32
-    ensures { result ≡ stopped (suc x) }
-{
-    if x == decoder::COUNT_STOP { x } else { x + 1 }
-}
-
 // Stores such a byte, and counts it.
+#[tactic(auto, unfolding(crate::specs::Cut::plain_bytes, crate::specs::Cut::plain_memory))]
 fn store_plain(bytes: &mut [u8], buf: &mut [u8], b: u8)
     requires { PlainIn bytes.old (length buf.old) b }
     ensures { (bytes.new ≡ plain_bytes bytes.old) × (buf.new ≡ plain_memory bytes.old buf.old b) }
 {
-    let fill = number4(&bytes[..], 8);
-    let raw = number4(&bytes[..], 16);
+    let fill = number4(bytes, 8);
+    let raw = number4(bytes, 16);
     buf[fill as usize] = b;
     put4(bytes, 8, fill as u64 + 1);
-    put4(bytes, 16, one_more(raw) as u64);
+    put4(bytes, 16, raw.saturating_add(1) as u64);
 }
 
 // Pushes a byte that is plain, which says nothing, and gives true; any other is left for push_packed.
+#[tactic(auto, using(crate::proofs::Plain::plain_in, crate::proofs::Plain::plain_stored, crate::proofs::Plain::left_undone))]
 pub fn push_plain(bytes: &mut [u8], buf: &mut [u8], b: u8) -> bool
     ensures { tried result bytes.new buf.new ≡ plain_packed bytes.old buf.old b }
 {
-    if is_plain_in(&bytes[..], buf.len(), b) {
+    if is_plain_in(bytes, buf.len(), b) {
         store_plain(bytes, buf, b);
         return true;
     }
@@ -409,94 +313,72 @@ pub fn push_plain(bytes: &mut [u8], buf: &mut [u8], b: u8) -> bool
 // ---- the decoder's calls over the bytes
 
 // Pushes a byte.
+#[tactic(auto, unfolding(crate::specs::Packed::push_packed), using(crate::proofs::Held::held_room, crate::proofs::Held::push_held_lem))]
 pub fn push_packed(bytes: &mut [u8], buf: &mut [u8], b: u8) -> Event
     ensures { kept_push result bytes.new buf.new ≡ push_packed bytes.old buf.old b }
 {
-    let u = unpack(&bytes[..]);
-    match u {
-        Unpacking::BadState => Event::BadState,
-        Unpacking::Good(d) => {
-            let r = d.push_byte(buf, b);
-            let left = r.decoder;
-            put_record(left, bytes);
-            r.event
-        }
-    }
+    let d = unpack(bytes)?;
+    let r = d.push_byte(buf, b);
+    put_record(r.decoder, bytes);
+    r.event
 }
 
 // Pushes bytes until the first event.
+#[tactic(auto, unfolding(crate::specs::Packed::slice_packed), using(crate::proofs::Held::held_room, crate::proofs::Held::slice_held_lem))]
 pub fn push_slice_packed(bytes: &mut [u8], buf: &mut [u8], chunk: &[u8]) -> Taken
     ensures { kept_slice result bytes.new buf.new ≡ slice_packed bytes.old buf.old chunk.now }
 {
-    let u = unpack(&bytes[..]);
-    match u {
-        Unpacking::BadState => Taken {
-            event: Event::BadState,
+    let Ok(d) = unpack(bytes) else {
+        return Taken {
+            event: Err(DecodeErr::BadState),
             taken: 0,
-        },
-        Unpacking::Good(d) => {
-            let r = decoder_slice::push_slice(d, buf, chunk);
-            let left = r.decoder;
-            let event = r.event;
-            put_record(left, bytes);
-            Taken {
-                event,
-                taken: r.taken,
-            }
-        }
+        };
+    };
+    let r = decoder_slice::push_slice(d, buf, chunk);
+    put_record(r.decoder, bytes);
+    Taken {
+        event: r.event,
+        taken: r.taken,
     }
 }
 
 // Says how many bytes are lost, if any; the decoder begins again.
+#[tactic(auto, unfolding(crate::specs::Packed::finalize_packed), using(crate::proofs::Held::held_room))]
 pub fn finalize_packed(bytes: &mut [u8]) -> Event
     ensures { kept_event result bytes.new ≡ finalize_packed bytes.old }
 {
-    let u = unpack(&bytes[..]);
-    match u {
-        Unpacking::BadState => Event::BadState,
-        Unpacking::Good(d) => {
-            let r = d.finalize();
-            let left = r.decoder;
-            put_record(left, bytes);
-            r.event
-        }
-    }
+    let d = unpack(bytes)?;
+    let r = d.finalize();
+    put_record(r.decoder, bytes);
+    r.event
 }
 
-// Gives the number of bytes that are lost; the decoder begins again.
-pub fn reset_packed(bytes: &mut [u8]) -> WasReset
+// Gives the number of bytes that are lost; the decoder begins again. By value every record can be reset.
+#[tactic(auto, unfolding(crate::specs::Packed::reset_packed), using(crate::proofs::Held::held_room))]
+pub fn reset_packed(bytes: &mut [u8]) -> Result<u32, BadState>
     ensures { kept_reset result bytes.new ≡ reset_packed bytes.old }
 {
-    let u = unpack(&bytes[..]);
-    match u {
-        Unpacking::BadState => WasReset::BadState,
-        Unpacking::Good(d) => {
-            let r = d.reset();
-            let left = r.decoder;
-            put_record(left, bytes);
-            WasReset::Count(r.count)
-        }
-    }
+    let d = unpack(bytes)?;
+    let r = d.reset();
+    put_record(r.decoder, bytes);
+    Ok(r.count)
 }
 
-// The payload: the buffer's first bytes, from the push that said it to the next. Otherwise the empty part.
+// The payload: the buffer's first bytes, from the push that said it to the next. Otherwise the empty part, as with the record.
+#[tactic(auto, unfolding(crate::specs::Packed::payload_packed))]
 pub fn payload_packed<'a>(bytes: &[u8], buf: &'a [u8]) -> &'a [u8]
     ensures { handed result ≡ part_at (handed buf.entry) 0 (payload_packed bytes.now buf.now) }
 {
-    let u = unpack(bytes);
-    match u {
-        Unpacking::BadState => &buf[..0],
-        Unpacking::Good(d) => d.payload(buf),
+    match unpack(bytes) {
+        Ok(d) => d.payload(buf),
+        Err(_) => &buf[..0],
     }
 }
 
 // Whether a payload stands in the buffer; where none does, `payload_packed` gives the empty part.
-pub fn ask_payload_packed(bytes: &[u8], buf: &[u8]) -> Asked
+#[tactic(auto, unfolding(crate::specs::Packed::ask_packed))]
+pub fn ask_payload_packed(bytes: &[u8], buf: &[u8]) -> Result<(), BadSpan>
     ensures { answer_asked result ≡ ask_packed bytes.now buf.now }
 {
-    let u = unpack(bytes);
-    match u {
-        Unpacking::BadState => Asked::BadSpan,
-        Unpacking::Good(d) => d.ask_payload(buf),
-    }
+    unpack(bytes).map_err(|_| BadSpan)?.ask_payload(buf)
 }

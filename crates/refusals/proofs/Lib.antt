@@ -5,3 +5,4 @@ pub mod Undone
 pub mod Decided
 pub mod Places
 pub mod Codes
+pub mod Wrong

@@ -1,19 +1,20 @@
 -- What the view of every reading is undone by: refusals, readings, optional fields.
-use mathlib.Core.Path.{◌≡◌, refl, ap}
-use mathlib.Core.Bool.{cond}
+use mathlib.Core.Path.{◌≡◌, refl, sym, ap, ◌∙◌}
+use mathlib.Core.Bool.{Bool, true, false, cond, true≢false}
 use mathlib.Core.Option.{Option, some, none}
 use Prim.Native.Nat.{ℕ}
 use lib.Dec.{eqb}
 use Rattle.refusals.specs.Numbers.{unexpected_eof_no, invalid_tlf_no, tlf_mismatch_no, unexpected_variant_no, crc_mismatch_no}
 use Rattle.refusals.specs.Read.{Read, got, refused, Refusal}
-use Rattle.refusals.specs.Answers.{refusal_of, fault_of}
+use Rattle.refusals.specs.Answers.{refusal_of, fault_of, as_it_is, opt_of, reads_as}
 use Rattle.refusals.specs.declared.TlfParseError.{TlfParseError}
 use Rattle.refusals.specs.declared.TlfParseError.TheVariants.{TlfLengthOverflow, TlfReserved, TlfLengthUnderflow, TlfNextByteTypeMismatch, TlfInvalidTy}
 use Rattle.refusals.specs.declared.ParseError.{ParseError}
 use Rattle.refusals.specs.declared.ParseError.TheVariants.{UnexpectedEOF, InvalidTlf, TlfMismatch, CrcMismatch, MsgEndMismatch, UnexpectedVariant}
 use Rattle.refusals.specs.declared.Fault.{Fault}
 use Rattle.decided.specs.One.{Injective}
-use Rattle.decided.proofs.Laws.{undone}
+use Rattle.std.specs.Prelude.{Ok, Err}
+use Rattle.std.specs.Prelude as P
 
 -- ---- refusals
 
@@ -48,32 +49,61 @@ fault_back f = error_back f.error f.place
 
 -- ---- readings
 
--- what a reading was told as: its value and place, or its fault
-read_from : {R A : Type 0} → (A → ℕ → R) → (Fault → R) → Read A → R
-read_from told lost (got a next) = told a next
-read_from told lost (refused f) = lost (fault_from f)
+-- the view of a value that is told as it is loses nothing
+pub same_once : {A : Type 0} → Injective (as_it_is {A = A})
+same_once r r' e = e
 
--- an answer of a reading, and what it is told as: a value, which is told by `to`, and the place behind it; or a fault
-pub data OneReading {R T A : Type 0} (is : T → ℕ → R) (lost : Fault → R) (to : T → A) : R → Read A → Type 0 where
-  it_is : (x : T) (next : ℕ) → OneReading is lost to (is x next) (got (to x) next)
-  it_lost : (f : Fault) → OneReading is lost to (lost f) (refused (fault_of f))
+-- what a reading was told as: its value, or one that stands for none; its place; its refusal
+found_value : {A : Type 0} → A → Read A → A
+found_value a (got x next) = x
+found_value a (refused f) = a
 
-read_back : {R T A : Type 0} (is : T → ℕ → R) (lost : Fault → R) (to : T → A) (from : A → T) → ((x : T) → from (to x) ≡ x)
-    → (r : R) (v : Read A) → OneReading is lost to r v → read_from (λ a next. is (from a) next) lost v ≡ r
-unfolding read_from
-read_back {T = T} is lost to from back r v (it_is x next) = ap (λ (y : T). is y next) (back x)
-read_back is lost to from back r v (it_lost f) = ap lost (fault_back f)
+place_found : {A : Type 0} → Read A → ℕ
+place_found (got x next) = next
+place_found (refused f) = 0
 
--- the view of a reading loses nothing where that of its value can be undone
-pub reads : {R T A : Type 0} (view : R → Read A) (is : T → ℕ → R) (lost : Fault → R) (to : T → A) (from : A → T) → ((x : T) → from (to x) ≡ x)
-    → ((r : R) → OneReading is lost to r (view r)) → Injective view
-reads view is lost to from back h = undone view (read_from (λ a next. is (from a) next) lost) (λ r. read_back is lost to from back r (view r) (h r))
+fault_found : {A : Type 0} → Fault → Read A → Fault
+fault_found f (got x next) = f
+fault_found f (refused r) = fault_from r
 
--- and where its value is told as it is
-pub reads_plain : {R A : Type 0} (view : R → Read A) (is : A → ℕ → R) (lost : Fault → R) → ((r : R) → OneReading is lost (λ (x : A). x) r (view r)) → Injective view
-reads_plain view is lost h = reads view is lost (λ x. x) (λ x. x) (λ x. refl) h
+was_found : {A : Type 0} → Read A → Bool
+was_found (got x next) = true
+was_found (refused f) = false
 
--- an optional field
-unfoldable pub field_from : {F A : Type 0} → (A → F) → F → Option A → F
-field_from present absent (some a) = present a
-field_from present absent none = absent
+-- the view of a reading loses nothing where that of its value doesn't
+pub reads_once : {T A : Type 0} (view : T → A) → Injective view → Injective (reads_as view)
+unfolding found_value place_found fault_found was_found
+reads_once view once (Ok p) (Ok q) e =
+    let a = once p.0 q.0 (ap (found_value (view p.0)) e) in
+    let n = ap place_found e in
+    rw (a, n)
+reads_once view once (Ok p) (Err f) e = absurd (true≢false (ap was_found e))
+reads_once view once (Err f) (Ok p) e = absurd (true≢false (sym (ap was_found e)))
+reads_once view once (Err f) (Err g) e = ap (λ x. Err x) (sym (fault_back f) ∙ ap (fault_found f) e ∙ fault_back g)
+
+-- ---- optional fields
+
+one_in : {A : Type 0} → A → Option A → A
+one_in a (some x) = x
+one_in a none = a
+
+has_one : {A : Type 0} → Option A → Bool
+has_one (some x) = true
+has_one none = false
+
+pub opt_once : {T A : Type 0} (view : T → A) → Injective view → Injective (opt_of view)
+unfolding one_in has_one
+opt_once view once (P.Some a) (P.Some b) e = ap (λ x. P.Some x) (once a b (ap (one_in (view a)) e))
+opt_once view once (P.Some a) P.None e = absurd (true≢false (ap has_one e))
+opt_once view once P.None (P.Some b) e = absurd (true≢false (sym (ap has_one e)))
+opt_once view once P.None P.None e = refl
+
+-- an optional field that is told by `view` comes back where what may be there does
+pub field_from : {T A : Type 0} → (A → T) → Option A → P.Option T
+field_from from (some x) = P.Some (from x)
+field_from from none = P.None
+
+pub field_back : {T A : Type 0} (view : T → A) (from : A → T) → ((x : T) → from (view x) ≡ x) → (f : P.Option T) → field_from from (opt_of view f) ≡ f
+unfolding field_from
+field_back view from back (P.Some x) = ap (λ y. P.Some y) (back x)
+field_back view from back P.None = refl

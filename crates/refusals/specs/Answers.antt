@@ -1,16 +1,13 @@
 -- view: document 01's number and values for each case of what every reader shares.
-use Rattle.std.specs.Prelude.{ℕ}
+use Rattle.std.specs.Prelude.{ℕ, Result, Ok, Err}
+use Rattle.std.specs.Prelude as P
+use Rattle.std.proofs.Math.Option.{Option, some, none}
 use Rattle.refusals.specs.Read.{Read, got, refused, Refusal, eof, invalid_tlf, mismatch, unexpected, crc_mismatch, wrong_end}
 use Rattle.refusals.specs.declared.TlfParseError.{TlfParseError}
 use Rattle.refusals.specs.declared.TlfParseError.TheVariants.{TlfLengthOverflow, TlfReserved, TlfLengthUnderflow, TlfNextByteTypeMismatch, TlfInvalidTy}
 use Rattle.refusals.specs.declared.ParseError.{ParseError}
 use Rattle.refusals.specs.declared.ParseError.TheVariants.{UnexpectedEOF, InvalidTlf, TlfMismatch, CrcMismatch, MsgEndMismatch, UnexpectedVariant}
 use Rattle.refusals.specs.declared.Fault.{Fault}
-use Rattle.refusals.specs.declared.Span.{Span}
-use Rattle.refusals.specs.declared.ByteRead.{ByteRead}
-use Rattle.refusals.specs.declared.ByteRead.TheVariants as ByteR
-use Rattle.refusals.specs.declared.SpanRead.{SpanRead}
-use Rattle.refusals.specs.declared.SpanRead.TheVariants as SpanR
 
 -- the five kinds of 11
 abbrev pub kind_of : TlfParseError → ℕ
@@ -46,10 +43,16 @@ refusal_of MsgEndMismatch at = wrong_end at
 abbrev pub fault_of : Fault → Refusal
 fault_of f = refusal_of f.error f.place
 
-abbrev pub byte_read : ByteRead → Read ℕ
-byte_read (ByteR.Is byte next) = got byte next
-byte_read (ByteR.Refused f) = refused (fault_of f)
+-- a value that is told as it is
+abbrev pub as_it_is : {A : Type 0} → A → A
+as_it_is a = a
 
-abbrev pub span_read : SpanRead → Read Span
-span_read (SpanR.Is span next) = got span next
-span_read (SpanR.Refused f) = refused (fault_of f)
+-- an optional field, by the view of what may be there
+abbrev pub opt_of : {A B : Type 0} → (A → B) → P.Option A → Option B
+opt_of view (P.Some a) = some (view a)
+opt_of view P.None = none
+
+-- a reading's answer, by the view of its value
+abbrev pub reads_as : {A B : Type 0} → (A → B) → Result (A × ℕ) Fault → Read B
+reads_as view (Ok r) = got (view r.0) r.1
+reads_as view (Err f) = refused (fault_of f)

@@ -7,26 +7,18 @@ mod length_field;
 mod line;
 mod records;
 
-use line::{bad, behind, find, first, with_bytes};
+use line::{bad, cut, with_bytes};
 use std::io;
 
-// ---- the commands: a name in the table, and its line below
+// ---- the commands
 
 pub(crate) fn command(rt: &impl Print, s: &[u8]) -> io::Result<()> {
-    let rest = behind(s, b' ');
-    match find(b"leaf,tlf,unpack,pack", first(s, b' ')) {
-        0 => with_bytes(rt, 0, leaf::kind_of(first(rest, b' ')), behind(rest, b' ')),
-        3 => records::pack(rt, rest),
-        which => with_bytes(rt, which, 0, rest),
-    }
-}
-
-// Those that have bytes at the end.
-pub(crate) fn of_bytes(rt: &impl Print, which: u8, kind: usize, input: &[u8]) -> io::Result<()> {
-    match which {
-        0 => leaf::field(rt, kind, input),
-        1 => length_field::length_field(rt, input),
-        2 => records::unpack(rt, input),
+    let (name, rest) = cut(s, b' ');
+    match name {
+        b"leaf" => leaf::leaf(rt, rest),
+        b"tlf" => with_bytes(rt, rest, |input| length_field::length_field(rt, input)),
+        b"unpack" => with_bytes(rt, rest, |input| records::unpack(rt, input)),
+        b"pack" => records::pack(rt, rest),
         _ => bad(rt),
     }
 }

@@ -1,9 +1,6 @@
 pub mod Told
-pub mod Streams
-pub mod Writes
 pub mod Wholes
 pub mod Indexes
-pub mod Walks
 pub mod Losses
 pub mod Decided
 pub mod Wrong

@@ -3,11 +3,11 @@ use mathlib.Core.Path.{◌≡◌, refl, sym, ap, ◌∙◌}
 use mathlib.Core.Bool.{false, ◌||◌}
 use mathlib.Core.List.{List, [], ◌∷◌}
 use mathlib.Core.Option.{some, none}
-use Prim.Native.Nat.{ℕ, suc, ◌≤◌, ◌<◌}
+use Prim.Native.Nat.{ℕ, suc}
 use native.Mathlib.Omega.{arith}
 use lib.ListN.{length, get_or}
 use lib.Dec.{ltb}
-use borrow.Author.Tests.{lt-ltb, le-ltb}
+use Rattle.std.specs.Prelude.{Result, Ok, Err}
 use Rattle.decoder.specs.Record.{bad_decoder, wrong_buffer, push_record}
 use Rattle.decoder.specs.declared.Decoder.{Decoder}
 use Rattle.decoder.specs.declared.Setup.{Setup}
@@ -15,43 +15,18 @@ use Rattle.decoder.proofs.Split.{cases}
 use Rattle.decoder.proofs.Reached.{push_good_stays, push_setup, finalize_good_stays, finalize_setup}
 use Rattle.decoder_slice.specs.Slice.{says_nothing}
 use Rattle.packed.specs.Layout.{packed_in}
-use Rattle.packed.specs.Packed.{Filled, filled, pack_into, Unpacked, holds, no_record, unpacked_as, unpack_of}
-use Rattle.packed.specs.declared.Packing.{Packing}
-use Rattle.packed.specs.declared.Unpacking.{Unpacking}
-use Rattle.packed.specs.declared.Unpacking.TheVariants as U
+use Rattle.packed.specs.Packed.{Filled, filled, pack_into, Unpacked, holds, no_record, unpack_of}
+use Rattle.packed.specs.declared.PackError.{PackError}
+use Rattle.packed.specs.declared.PackError.TheVariants as P
 use Rattle.packed.proofs.Held.{pack_good, holds_record, Stays}
-use Rattle.losses.specs.Loss.{loss_told, loss_after, next_loss}
-use Rattle.losses.specs.Watch.{look, watched, moved_on, seen_as, after_watch, watches_from, bad_watch, watch_slice, after_end, watch_end}
-use Rattle.losses.specs.declared.Told.{Told}
+use Rattle.losses.specs.Watch.{look, watched, moved_on, after_watch, watches_from, bad_watch, watch_slice, after_end, watch_end}
 use Rattle.losses.specs.declared.Watch.{Watch}
 use Rattle.losses.specs.declared.Watched.{Watched}
 use Rattle.losses.specs.declared.WatchEnded.{WatchEnded}
-use Rattle.sartrogheo.specs.Calls.{reply}
-use Rattle.sartrogheo.specs.Losses.{loss_said_no, loss_said_words, sgh_next_loss, watch_words, watch_held, watch_in, sight_no, sight_words, sgh_watch_slice, sgh_watch_end}
-use Rattle.sartrogheo.specs.Cut.{opt_watch, CanBePacked}
-use Rattle.sartrogheo.specs.declared.OptWatch.{OptWatch}
-use Rattle.sartrogheo.specs.declared.OptWatch.TheVariants as OptWatchC
-use Rattle.sartrogheo.proofs.Told.{output_told}
-
-pub next_loss_told : (t : Told) (recording m m' v : List ℕ) (way from k : ℕ) → loss_after (loss_told t) m' ≡ next_loss recording way m from → v ≡ loss_said_words (loss_told t) → k ≡ loss_said_no (loss_told t)
-    → reply k (m' ∷ v ∷ []) ≡ sgh_next_loss recording way m from
-unfolding sgh_next_loss
-next_loss_told t recording m m' v way from k q words number = rw (← q, number, words)
+use Rattle.sartrogheo.specs.Losses.{watch_words, watch_held, watch_in}
+use Rattle.sartrogheo.specs.Cut.{CanBePacked}
 
 -- ---- the watch that bytes and numbers hold
-
-module _ (r : Unpacking) (l v : List ℕ) (is : unpacked_as r ≡ unpack_of l) where
-  pub no_decoder_held : r ≡ U.BadState → none ≡ watch_in l v
-  unfolding watch_in
-  no_decoder_held bad = rw (← is, bad)
-
-  pub over_a_byte : (d : Decoder) → r ≡ U.Good d → 255 < get_or v 2 0 → none ≡ watch_in l v
-  unfolding watch_in
-  over_a_byte d good over = rw (← is, good, lt-ltb _ _ over)
-
-  pub watch_held_lem : (d : Decoder) → r ≡ U.Good d → get_or v 2 0 ≤ 255 → some (watched d (get_or v 0 0) (get_or v 1 0) (look (get_or v 2 0) (get_or v 3 0))) ≡ watch_in l v
-  unfolding watch_in
-  watch_held_lem d good small = rw (← is, good, le-ltb _ _ small)
 
 never_some : {G : Type 0} {w : Watch} → none ≡ some w → G
 never_some h =
@@ -114,45 +89,30 @@ stays_packed l d e is stays =
     let long : e.capacity ≡ d.capacity = ap (λ (C : Setup). C.capacity) s.setup' in
     record { sound = s.good; small = rw long h.small; room = h.room }
 
-pub packed_told : (r : Packing) (d : Decoder) (l l' : List ℕ) → CanBePacked d l → filled r l' ≡ pack_into d l → l' ≡ packed_in d l
+output_told : (r : Result (Unit {0}) PackError) (m : List ℕ) → (filled r m).output ≡ m
+output_told (Ok a) m = refl
+output_told (Err P.BadState) m = refl
+output_told (Err P.WrongBuffer) m = refl
+output_told (Err P.OutputTooShort) m = refl
+
+pub packed_told : (r : Result (Unit {0}) PackError) (d : Decoder) (l l' : List ℕ) → CanBePacked d l → filled r l' ≡ pack_into d l → l' ≡ packed_in d l
 packed_told r d l l' can q = sym (output_told r l') ∙ ap (λ (f : Filled). f.output) (q ∙ pack_good d l can.sound can.small can.room)
 
 -- ---- the calls over a watch
 
-module _ (o : OptWatch) (l v : List ℕ) (is : opt_watch o ≡ watch_in l v) where
-  pub no_watch_slice : (m chunk : List ℕ) → o ≡ OptWatchC.Absent → reply 4 (l ∷ v ∷ m ∷ (0 ∷ []) ∷ (0 ∷ 0 ∷ 0 ∷ []) ∷ []) ≡ sgh_watch_slice l v m chunk
-  unfolding sgh_watch_slice
-  no_watch_slice m chunk none_is = rw (← is, none_is)
+module _ (l v : List ℕ) (w : Watch) (is : some w ≡ watch_in l v) where
+  held_in : unpack_of l ≡ holds w.decoder
+  held_in = (watch_in_held l v w (sym is)).held
 
-  pub no_watch_end : o ≡ OptWatchC.Absent → reply 4 (l ∷ v ∷ (0 ∷ 0 ∷ 0 ∷ []) ∷ []) ≡ sgh_watch_end l v
-  unfolding sgh_watch_end
-  no_watch_end none_is = rw (← is, none_is)
+  pub slice_can_be_packed : (r : Watched) (m m' chunk : List ℕ) → after_watch r m' ≡ watch_slice w m chunk → CanBePacked r.watch.decoder l
+  slice_can_be_packed r m m' chunk q =
+      stays_packed l w.decoder r.watch.decoder held_in (λ g.
+      let left : Watch = r.watch in
+      let s : StaysFrom w (watch_slice w m chunk).watch = slice_leaves w m chunk g in
+      rw (← q) at s)
 
-  module _ (w : Watch) (one-is : o ≡ OptWatchC.Present w) where
-    held_in : unpack_of l ≡ holds w.decoder
-    held_in = (watch_in_held l v w (sym is ∙ ap opt_watch one-is)).held
-
-    module _ (r : Watched) (m m' chunk : List ℕ) (q : after_watch r m' ≡ watch_slice w m chunk) where
-      pub slice_can_be_packed : CanBePacked r.watch.decoder l
-      slice_can_be_packed =
-          stays_packed l w.decoder r.watch.decoder held_in (λ g.
-          let left : Watch = r.watch in
-          let s : StaysFrom w (watch_slice w m chunk).watch = slice_leaves w m chunk g in
-          rw (← q) at s)
-
-      pub slice_replied : (l' v' x : List ℕ) (k : ℕ) → l' ≡ packed_in r.watch.decoder l → v' ≡ watch_words r.watch → x ≡ sight_words (seen_as r.seen) → k ≡ sight_no (seen_as r.seen)
-          → reply k (l' ∷ v' ∷ m' ∷ (r.taken ∷ []) ∷ x ∷ []) ≡ sgh_watch_slice l v m chunk
-      unfolding sgh_watch_slice
-      slice_replied l' v' x k bytes numbers words number = rw (← is, one-is, ← q, bytes, numbers, words, number)
-
-    module _ (r : WatchEnded) (q : after_end r ≡ watch_end w) where
-      pub end_can_be_packed : CanBePacked r.watch.decoder l
-      end_can_be_packed =
-          stays_packed l w.decoder r.watch.decoder held_in (λ g.
-          let s : StaysFrom w (watch_end w).watch = end_leaves w g in
-          rw (← q) at s)
-
-      pub end_replied : (l' v' x : List ℕ) (k : ℕ) → l' ≡ packed_in r.watch.decoder l → v' ≡ watch_words r.watch → x ≡ loss_said_words (loss_told r.told) → k ≡ loss_said_no (loss_told r.told)
-          → reply k (l' ∷ v' ∷ x ∷ []) ≡ sgh_watch_end l v
-      unfolding sgh_watch_end
-      end_replied l' v' x k bytes numbers words number = rw (← is, one-is, ← q, bytes, numbers, words, number)
+  pub end_can_be_packed : (r : WatchEnded) → after_end r ≡ watch_end w → CanBePacked r.watch.decoder l
+  end_can_be_packed r q =
+      stays_packed l w.decoder r.watch.decoder held_in (λ g.
+      let s : StaysFrom w (watch_end w).watch = end_leaves w g in
+      rw (← q) at s)

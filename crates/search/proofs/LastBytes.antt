@@ -87,3 +87,6 @@ one_many (suc (suc (suc (suc (suc zero))))) le = absurd (omega arith)
 one_many (suc (suc (suc (suc (suc (suc zero)))))) le = absurd (omega arith)
 one_many (suc (suc (suc (suc (suc (suc (suc zero))))))) le = absurd (omega arith)
 one_many (suc (suc (suc (suc (suc (suc (suc (suc n)))))))) le = all_eight n 0x01
+
+-- all of these
+pub ruleset a_byte_more = (other_none, esc_few, esc_four, esc_many, one_few, one_next, one_many)

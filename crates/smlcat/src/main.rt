@@ -7,7 +7,6 @@ ghost use Rattle.lines.specs.Lines.{line_of};
 ghost use Rattle.smlcat.specs.Fed.{held, fed, StoppedIn};
 
 use decoder::{Decoder, Event};
-use lines::Written;
 use std::io;
 use std::io::Read;
 use std::rt::Env;
@@ -16,11 +15,7 @@ use std::rt::Env;
 fn line_of(e: Event, d: Decoder, buf: &[u8; 4096], line: &mut [u8; 8201]) -> usize
     ensures { (result ≤ length line.new) × (take result line.new ≡ line_of (answer_of e (payload_record d buf.now))) }
 {
-    let written = lines::write_line(e, d.payload(buf), line);
-    match written {
-        Written::Length(n) => n,
-        Written::OutputTooShort => 0,
-    }
+    lines::write_line(e, d.payload(buf), line).unwrap_or(0)
 }
 
 // Writes the line, which is empty where there is none, at once. BadState and WrongBuffer never come: the decoder is a new one's, and its buffer is always the same.
@@ -36,47 +31,33 @@ fn drive(rt: &impl Print, d: Decoder, buf: &mut [u8; 4096], chunk: &[u8]) -> io:
     ensures err { OnErr result (StoppedIn d buf.old chunk.now buf.new) }
 {
     let mut at = d;
-    let mut i: usize = 0;
+    // `i` goes on by as many bytes as each push took.
+    let mut i = 0;
     while i < chunk.len() {
         let p = decoder_slice::push_slice(at, buf, &chunk[i..]);
-        let e = p.event;
-        let taken = p.taken;
         at = p.decoder;
-        print_event(rt, e, at, buf)?;
-        if taken == 0 {
+        print_event(rt, p.event, at, buf)?;
+        if p.taken == 0 {
             return Ok(at);
         }
-        i += taken;
+        i += p.taken;
     }
     Ok(at)
 }
 
-// What a turn leaves: the decoder, and whether there may be more.
-#[derive(Clone, Copy)]
-struct Turned {
-    decoder: Decoder,
-    more: bool,
-}
-
-// Reads once, and pushes what came. What can't be read is the end of the input.
+// Reads once, and pushes what came: the decoder behind it, or none at the end of the input. What can't be read is the end.
 fn turn(
     rt: &impl Print,
     source: &mut impl Read,
     d: Decoder,
     buf: &mut [u8; 4096],
-) -> io::Result<Turned> {
+) -> io::Result<Option<Decoder>> {
     let mut chunk = [0u8; 4096];
     let n = source.read(&mut chunk).unwrap_or(0);
     if n == 0 {
-        return Ok(Turned {
-            decoder: d,
-            more: false,
-        });
+        return Ok(None);
     }
-    Ok(Turned {
-        decoder: drive(rt, d, buf, &chunk[..n])?,
-        more: true,
-    })
+    Ok(Some(drive(rt, d, buf, &chunk[..n])?))
 }
 
 // Turns until the input ends; the count makes it end for certain.
@@ -87,14 +68,11 @@ fn run(
     buf: &mut [u8; 4096],
 ) -> io::Result<Decoder> {
     let mut at = d;
-    let mut turns = u64::MAX;
-    while turns > 0 {
-        let t = turn(rt, source, at, buf)?;
-        at = t.decoder;
-        if !t.more {
-            return Ok(at);
+    for _ in 0..u64::MAX {
+        match turn(rt, source, at, buf)? {
+            Some(left) => at = left,
+            None => return Ok(at),
         }
-        turns -= 1;
     }
     Ok(at)
 }
@@ -103,13 +81,7 @@ fn run(
 // What the program was started with is not proved: `arg` promises no more than that its answer lies within `word`.
 fn way_asked(rt: &impl Env) -> u8 {
     let mut word = [0u8; 2];
-    if rt.arg(1, &mut word).unwrap_or(0) != 2 {
-        return Decoder::FIRST_WAY;
-    }
-    if word[0] != b'-' {
-        return Decoder::FIRST_WAY;
-    }
-    if word[1] == b'2' {
+    if rt.arg(1, &mut word).unwrap_or(0) == 2 && word == *b"-2" {
         Decoder::SECOND_WAY
     } else {
         Decoder::FIRST_WAY
@@ -121,7 +93,5 @@ fn main(rt: HostRuntime) -> io::Result<()> {
     let begun = Decoder::with_way(4096, way_asked(&rt));
     let last = run(&rt, &mut rt.stdin(), begun, &mut buf)?;
     let f = last.finalize();
-    let e = f.event;
-    let d = f.decoder;
-    print_event(&rt, e, d, &buf)
+    print_event(&rt, f.event, f.decoder, &buf)
 }

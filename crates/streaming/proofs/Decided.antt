@@ -2,6 +2,7 @@
 use mathlib.Core.Path.{◌≡◌, refl, ap}
 use mathlib.Core.Bool.{cond}
 use lib.Dec.{eqb}
+use Rattle.std.specs.Prelude.{Result, Ok, Err, Option, Some, None}
 use Rattle.refusals.specs.Numbers.{input_too_long_no}
 use Rattle.refusals.specs.declared.Span.{Span}
 use Rattle.streaming.specs.Next as N
@@ -9,8 +10,8 @@ use Rattle.streaming.specs.Next.{start_event, entry_event, end_event, Said, even
 use Rattle.streaming.specs.Answers.{parse_event, said, reader_after}
 use Rattle.streaming.specs.declared.ParseEvent.{ParseEvent}
 use Rattle.streaming.specs.declared.ParseEvent.TheVariants as EventC
-use Rattle.streaming.specs.declared.Answer.{Answer}
-use Rattle.streaming.specs.declared.Answer.TheVariants as AnswerC
+use Rattle.streaming.specs.declared.ReadError.{ReadError}
+use Rattle.streaming.specs.declared.ReadError.TheVariants.{Refused, InputTooLong, BadState}
 use Rattle.decided.specs.One.{Injective}
 use Rattle.decided.proofs.Laws.{injective, undone}
 use Rattle.refusals.proofs.Undone.{fault_from, fault_back}
@@ -30,24 +31,24 @@ parse_event_back (EventC.GetListResponseEnd x) = ap EventC.GetListResponseEnd (l
 parse_event_back (EventC.ListEntry x) = ap EventC.ListEntry (entry_back_lem x)
 
 -- 9 and 4 stand at no place, every other refusal is a reading's
-pub answer_from : Said → Answer
-answer_from (event e) = AnswerC.Event (parse_event_from e)
-answer_from no_event = AnswerC.NoEvent
-answer_from (failed f) = AnswerC.Refused (fault_from f)
-answer_from (alone n) = cond (eqb n input_too_long_no) AnswerC.InputTooLong AnswerC.BadState
+pub answer_from : Said → Result (Option ParseEvent) ReadError
+answer_from (event e) = Ok (Some (parse_event_from e))
+answer_from no_event = Ok None
+answer_from (failed f) = Err (Refused (fault_from f))
+answer_from (alone n) = Err (cond (eqb n input_too_long_no) InputTooLong BadState)
 
-pub said_back : (r : Answer) → answer_from (said r) ≡ r
+pub said_back : (r : Result (Option ParseEvent) ReadError) → answer_from (said r) ≡ r
 unfolding answer_from
-said_back (AnswerC.Event e) = ap AnswerC.Event (parse_event_back e)
-said_back AnswerC.NoEvent = refl
-said_back (AnswerC.Refused f) = ap AnswerC.Refused (fault_back f)
-said_back AnswerC.InputTooLong = refl
-said_back AnswerC.BadState = refl
+said_back (Ok (Some e)) = ap (λ x. Ok (Some x)) (parse_event_back e)
+said_back (Ok None) = refl
+said_back (Err (Refused f)) = ap (λ x. Err (Refused x)) (fault_back f)
+said_back (Err InputTooLong) = refl
+said_back (Err BadState) = refl
 
 pub event_one : Injective reader_after
 event_one r r' h =
     let a : r.answer ≡ r'.answer = undone said answer_from said_back _ _ (ap (λ (x : ReaderAfter). x.answer) h) in
-    λ i. record { answer = a i; place = (h i).place; start = (h i).start; pending = (h i).pending }
+    λ i. record { answer = a i; reader = record { place = (h i).place; start = (h i).start; pending = (h i).pending } }
 
 pub views : Views
 views =
@@ -58,5 +59,5 @@ views =
 pub decided : Decided
 decided =
     record {
-      parse_next = λ input at start pending. injective reader_after views.event _;
+      parse_next = λ self input. injective reader_after views.event _;
     }

@@ -70,13 +70,13 @@ input_at_the_limit_refused r s is e h =
 -- ---- behind a refusal
 
 -- 00 00: the first 00 is refused, and the second is not read either
-rest_not_dropped : (r : Next) → r.place ≡ 1 → reader_after r ≡ next_at (0x00 ∷ 0x00 ∷ []) 0 0 0 → ⊥
+rest_not_dropped : (r : Next) → r.reader.place ≡ 1 → reader_after r ≡ next_at (0x00 ∷ 0x00 ∷ []) 0 0 0 → ⊥
 unfolding next_at step_at begin_at onward start_at list_of_at tlf_at byte_at then guard need length_from less_own
-rest_not_dropped r e h = let n : ◌≡◌ {A = ℕ} r.place 2 = ap (λ (a : ReaderAfter). a.place) h in omega (arith, n, e)
+rest_not_dropped r e h = let n : ◌≡◌ {A = ℕ} r.reader.place 2 = ap (λ (a : ReaderAfter). a.place) h in omega (arith, n, e)
 
 -- refused at the trailer, the message is not over: every later call is 10
-refusal_inside_ends_the_message : (r : Next) → r.pending ≡ 0 → reader_after r ≡ next_at [] 0 0 1 → ⊥
+refusal_inside_ends_the_message : (r : Next) → r.reader.pending ≡ 0 → reader_after r ≡ next_at [] 0 0 1 → ⊥
 unfolding next_at step_at trailer_next onward
 refusal_inside_ends_the_message r e h =
-    let n : ◌≡◌ {A = ℕ} r.pending 1 = rw (trailer_end [] 0 0 (omega arith)) at (ap (λ (a : ReaderAfter). a.pending) h) in
+    let n : ◌≡◌ {A = ℕ} r.reader.pending 1 = rw (trailer_end [] 0 0 (omega arith)) at (ap (λ (a : ReaderAfter). a.pending) h) in
     omega (arith, n, e)

@@ -3,6 +3,7 @@ use Rattle.std.specs.Prelude.{◌≡◌, List, ℕ}
 use Rattle.streaming.specs.Next.{next_at}
 use Rattle.streaming.specs.Answers.{reader_after}
 use Rattle.streaming.specs.declared.Next.{Next}
+use Rattle.streaming.specs.declared.Reader.{Reader}
 use Rattle.decided.specs.One.{One, Injective}
 
 -- every view that a contract cites
@@ -11,4 +12,4 @@ pub record Views : Type 0 where
 
 -- every public function: over its parameters, what its `ensures` allows. A slice that is lent stands for what it holds at the call
 pub record Decided : Type 0 where
-  pub parse_next : (input : List ℕ) (at start pending : ℕ) → One (λ (r : Next). reader_after r ≡ next_at input at start pending)
+  pub parse_next : (self : Reader) (input : List ℕ) → One (λ (r : Next). reader_after r ≡ next_at input self.place self.start self.pending)

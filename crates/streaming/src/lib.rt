@@ -1,39 +1,57 @@
 // Ports Parser::parse_next and next of parser/streaming.rs, by value: the reader is three numbers beside its input.
 #![tactic(auto)]
 
-ghost use Rattle.std.specs.Prelude.{◌≡◌, ◌≤◌, ◌-◌};
+ghost use Rattle.std.specs.Prelude.{◌≡◌, ◌-◌, ◌≤◌, length, Ok, Err, Some};
 ghost use Rattle.message.specs.Answers.{message_body};
-ghost use Rattle.streaming.specs.Next.{pending_of, is_sound, begin_at, trailer_next, end_next, entry_next, step_at, next_at};
+ghost use Rattle.streaming.specs.Next.{pending_of, begin_at, trailer_next, end_next, entry_next, step_at, is_sound, next_at};
 ghost use Rattle.streaming.specs.Answers.{reader_after};
+ghost use Rattle.streaming.specs.declared.ReadError.TheVariants as Errors;
 
-use common::{EntryRead, ListEntry};
-use message::{GetListResponseEnd, ListEndRead, MessageBody, MessageStart, StartRead};
+use common::ListEntry;
+use message::{GetListResponseEnd, MessageBody, MessageStart};
+use numbers::SmlParse;
 use refusals::Fault;
-use tlf::PlaceRead;
 
-#[derive(Clone, Copy)]
+#[derive(Clone, Copy, PartialEq, Eq)]
 pub enum ParseEvent {
     MessageStart(MessageStart),
     GetListResponseEnd(GetListResponseEnd),
     ListEntry(ListEntry),
 }
 
-#[derive(Clone, Copy)]
-pub enum Answer {
-    Event(ParseEvent),
-    NoEvent,
+// A refusal of a reading, or one that stands at no place of the input.
+#[derive(Clone, Copy, PartialEq, Eq)]
+pub enum ReadError {
     Refused(Fault),
     InputTooLong,
     BadState,
 }
 
-// The answer, and the reader after it: place, message start, pending.
-#[derive(Clone, Copy)]
-pub struct Next {
-    pub answer: Answer,
+impl From<Fault> for ReadError {
+    ghost from_gives = { λ f e. e ≡ Errors.Refused f };
+
+    // The Rust's only error.
+    fn from(f: Fault) -> ReadError {
+        ReadError::Refused(f)
+    }
+}
+
+// What a call says, as parse_next of the Rust: an event, or none where the input has ended.
+pub type Answer = Result<Option<ParseEvent>, ReadError>;
+
+// What a reader keeps beside its input: the place, where the message there began, and how much of it is pending, the Rust's pending_list_entries.
+#[derive(Clone, Copy, PartialEq, Eq)]
+pub struct Reader {
     pub place: usize,
     pub start: usize,
     pub pending: u64,
+}
+
+// The answer, and the reader after it.
+#[derive(Clone, Copy)]
+pub struct Next {
+    pub answer: Answer,
+    pub reader: Reader,
 }
 
 // How much is pending behind a message's start.
@@ -41,147 +59,147 @@ fn pending_of(body: MessageBody) -> u64
     ensures { result ≡ pending_of (message_body body) }
 {
     match body {
-        MessageBody::OpenResponse(_) => 1,
-        MessageBody::CloseResponse(_) => 1,
+        MessageBody::OpenResponse(_) | MessageBody::CloseResponse(_) => 1,
         MessageBody::GetListResponse(list) => list.num_vals as u64 + 2,
     }
 }
 
-// Between messages: the case `0` of the Rust, and the empty input before it.
-fn begin(input: &[u8], at: usize, start: usize) -> Next
-    ensures { reader_after result ≡ begin_at input.now at start }
-{
-    if input.len() <= at {
-        return Next {
-            answer: Answer::NoEvent,
-            place: at,
-            start,
-            pending: 0,
-        };
-    }
-    match message::parse_message_start(input, at) {
-        StartRead::Is { message, next } => {
-            let body = message.message_body;
-            Next {
-                answer: Answer::Event(ParseEvent::MessageStart(message)),
-                place: next,
-                start: at,
-                pending: pending_of(body),
-            }
+impl Reader {
+    // An event, and the reader behind it.
+    fn brings(self, event: ParseEvent, place: usize, pending: u64) -> Next
+        ensures { result ≡ record { answer = Ok (Some event); reader = record { place = place; start = self.start; pending = pending } } }
+    {
+        Next {
+            answer: Ok(Some(event)),
+            reader: Reader {
+                place,
+                start: self.start,
+                pending,
+            },
         }
-        StartRead::Refused(f) => Next {
-            answer: Answer::Refused(f),
-            place: input.len(),
-            start: at,
+    }
+
+    // A refusal drops the rest of the input.
+    fn refused(self, f: Fault, end: usize, pending: u64) -> Next
+        ensures { result ≡ record { answer = Err (Errors.Refused f); reader = record { place = end; start = self.start; pending = pending } } }
+    {
+        Next {
+            answer: Err(ReadError::from(f)),
+            reader: Reader {
+                place: end,
+                start: self.start,
+                pending,
+            },
+        }
+    }
+
+    // Between messages: the case `0` of the Rust, and the empty input before it.
+    #[tactic(auto, unfolding(crate::specs::Next::begin_at, crate::specs::Next::onward))]
+    fn begin(self, input: &[u8]) -> Next
+        ensures { reader_after result ≡ begin_at input.now self.place self.start }
+    {
+        if input.len() <= self.place {
+            return Next {
+                answer: Ok(None),
+                reader: Reader {
+                    place: self.place,
+                    start: self.start,
+                    pending: 0,
+                },
+            };
+        }
+        let begun = Reader {
+            place: self.place,
+            start: self.place,
             pending: 0,
-        },
-    }
-}
-
-// The case `1`: the trailer, and with it the start of the next message.
-fn trailer_next(input: &[u8], at: usize, start: usize) -> Next
-    ensures { reader_after result ≡ trailer_next input.now at start }
-{
-    match trailer::parse_trailer(input, start, at) {
-        PlaceRead::Is { next } => begin(input, next, start),
-        PlaceRead::Refused(f) => Next {
-            answer: Answer::Refused(f),
-            place: input.len(),
-            start,
-            pending: 1,
-        },
-    }
-}
-
-// The case `2`: a list's end.
-fn end_next(input: &[u8], at: usize, start: usize) -> Next
-    ensures { reader_after result ≡ end_next input.now at start }
-{
-    match message::parse_list_end(input, at) {
-        ListEndRead::Is { response, next } => Next {
-            answer: Answer::Event(ParseEvent::GetListResponseEnd(response)),
-            place: next,
-            start,
-            pending: 1,
-        },
-        ListEndRead::Refused(f) => Next {
-            answer: Answer::Refused(f),
-            place: input.len(),
-            start,
-            pending: 2,
-        },
-    }
-}
-
-// Every other case: an entry.
-fn entry_next(input: &[u8], at: usize, start: usize, pending: u64) -> Next
-    requires { 3 ≤ pending }
-    ensures { reader_after result ≡ entry_next input.now at start (pending - 1) }
-{
-    match common::parse_list_entry(input, at) {
-        EntryRead::Is { entry, next } => Next {
-            answer: Answer::Event(ParseEvent::ListEntry(entry)),
-            place: next,
-            start,
-            pending: pending - 1,
-        },
-        EntryRead::Refused(f) => Next {
-            answer: Answer::Refused(f),
-            place: input.len(),
-            start,
-            pending,
-        },
-    }
-}
-
-// The next event of a sound reader: the `match` of the Rust.
-fn next_event(input: &[u8], at: usize, start: usize, pending: u64) -> Next
-    ensures { reader_after result ≡ step_at input.now at start pending }
-{
-    if pending == 0 {
-        return begin(input, at, start);
-    }
-    if pending == 1 {
-        return trailer_next(input, at, start);
-    }
-    if pending == 2 {
-        return end_next(input, at, start);
-    }
-    entry_next(input, at, start, pending)
-}
-
-// Not a bad state: place within an input that ends at `end`, message start not beyond it, not too much pending.
-fn is_sound_reader(end: usize, at: usize, start: usize, pending: u64) -> bool
-    ensures { result ≡ is_sound end at start pending }
-{
-    if end < at {
-        return false;
-    }
-    if at < start {
-        return false;
-    }
-    pending <= 4_294_967_297
-}
-
-// The next event of `input` from `at` on, in a message that began at `start`; pending is the Rust's pending_list_entries.
-pub fn parse_next(input: &[u8], at: usize, start: usize, pending: u64) -> Next
-    ensures { reader_after result ≡ next_at input.now at start pending }
-{
-    if refusals::LIMIT < input.len() {
-        return Next {
-            answer: Answer::InputTooLong,
-            place: at,
-            start,
-            pending,
         };
+        match MessageStart::parse(input, self.place) {
+            Ok((message, next)) => {
+                let pending = pending_of(message.message_body);
+                begun.brings(ParseEvent::MessageStart(message), next, pending)
+            }
+            Err(f) => begun.refused(f, input.len(), 0),
+        }
     }
-    if is_sound_reader(input.len(), at, start, pending) {
-        return next_event(input, at, start, pending);
+
+    // The case `1`: the trailer, and with it the start of the next message.
+    #[tactic(auto, unfolding(crate::specs::Next::trailer_next, crate::specs::Next::onward))]
+    fn trailer_next(self, input: &[u8]) -> Next
+        ensures { reader_after result ≡ trailer_next input.now self.place self.start }
+    {
+        match trailer::parse_trailer(input, self.start, self.place) {
+            Ok(next) => {
+                let behind = Reader {
+                    place: next,
+                    start: self.start,
+                    pending: 0,
+                };
+                behind.begin(input)
+            }
+            Err(f) => self.refused(f, input.len(), 1),
+        }
     }
-    Next {
-        answer: Answer::BadState,
-        place: at,
-        start,
-        pending,
+
+    // The case `2`: a list's end.
+    #[tactic(auto, unfolding(crate::specs::Next::end_next, crate::specs::Next::onward))]
+    fn end_next(self, input: &[u8]) -> Next
+        ensures { reader_after result ≡ end_next input.now self.place self.start }
+    {
+        match GetListResponseEnd::parse(input, self.place) {
+            Ok((response, next)) => self.brings(ParseEvent::GetListResponseEnd(response), next, 1),
+            Err(f) => self.refused(f, input.len(), 2),
+        }
+    }
+
+    // Every other case: an entry.
+    #[tactic(auto, unfolding(crate::specs::Next::entry_next, crate::specs::Next::onward))]
+    fn entry_next(self, input: &[u8]) -> Next
+        requires { 3 ≤ self.pending }
+        ensures { reader_after result ≡ entry_next input.now self.place self.start (self.pending - 1) }
+    {
+        match ListEntry::parse(input, self.place) {
+            Ok((entry, next)) => self.brings(ParseEvent::ListEntry(entry), next, self.pending - 1),
+            Err(f) => self.refused(f, input.len(), self.pending),
+        }
+    }
+
+    // The next event of a sound reader: the `match` of the Rust.
+    #[tactic(auto, unfolding(crate::specs::Next::step_at), using(crate::proofs::Laws::step_more))]
+    fn next_event(self, input: &[u8]) -> Next
+        ensures { reader_after result ≡ step_at input.now self.place self.start self.pending }
+    {
+        match self.pending {
+            0 => self.begin(input),
+            1 => self.trailer_next(input),
+            2 => self.end_next(input),
+            _ => self.entry_next(input),
+        }
+    }
+
+    // Not a bad state: place within an input that ends at `end`, message start not beyond it, not too much pending.
+    fn is_sound(self, end: usize) -> bool
+        ensures { result ≡ is_sound end self.place self.start self.pending }
+    {
+        self.place <= end && self.start <= self.place && self.pending <= 4_294_967_297
+    }
+
+    // The next event of `input`, and the reader behind it.
+    #[tactic(auto, unfolding(crate::specs::Next::next_at))]
+    pub fn parse_next(self, input: &[u8]) -> Next
+        ensures { reader_after result ≡ next_at input.now self.place self.start self.pending }
+    {
+        if refusals::LIMIT < input.len() {
+            return Next {
+                answer: Err(ReadError::InputTooLong),
+                reader: self,
+            };
+        }
+        if self.is_sound(input.len()) {
+            return self.next_event(input);
+        }
+        Next {
+            answer: Err(ReadError::BadState),
+            reader: self,
+        }
     }
 }

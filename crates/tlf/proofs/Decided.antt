@@ -1,18 +1,29 @@
 -- Each view can be undone, so a contract allows one outcome for each input.
-use mathlib.Core.Path.{refl}
-use Rattle.tlf.specs.Answers.{tlf_read, place_read}
-use Rattle.tlf.specs.declared.TlfRead.TheVariants as TlfR
-use Rattle.tlf.specs.declared.PlaceRead.TheVariants as PlaceR
-use Rattle.decided.proofs.Laws.{one_outcome, injective}
-use Rattle.refusals.proofs.Undone.{OneReading, it_is, it_lost, reads, reads_plain}
+use mathlib.Core.Path.{◌≡◌, refl, ap}
+use Prim.Native.Nat.{ℕ}
+use Rattle.std.specs.Prelude.{Result, Ok, Err}
+use Rattle.refusals.specs.Read.{Read, got, refused}
+use Rattle.refusals.specs.Answers.{as_it_is, reads_as}
+use Rattle.refusals.specs.declared.Fault.{Fault}
+use Rattle.tlf.specs.Answers.{place_read}
+use Rattle.decided.proofs.Laws.{one_outcome, injective, undone}
+use Rattle.refusals.proofs.Undone.{fault_from, fault_back, reads_once, same_once}
 use Rattle.tlf.specs.Decided.{Views, Decided}
+
+place_from : Read (Unit {0}) → Result ℕ Fault
+place_from (got u next) = Ok next
+place_from (refused f) = Err (fault_from f)
+
+place_back : (r : Result ℕ Fault) → place_from (place_read r) ≡ r
+unfolding place_from
+place_back (Ok next) = refl
+place_back (Err f) = ap (λ x. Err x) (fault_back f)
 
 pub views : Views
 views =
     record {
-      tlf = reads_plain tlf_read TlfR.Is TlfR.Refused (λ r. elim r as (λ k. OneReading TlfR.Is TlfR.Refused (λ x. x) k (tlf_read k)) [ TlfR.Is x next ↦ it_is x next | TlfR.Refused f ↦ it_lost f ]);
-      place =
-          reads place_read (λ (u : Unit {0}) next. PlaceR.Is next) PlaceR.Refused (λ u. u) (λ u. u) (λ u. refl) (λ r. elim r as (λ k. OneReading (λ (u : Unit {0}) next. PlaceR.Is next) PlaceR.Refused (λ u. u) k (place_read k)) [ PlaceR.Is next ↦ it_is tt next | PlaceR.Refused f ↦ it_lost f ]);
+      tlf = reads_once as_it_is same_once;
+      place = undone place_read place_from place_back;
     }
 
 pub decided : Decided
@@ -20,7 +31,7 @@ decided =
     record {
       is_list_claim = λ self. one_outcome _;
       is_boolean_claim = λ self. one_outcome _;
-      parse = λ input at. injective tlf_read views.tlf _;
+      parse = λ input at. injective (reads_as as_it_is) views.tlf _;
       is_list_of_claim = λ self n. one_outcome _;
       parse_list_of = λ input at n. injective place_read views.place _;
     }

@@ -3,39 +3,33 @@
 
 ghost use Rattle.std.specs.Prelude.{true, ◌&&◌, ◌≡◌, ◌+◌, ◌<◌, length, get_or, drop};
 ghost use Rattle.refusals.specs.Read.{invalid_tlf};
-ghost use Rattle.refusals.specs.Answers.{kind_of, fault_of};
-ghost use Rattle.tlf.specs.Answers.{ty_read, len_read, tlf_read, place_read};
-ghost use Rattle.tlf.specs.Lengths.{ty_of, longer, length_from, less_own, tlf_at, is_list, is_boolean, is_list_of, list_of_at, more_follow};
+ghost use Rattle.refusals.specs.Answers.{kind_of, fault_of, as_it_is, opt_of, reads_as};
+ghost use Rattle.tlf.specs.Answers.{place_read};
+ghost use Rattle.tlf.specs.Lengths.{ty_of, longer, length_from, less_own, tlf_at, is_list, is_boolean, is_list_of, list_of_at};
 
-use refusals::{ByteRead, Fault, ParseError, TlfParseError};
+use refusals::{Fault, ParseError, ResTy, TlfParseError};
 
-#[derive(Clone, Copy)]
+#[derive(Clone, Copy, PartialEq, Eq)]
 pub enum Ty {
-    OctetString,
-    Boolean,
-    Integer,
-    Unsigned,
-    ListOf,
-}
-
-#[derive(Clone, Copy)]
-pub enum TyRead {
-    Is(Ty),
-    Invalid,
+    OctetString = 0,
+    Boolean = 4,
+    Integer = 5,
+    Unsigned = 6,
+    ListOf = 7,
 }
 
 impl Ty {
     // Ty::from_byte of tlf.rs.
-    fn from_byte(bits: u8) -> TyRead
-        ensures { ty_read result ≡ ty_of bits }
+    fn from_byte(bits: u8) -> Option<Ty>
+        ensures { opt_of as_it_is result ≡ ty_of bits }
     {
         match bits {
-            0 => TyRead::Is(Ty::OctetString),
-            4 => TyRead::Is(Ty::Boolean),
-            5 => TyRead::Is(Ty::Integer),
-            6 => TyRead::Is(Ty::Unsigned),
-            7 => TyRead::Is(Ty::ListOf),
-            _ => TyRead::Invalid,
+            0 => Some(Ty::OctetString),
+            4 => Some(Ty::Boolean),
+            5 => Some(Ty::Integer),
+            6 => Some(Ty::Unsigned),
+            7 => Some(Ty::ListOf),
+            _ => None,
         }
     }
 
@@ -43,58 +37,28 @@ impl Ty {
     pub fn is_list(self) -> bool
         ensures { result ≡ is_list self }
     {
-        match self {
-            Ty::OctetString => false,
-            Ty::Boolean => false,
-            Ty::Integer => false,
-            Ty::Unsigned => false,
-            Ty::ListOf => true,
-        }
+        self == Ty::ListOf
     }
 
     // The test `ty == Ty::Boolean` of tlf.rs. Public for numbers.
     pub fn is_boolean(self) -> bool
         ensures { result ≡ is_boolean self }
     {
-        match self {
-            Ty::OctetString => false,
-            Ty::Boolean => true,
-            Ty::Integer => false,
-            Ty::Unsigned => false,
-            Ty::ListOf => false,
-        }
+        self == Ty::Boolean
     }
 }
 
-#[derive(Clone, Copy)]
+#[derive(Clone, Copy, PartialEq, Eq)]
 pub struct TypeLengthField {
     pub ty: Ty,
     pub len: u32,
 }
 
-#[derive(Clone, Copy)]
-pub enum TlfRead {
-    Is { tlf: TypeLengthField, next: usize },
-    Refused(Fault),
-}
-
-#[derive(Clone, Copy)]
-enum LenRead {
-    Is { len: u32, next: usize },
-    Refused(Fault),
-}
-
-// A length that passes this while it is being built is refused.
-const LONGEST: u64 = 0xffff_ffff;
-
 // `From<TlfParseError> for ParseError` of tlf.rs, and the place: the element's first length byte.
 fn invalid(kind: TlfParseError, place: usize) -> Fault
     ensures { fault_of result ≡ invalid_tlf (kind_of kind) place }
 {
-    Fault {
-        error: ParseError::InvalidTlf(kind),
-        place,
-    }
+    ParseError::from(kind).at(place)
 }
 
 // The length so far with the next byte's four bits behind it, which may be more than 32 bits hold.
@@ -104,140 +68,90 @@ fn next_len(len: u32, b: u8) -> u64
     len as u64 * 16 + b as u64 % 16
 }
 
-// A Boolean with more length bytes is reserved for future usages.
-fn is_reserved(ty: Ty, more: bool) -> bool
-    ensures { result ≡ (is_boolean ty && more) }
-{
-    ty.is_boolean() && more
-}
-
-// The loop of the Rust's parse: the further length bytes of the element at `start`, where there are any.
-fn more_bytes(input: &[u8], start: usize, at: usize, more: bool, first: u32) -> LenRead
-    ensures { len_read result ≡ length_from (length input.now) start (drop at input.now) at more first }
+// The loop of the Rust's parse, a `while` as there, since each byte says whether more follow: the further length bytes of the element at `start`.
+#[tactic(auto, unfolding(refusals::specs::Read::byte_at, refusals::specs::Read::guard), using(crate::proofs::Lengths::length_stop, crate::proofs::Lengths::length_cut, crate::proofs::Lengths::length_next))]
+fn more_bytes(input: &[u8], start: usize, at: usize, more: bool, first: u32) -> ResTy<u32>
+    ensures { reads_as as_it_is result ≡ length_from (length input.now) start (drop at input.now) at more first }
 {
     let mut has_more_bytes = more;
     let mut len = first;
     let mut next = at;
     while has_more_bytes {
-        if input.len() <= next {
-            return LenRead::Refused(Fault {
-                error: ParseError::UnexpectedEOF,
-                place: input.len(),
-            });
-        }
-        let b = input[next];
+        let (b, after) = refusals::take_byte(input, next)?;
         if b / 16 % 8 != 0 {
-            return LenRead::Refused(invalid(TlfParseError::TlfNextByteTypeMismatch, start));
+            return Err(invalid(TlfParseError::TlfNextByteTypeMismatch, start));
         }
-        let longer = next_len(len, b);
-        if LONGEST < longer {
-            return LenRead::Refused(invalid(TlfParseError::TlfLengthOverflow, start));
-        }
-        len = longer as u32;
+        let Ok(longer) = u32::try_from(next_len(len, b)) else {
+            return Err(invalid(TlfParseError::TlfLengthOverflow, start));
+        };
+        len = longer;
         has_more_bytes = 128 <= b;
-        next += 1;
+        next = after;
     }
-    LenRead::Is { len, next }
+    Ok((len, next))
 }
 
 // For primitive types the length counts its own bytes, all of them, and they are taken off here.
-fn less_own(ty: Ty, own: usize, len: u32, start: usize, next: usize) -> TlfRead
-    ensures { tlf_read result ≡ less_own ty own len start next }
+#[tactic(auto, unfolding(crate::specs::Lengths::less_own, refusals::specs::Read::guard))]
+fn less_own(ty: Ty, own: usize, len: u32, start: usize, next: usize) -> ResTy<TypeLengthField>
+    ensures { reads_as as_it_is result ≡ less_own ty own len start next }
 {
     if ty.is_list() {
-        return TlfRead::Is {
-            tlf: TypeLengthField { ty, len },
-            next,
-        };
+        return Ok((TypeLengthField { ty, len }, next));
     }
-    if own <= len as usize {
-        TlfRead::Is {
-            tlf: TypeLengthField {
-                ty,
-                len: len - own as u32,
-            },
-            next,
-        }
-    } else {
-        TlfRead::Refused(invalid(TlfParseError::TlfLengthUnderflow, start))
+    if (len as usize) < own {
+        return Err(invalid(TlfParseError::TlfLengthUnderflow, start));
     }
+    let len = len - own as u32;
+    Ok((TypeLengthField { ty, len }, next))
 }
 
 impl TypeLengthField {
-    // The type and length that stand at `at`.
-    pub fn parse(input: &[u8], at: usize) -> TlfRead
-        ensures { tlf_read result ≡ tlf_at input.now at }
+    // The type and length that stand at `at`. A Boolean with more length bytes is reserved for future usages.
+    #[tactic(auto, unfolding(crate::specs::Lengths::tlf_at, refusals::specs::Read::then, refusals::specs::Read::guard, refusals::specs::Read::need))]
+    pub fn parse(input: &[u8], at: usize) -> ResTy<TypeLengthField>
+        ensures { reads_as as_it_is result ≡ tlf_at input.now at }
     {
-        let mut next = at;
-        let b = match refusals::take_byte(input, at) {
-            ByteRead::Is { byte, next: after } => {
-                next = after;
-                byte
-            }
-            ByteRead::Refused(f) => return TlfRead::Refused(f),
-        };
-        let TyRead::Is(ty) = Ty::from_byte(b / 16 % 8) else {
-            return TlfRead::Refused(invalid(TlfParseError::TlfInvalidTy, at));
+        let (b, next) = refusals::take_byte(input, at)?;
+        let Some(ty) = Ty::from_byte(b / 16 % 8) else {
+            return Err(invalid(TlfParseError::TlfInvalidTy, at));
         };
         let has_more_bytes = 128 <= b;
-        if is_reserved(ty, has_more_bytes) {
-            return TlfRead::Refused(invalid(TlfParseError::TlfReserved, at));
+        if ty.is_boolean() && has_more_bytes {
+            return Err(invalid(TlfParseError::TlfReserved, at));
         }
-        match more_bytes(input, at, next, has_more_bytes, (b % 16) as u32) {
-            LenRead::Is { len, next: end } => {
-                let tlf_len = end - at;
-                less_own(ty, tlf_len, len, at, end)
-            }
-            LenRead::Refused(f) => TlfRead::Refused(f),
-        }
+        let (len, end) = more_bytes(input, at, next, has_more_bytes, (b % 16) as u32)?;
+        let tlf_len = end - at;
+        less_own(ty, tlf_len, len, at, end)
     }
+
     // The test of every structure of SML: a list of so many elements. Public for value.
     pub fn is_list_of(self, n: u32) -> bool
         ensures { result ≡ is_list_of n self }
     {
-        let ty = self.ty;
-        ty.is_list() && self.len == n
+        self.ty.is_list() && self.len == n
     }
-}
-
-#[derive(Clone, Copy)]
-pub enum PlaceRead {
-    Is { next: usize },
-    Refused(Fault),
 }
 
 // Whether the head of a list of `n` elements is the one byte 70 + n, as nearly every list of a meter has it.
 fn is_short_list(input: &[u8], at: usize, n: u32) -> bool
     ensures { result ≡ true → (at < length input.now) × (n < 16) × (get_or input.now at 0 ≡ 0x70 + n) }
 {
-    if input.len() <= at {
-        return false;
-    }
-    if 15 < n {
-        return false;
-    }
-    let b = input[at];
-    b as u32 == 0x70 + n
+    at < input.len() && n < 16 && input[at] as u32 == 0x70 + n
 }
 
 // The head of a list of `n` elements: check_tlf of the Rust's structures. Public for the crates that read them.
-pub fn parse_list_of(input: &[u8], at: usize, n: u32) -> PlaceRead
+#[tactic(auto, unfolding(crate::specs::Lengths::list_of_at, refusals::specs::Read::then, refusals::specs::Read::guard), using(crate::proofs::Short::list_of_one))]
+pub fn parse_list_of(input: &[u8], at: usize, n: u32) -> Result<usize, Fault>
     ensures { place_read result ≡ list_of_at n input.now at }
 {
     if is_short_list(input, at, n) {
-        return PlaceRead::Is { next: at + 1 };
+        return Ok(at + 1);
     }
-    match TypeLengthField::parse(input, at) {
-        TlfRead::Is { tlf, next } => {
-            if tlf.is_list_of(n) {
-                PlaceRead::Is { next }
-            } else {
-                PlaceRead::Refused(Fault {
-                    error: ParseError::TlfMismatch,
-                    place: at,
-                })
-            }
-        }
-        TlfRead::Refused(f) => PlaceRead::Refused(f),
+    let (tlf, next) = TypeLengthField::parse(input, at)?;
+    if tlf.is_list_of(n) {
+        Ok(next)
+    } else {
+        Err(ParseError::TlfMismatch.at(at))
     }
 }

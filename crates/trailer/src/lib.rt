@@ -5,37 +5,23 @@ ghost use Rattle.std.specs.Prelude.{◌≡◌, ◌≤◌, length};
 ghost use Rattle.tlf.specs.Answers.{place_read};
 ghost use Rattle.trailer.specs.Trailer.{message_end_at, swapped, crc_from, trailer_at};
 
-use numbers::U16Read;
-use refusals::{ByteRead, Fault, ParseError};
-use tlf::PlaceRead;
+use numbers::SmlParse;
+use refusals::{Fault, ParseError};
 
 // EndOfSmlMessage of the Rust. Public because 15 is its own rule, which can then be asked alone.
-pub fn parse_message_end(input: &[u8], at: usize) -> PlaceRead
+#[tactic(auto, unfolding(crate::specs::Trailer::message_end_at, refusals::specs::Read::then, refusals::specs::Read::guard))]
+pub fn parse_message_end(input: &[u8], at: usize) -> Result<usize, Fault>
     ensures { place_read result ≡ message_end_at input.now at }
 {
-    match refusals::take_byte(input, at) {
-        ByteRead::Is { byte, next } => {
-            if byte == 0x00 {
-                PlaceRead::Is { next }
-            } else {
-                PlaceRead::Refused(Fault {
-                    error: ParseError::MsgEndMismatch,
-                    place: at,
-                })
-            }
-        }
-        ByteRead::Refused(f) => PlaceRead::Refused(f),
+    let (b, next) = refusals::take_byte(input, at)?;
+    if b != 0x00 {
+        return Err(ParseError::MsgEndMismatch.at(at));
     }
-}
-
-// u16::swap_bytes of the Rust: the CRC stands high byte first in a message.
-fn swap_bytes(x: u16) -> u16
-    ensures { result ≡ swapped x }
-{
-    x % 256 * 256 + x / 256
+    Ok(next)
 }
 
 // The CRC of the bytes from `start` up to `at`; of no bytes if `start` is behind `at`.
+#[tactic(auto, unfolding(crate::specs::Trailer::crc_from))]
 fn message_crc(input: &[u8], start: usize, at: usize) -> u16
     requires { at ≤ length input.now }
     ensures { result ≡ crc_from input.now start at }
@@ -43,32 +29,19 @@ fn message_crc(input: &[u8], start: usize, at: usize) -> u16
     if start <= at {
         return crc_x25::checksum(&input[start..at]);
     }
-    crc_x25::checksum(&input[at..at])
+    crc_x25::checksum(&[])
 }
 
-// The CRC and the end byte of the message that starts at `start`; the CRC's own length byte stands at `at`. Public for streaming.
-pub fn parse_trailer(input: &[u8], start: usize, at: usize) -> PlaceRead
+// The CRC and the end byte of the message that starts at `start`; the CRC's own length byte stands at `at`. It stands high byte first in a message. Public for streaming.
+#[tactic(auto, unfolding(crate::specs::Trailer::trailer_at, refusals::specs::Read::then, refusals::specs::Read::guard))]
+pub fn parse_trailer(input: &[u8], start: usize, at: usize) -> Result<usize, Fault>
     ensures { place_read result ≡ trailer_at input.now start at }
 {
-    let mut n = at;
-    let crc = match numbers::parse_u16(input, at) {
-        U16Read::Is { value, next } => {
-            n = next;
-            value
-        }
-        U16Read::Refused(f) => return PlaceRead::Refused(f),
-    };
-    match parse_message_end(input, n) {
-        PlaceRead::Is { next } => n = next,
-        PlaceRead::Refused(f) => return PlaceRead::Refused(f),
+    let (crc, n) = u16::parse(input, at)?;
+    let next = parse_message_end(input, n)?;
+    let digest = message_crc(input, start, at).swap_bytes();
+    if crc != digest {
+        return Err(ParseError::CrcMismatch.at(at));
     }
-    let digest = swap_bytes(message_crc(input, start, at));
-    if crc == digest {
-        PlaceRead::Is { next: n }
-    } else {
-        PlaceRead::Refused(Fault {
-            error: ParseError::CrcMismatch,
-            place: at,
-        })
-    }
+    Ok(next)
 }

@@ -1,96 +1,68 @@
-// Ports Time, Status and Value of parser/common.rs, and Option of parser/mod.rs for all but strings.
+// Ports Time, Status and Value of parser/common.rs.
 #![tactic(auto)]
 
-ghost use Rattle.std.specs.Prelude.{◌≡◌, ◌/◌, ◌^◌, ◌<◌};
+ghost use Rattle.std.specs.Prelude.{ℕ, ◌≡◌, ◌/◌, ◌^◌, ◌<◌};
 ghost use Rattle.std.specs.Int.Signed.{mag};
+ghost use Rattle.refusals.specs.Answers.{reads_as};
+ghost use Rattle.refusals.specs.declared.Span.{Span};
 ghost use Rattle.tlf.specs.declared.Ty.{Ty};
 ghost use Rattle.numbers.specs.Numbers.{unsigned_at, signed_at};
-ghost use Rattle.numbers.specs.Answers.{u32_read};
-ghost use Rattle.octet_string.specs.Optional.{optional};
-ghost use Rattle.value.specs.Values.{is_bare_time, time_at, narrowest, status_of, status_at, signed, unsigned, signed_value, unsigned_value, list_type_at, value_of_claim, value_at, list_time};
-ghost use Rattle.value.specs.Answers.{width_bytes, seconds, status, value, time_read, status_read, value_read, opt_u8_read, opt_i8_read, opt_time_read, opt_status_read};
+ghost use Rattle.value.specs.Values as ValueSpec;
+ghost use Rattle.value.specs.Values.{is_bare_time, time_at, narrowest, status_of, status_at, signed, unsigned, signed_value, unsigned_value, list_type_at, value_of_claim, value_at};
+ghost use Rattle.value.specs.Answers.{width_bytes, seconds, status, value};
 
-use numbers::{BoolRead, I8Read, I64Read, U8Read, U32Read, U64Read};
-use refusals::{Fault, ParseError, Span, SpanRead};
-use tlf::{PlaceRead, TlfRead, Ty, TypeLengthField};
+use numbers::SmlParse;
+use refusals::{ParseError, ResTy, Span};
+use tlf::{Ty, TypeLengthField};
 
 // Time::SecIndex of the Rust, its only variant.
-#[derive(Clone, Copy)]
+#[derive(Clone, Copy, PartialEq, Eq)]
 pub struct Time {
     pub sec_index: u32,
-}
-
-#[derive(Clone, Copy)]
-pub enum TimeRead {
-    Is { time: Time, next: usize },
-    Refused(Fault),
 }
 
 // Holley DTZ541 sends a bare u32 of four bytes where a Time should stand.
 fn is_bare_time(tlf: TypeLengthField) -> bool
     ensures { result ≡ is_bare_time tlf }
 {
-    let ty = tlf.ty;
-    match ty {
-        Ty::OctetString => false,
-        Ty::Boolean => false,
-        Ty::Integer => false,
-        Ty::Unsigned => tlf.len == 4,
-        Ty::ListOf => false,
-    }
+    tlf.ty == Ty::Unsigned && tlf.len == 4
 }
 
-// Time::SecIndex: the number that was read, as a time.
-fn sec_index(read: U32Read) -> TimeRead
-    ensures { time_read result ≡ u32_read read }
+// Time::SecIndex: a number that is read as a time.
+fn sec_index(input: &[u8], at: usize) -> ResTy<Time>
+    ensures { reads_as seconds result ≡ unsigned_at 4 input.now at }
 {
-    match read {
-        U32Read::Is { value, next } => TimeRead::Is {
-            time: Time { sec_index: value },
-            next,
-        },
-        U32Read::Refused(f) => TimeRead::Refused(f),
-    }
+    let (sec_index, next) = u32::parse(input, at)?;
+    Ok((Time { sec_index }, next))
 }
 
-// Time of common.rs: a list of two with tag 1, or a bare unsigned number of four bytes.
-pub fn parse_time(input: &[u8], at: usize) -> TimeRead
-    ensures { time_read result ≡ time_at input.now at }
-{
-    let mut n = at;
-    match TypeLengthField::parse(input, at) {
-        TlfRead::Is { tlf, next } => {
-            if is_bare_time(tlf) {
-                return sec_index(numbers::parse_u32(input, at));
-            }
-            if tlf.is_list_of(2) {
-                n = next;
-            } else {
-                return TimeRead::Refused(Fault {
-                    error: ParseError::TlfMismatch,
-                    place: at,
-                });
-            }
+impl SmlParse for Time {
+    ghost Meaning = { ℕ };
+
+    ghost means = { seconds };
+
+    ghost read_at = { time_at };
+
+    // Time of common.rs: a list of two with tag 1, or a bare unsigned number of four bytes.
+    #[tactic(auto, unfolding(crate::specs::Values::time_at, refusals::specs::Read::then, refusals::specs::Read::guard))]
+    fn parse(input: &[u8], at: usize) -> ResTy<Time> {
+        let (tlf, n) = TypeLengthField::parse(input, at)?;
+        if is_bare_time(tlf) {
+            return sec_index(input, at);
         }
-        TlfRead::Refused(f) => return TimeRead::Refused(f),
-    }
-    match numbers::parse_u8(input, n) {
-        U8Read::Is { value: tag, next } => {
-            if tag == 1 {
-                sec_index(numbers::parse_u32(input, next))
-            } else {
-                TimeRead::Refused(Fault {
-                    error: ParseError::UnexpectedVariant,
-                    place: n,
-                })
-            }
+        if !tlf.is_list_of(2) {
+            return Err(ParseError::TlfMismatch.at(at));
         }
-        U8Read::Refused(f) => TimeRead::Refused(f),
+        let (tag, next) = u8::parse(input, n)?;
+        if tag != 1 {
+            return Err(ParseError::UnexpectedVariant.at(n));
+        }
+        sec_index(input, next)
     }
 }
 
 // The widths that a number of a value or a status is given at, in bytes.
-#[derive(Clone, Copy)]
+#[derive(Clone, Copy, PartialEq, Eq)]
 enum Width {
     One,
     Two,
@@ -102,19 +74,15 @@ enum Width {
 fn width_of(len: u32) -> Width
     ensures { width_bytes result ≡ narrowest len }
 {
-    if len <= 1 {
-        return Width::One;
+    match len {
+        0 | 1 => Width::One,
+        2 => Width::Two,
+        3 | 4 => Width::Four,
+        _ => Width::Eight,
     }
-    if len <= 2 {
-        return Width::Two;
-    }
-    if len <= 4 {
-        return Width::Four;
-    }
-    Width::Eight
 }
 
-#[derive(Clone, Copy)]
+#[derive(Clone, Copy, PartialEq, Eq)]
 pub enum Status {
     Status8(u8),
     Status16(u16),
@@ -122,13 +90,7 @@ pub enum Status {
     Status64(u64),
 }
 
-#[derive(Clone, Copy)]
-pub enum StatusRead {
-    Is { status: Status, next: usize },
-    Refused(Fault),
-}
-
-// A number that such a width holds, as a status.
+// A number that such a width holds, as a status. It and the two like it are no twins to join: each arm makes another variant of another type.
 fn status_with(width: Width, number: u64) -> Status
     requires { number < 256 ^ width_bytes width }
     ensures { status result ≡ record { width = width_bytes width; number = number } }
@@ -142,36 +104,37 @@ fn status_with(width: Width, number: u64) -> Status
 }
 
 // The arms of Status's parse_with_tlf, in one: read at the widest, which finds what the narrowest that holds so many bytes finds, and given at that one.
-fn status_of(input: &[u8], at: usize, len: u32) -> StatusRead
+#[tactic(auto, unfolding(crate::specs::Values::status_of, refusals::specs::Read::then))]
+fn status_of(input: &[u8], at: usize, len: u32) -> ResTy<Status>
     requires { unsigned_at 8 input.now at ≡ unsigned_at (narrowest len) input.now at }
-    ensures { status_read result ≡ status_of (narrowest len) input.now at }
+    ensures { reads_as status result ≡ status_of (narrowest len) input.now at }
 {
-    match numbers::parse_u64(input, at) {
-        U64Read::Is { value, next } => StatusRead::Is {
-            status: status_with(width_of(len), value),
-            next,
-        },
-        U64Read::Refused(f) => StatusRead::Refused(f),
-    }
+    let (value, next) = u64::parse(input, at)?;
+    Ok((status_with(width_of(len), value), next))
 }
 
-// Status of common.rs: an unsigned number at the narrowest width that holds its length.
-pub fn parse_status(input: &[u8], at: usize) -> StatusRead
-    ensures { status_read result ≡ status_at input.now at }
-{
-    match TypeLengthField::parse(input, at) {
-        TlfRead::Is { tlf, next: _ } => status_of(input, at, tlf.len),
-        TlfRead::Refused(f) => StatusRead::Refused(f),
+impl SmlParse for Status {
+    ghost Meaning = { ValueSpec.Status };
+
+    ghost means = { status };
+
+    ghost read_at = { status_at };
+
+    // Status of common.rs: an unsigned number at the narrowest width that holds its length.
+    #[tactic(auto, unfolding(crate::specs::Values::status_at, refusals::specs::Read::then))]
+    fn parse(input: &[u8], at: usize) -> ResTy<Status> {
+        let (tlf, _) = TypeLengthField::parse(input, at)?;
+        status_of(input, at, tlf.len)
     }
 }
 
 // ListType::Time of the Rust, its only variant.
-#[derive(Clone, Copy)]
+#[derive(Clone, Copy, PartialEq, Eq)]
 pub struct ListType {
     pub time: Time,
 }
 
-#[derive(Clone, Copy)]
+#[derive(Clone, Copy, PartialEq, Eq)]
 pub enum Value {
     Bool(bool),
     Bytes(Span),
@@ -186,36 +149,22 @@ pub enum Value {
     List(ListType),
 }
 
-#[derive(Clone, Copy)]
-pub enum ValueRead {
-    Is { value: Value, next: usize },
-    Refused(Fault),
-}
-
 // The arm bool of Value's parse_with_tlf.
-fn bool_value(input: &[u8], at: usize) -> ValueRead
-    ensures { value_read result ≡ value_of_claim Ty.Boolean 0 input.now at }
+#[tactic(auto, unfolding(crate::specs::Values::value_of_claim, refusals::specs::Read::then))]
+fn bool_value(input: &[u8], at: usize) -> ResTy<Value>
+    ensures { reads_as value result ≡ value_of_claim Ty.Boolean 0 input.now at }
 {
-    match numbers::parse_bool(input, at) {
-        BoolRead::Is { value, next } => ValueRead::Is {
-            value: Value::Bool(value),
-            next,
-        },
-        BoolRead::Refused(f) => ValueRead::Refused(f),
-    }
+    let (b, next) = bool::parse(input, at)?;
+    Ok((Value::Bool(b), next))
 }
 
 // The arm OctetStr of Value's parse_with_tlf.
-fn bytes_value(input: &[u8], at: usize) -> ValueRead
-    ensures { value_read result ≡ value_of_claim Ty.OctetString 0 input.now at }
+#[tactic(auto, unfolding(crate::specs::Values::value_of_claim, refusals::specs::Read::then))]
+fn bytes_value(input: &[u8], at: usize) -> ResTy<Value>
+    ensures { reads_as value result ≡ value_of_claim Ty.OctetString 0 input.now at }
 {
-    match octet_string::parse_octet_str(input, at) {
-        SpanRead::Is { span, next } => ValueRead::Is {
-            value: Value::Bytes(span),
-            next,
-        },
-        SpanRead::Refused(f) => ValueRead::Refused(f),
-    }
+    let (span, next) = Span::parse(input, at)?;
+    Ok((Value::Bytes(span), next))
 }
 
 // An integer that such a width holds, as a value.
@@ -232,17 +181,13 @@ fn signed_with(width: Width, number: i64) -> Value
 }
 
 // The arms i8 to i64 of Value's parse_with_tlf, in one, as for a status.
-fn signed_value(input: &[u8], at: usize, len: u32) -> ValueRead
+#[tactic(auto, unfolding(crate::specs::Values::signed_value, refusals::specs::Read::then))]
+fn signed_value(input: &[u8], at: usize, len: u32) -> ResTy<Value>
     requires { signed_at 8 input.now at ≡ signed_at (narrowest len) input.now at }
-    ensures { value_read result ≡ signed_value (narrowest len) input.now at }
+    ensures { reads_as value result ≡ signed_value (narrowest len) input.now at }
 {
-    match numbers::parse_i64(input, at) {
-        I64Read::Is { value, next } => ValueRead::Is {
-            value: signed_with(width_of(len), value),
-            next,
-        },
-        I64Read::Refused(f) => ValueRead::Refused(f),
-    }
+    let (number, next) = i64::parse(input, at)?;
+    Ok((signed_with(width_of(len), number), next))
 }
 
 // A number that such a width holds, as a value.
@@ -259,197 +204,46 @@ fn unsigned_with(width: Width, number: u64) -> Value
 }
 
 // The arms u8 to u64 of Value's parse_with_tlf, in one, as for a status.
-fn unsigned_value(input: &[u8], at: usize, len: u32) -> ValueRead
+#[tactic(auto, unfolding(crate::specs::Values::unsigned_value, refusals::specs::Read::then))]
+fn unsigned_value(input: &[u8], at: usize, len: u32) -> ResTy<Value>
     requires { unsigned_at 8 input.now at ≡ unsigned_at (narrowest len) input.now at }
-    ensures { value_read result ≡ unsigned_value (narrowest len) input.now at }
+    ensures { reads_as value result ≡ unsigned_value (narrowest len) input.now at }
 {
-    match numbers::parse_u64(input, at) {
-        U64Read::Is { value, next } => ValueRead::Is {
-            value: unsigned_with(width_of(len), value),
-            next,
-        },
-        U64Read::Refused(f) => ValueRead::Refused(f),
-    }
-}
-
-// A list value is a time: as a call, its view computes in the caller's proof.
-fn list_value(time: Time) -> Value
-    ensures { value result ≡ list_time (seconds time) }
-{
-    Value::List(ListType { time })
+    let (number, next) = u64::parse(input, at)?;
+    Ok((unsigned_with(width_of(len), number), next))
 }
 
 // ListType of common.rs: a list of two, tag 1 and a time.
-fn parse_list_type(input: &[u8], at: usize) -> ValueRead
-    ensures { value_read result ≡ list_type_at input.now at }
+#[tactic(auto, unfolding(crate::specs::Values::list_type_at, refusals::specs::Read::then, refusals::specs::Read::guard))]
+fn parse_list_type(input: &[u8], at: usize) -> ResTy<Value>
+    ensures { reads_as value result ≡ list_type_at input.now at }
 {
-    let mut n = at;
-    match tlf::parse_list_of(input, at, 2) {
-        PlaceRead::Is { next } => n = next,
-        PlaceRead::Refused(f) => return ValueRead::Refused(f),
+    let n = tlf::parse_list_of(input, at, 2)?;
+    let (tag, next) = u8::parse(input, n)?;
+    if tag != 1 {
+        return Err(ParseError::UnexpectedVariant.at(n));
     }
-    let mut after = n;
-    match numbers::parse_u8(input, n) {
-        U8Read::Is { value: tag, next } => {
-            if tag == 1 {
-                after = next;
-            } else {
-                return ValueRead::Refused(Fault {
-                    error: ParseError::UnexpectedVariant,
-                    place: n,
-                });
-            }
+    let (time, end) = Time::parse(input, next)?;
+    Ok((Value::List(ListType { time }), end))
+}
+
+impl SmlParse for Value {
+    ghost Meaning = { ValueSpec.Value Span };
+
+    ghost means = { value };
+
+    ghost read_at = { value_at };
+
+    // Value of common.rs: by its type, and a number at the narrowest width that holds its length.
+    #[tactic(auto, unfolding(crate::specs::Values::value_at, crate::specs::Values::value_of_claim, refusals::specs::Read::then))]
+    fn parse(input: &[u8], at: usize) -> ResTy<Value> {
+        let (tlf, _) = TypeLengthField::parse(input, at)?;
+        match tlf.ty {
+            Ty::Boolean => bool_value(input, at),
+            Ty::OctetString => bytes_value(input, at),
+            Ty::Integer => signed_value(input, at, tlf.len),
+            Ty::Unsigned => unsigned_value(input, at, tlf.len),
+            Ty::ListOf => parse_list_type(input, at),
         }
-        U8Read::Refused(f) => return ValueRead::Refused(f),
-    }
-    match parse_time(input, after) {
-        TimeRead::Is { time, next } => ValueRead::Is {
-            value: list_value(time),
-            next,
-        },
-        TimeRead::Refused(f) => ValueRead::Refused(f),
-    }
-}
-
-// Value of common.rs: by its type, and a number at the narrowest width that holds its length.
-pub fn parse_value(input: &[u8], at: usize) -> ValueRead
-    ensures { value_read result ≡ value_at input.now at }
-{
-    match TypeLengthField::parse(input, at) {
-        TlfRead::Is { tlf, next: _ } => {
-            let ty = tlf.ty;
-            match ty {
-                Ty::Boolean => bool_value(input, at),
-                Ty::OctetString => bytes_value(input, at),
-                Ty::Integer => signed_value(input, at, tlf.len),
-                Ty::Unsigned => unsigned_value(input, at, tlf.len),
-                Ty::ListOf => parse_list_type(input, at),
-            }
-        }
-        TlfRead::Refused(f) => ValueRead::Refused(f),
-    }
-}
-
-#[derive(Clone, Copy)]
-pub enum OptU8 {
-    Present(u8),
-    Absent,
-}
-
-#[derive(Clone, Copy)]
-pub enum OptU8Read {
-    Is { field: OptU8, next: usize },
-    Refused(Fault),
-}
-
-// Option<u8>: absent is the one byte 01.
-pub fn parse_opt_u8(input: &[u8], at: usize) -> OptU8Read
-    ensures { opt_u8_read result ≡ optional (unsigned_at 1) input.now at }
-{
-    if octet_string::is_absent(input, at) {
-        return OptU8Read::Is {
-            field: OptU8::Absent,
-            next: at + 1,
-        };
-    }
-    match numbers::parse_u8(input, at) {
-        U8Read::Is { value, next } => OptU8Read::Is {
-            field: OptU8::Present(value),
-            next,
-        },
-        U8Read::Refused(f) => OptU8Read::Refused(f),
-    }
-}
-
-#[derive(Clone, Copy)]
-pub enum OptI8 {
-    Present(i8),
-    Absent,
-}
-
-#[derive(Clone, Copy)]
-pub enum OptI8Read {
-    Is { field: OptI8, next: usize },
-    Refused(Fault),
-}
-
-// Option<i8>.
-pub fn parse_opt_i8(input: &[u8], at: usize) -> OptI8Read
-    ensures { opt_i8_read result ≡ optional (signed_at 1) input.now at }
-{
-    if octet_string::is_absent(input, at) {
-        return OptI8Read::Is {
-            field: OptI8::Absent,
-            next: at + 1,
-        };
-    }
-    match numbers::parse_i8(input, at) {
-        I8Read::Is { value, next } => OptI8Read::Is {
-            field: OptI8::Present(value),
-            next,
-        },
-        I8Read::Refused(f) => OptI8Read::Refused(f),
-    }
-}
-
-#[derive(Clone, Copy)]
-pub enum OptTime {
-    Present(Time),
-    Absent,
-}
-
-#[derive(Clone, Copy)]
-pub enum OptTimeRead {
-    Is { field: OptTime, next: usize },
-    Refused(Fault),
-}
-
-// Option<Time>.
-pub fn parse_opt_time(input: &[u8], at: usize) -> OptTimeRead
-    ensures { opt_time_read result ≡ optional time_at input.now at }
-{
-    if octet_string::is_absent(input, at) {
-        return OptTimeRead::Is {
-            field: OptTime::Absent,
-            next: at + 1,
-        };
-    }
-    match parse_time(input, at) {
-        TimeRead::Is { time, next } => OptTimeRead::Is {
-            field: OptTime::Present(time),
-            next,
-        },
-        TimeRead::Refused(f) => OptTimeRead::Refused(f),
-    }
-}
-
-#[derive(Clone, Copy)]
-pub enum OptStatus {
-    Present(Status),
-    Absent,
-}
-
-#[derive(Clone, Copy)]
-pub enum OptStatusRead {
-    Is { field: OptStatus, next: usize },
-    Refused(Fault),
-}
-
-// Option<Status>.
-pub fn parse_opt_status(input: &[u8], at: usize) -> OptStatusRead
-    ensures { opt_status_read result ≡ optional status_at input.now at }
-{
-    if octet_string::is_absent(input, at) {
-        return OptStatusRead::Is {
-            field: OptStatus::Absent,
-            next: at + 1,
-        };
-    }
-    match parse_status(input, at) {
-        StatusRead::Is { status, next } => OptStatusRead::Is {
-            field: OptStatus::Present(status),
-            next,
-        },
-        StatusRead::Refused(f) => OptStatusRead::Refused(f),
     }
 }

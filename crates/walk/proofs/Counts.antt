@@ -10,20 +10,15 @@ use Rattle.refusals.proofs.Read.{Ok, ok_got, ok_then, ok_weak, Ahead}
 use Rattle.walk.specs.Walk.{Item, end_mark, leaf, list_item}
 use Rattle.walk.specs.Cut.{elements_at, behind_item, element_by, element_at}
 use Rattle.walk.proofs.Items.{item_ok}
-use Rattle.walk.proofs.Ties.{inner_of}
 
-pub inner_more : (d : ℕ) (s : List ℕ) → (d ≡ 0 → ⊥) → inner_of d s ≡ some (element_at (d - 1) s)
-inner_more zero s h = absurd (h refl)
-inner_more (suc d) s h = let e : suc d - 1 ≡ d = omega arith in rw e
-
-pub row_more : (read : ℕ → Read ℕ) (k sum n : ℕ) → 0 < k → elements_at read k sum n ≡ then (read n) λ a m. elements_at read (k - 1) (sum + a) m
+-- where `j` of `k` elements are read, one is read next, or none is left
+pub row_more : (read : ℕ → Read ℕ) (k j sum n : ℕ) → j < k → elements_at read (k - j) sum n ≡ then (read n) λ a m. elements_at read (k - (j + 1)) (sum + a) m
 unfolding elements_at
-row_more read zero sum n h = absurd (omega arith)
-row_more read (suc k) sum n h = let e : suc k - 1 ≡ k = omega arith in rw e
+row_more read k j sum n h = let e : k - j ≡ suc (k - (j + 1)) = omega arith in rw e
 
-pub row_none : (read : ℕ → Read ℕ) (k sum n : ℕ) → k ≡ 0 → elements_at read k sum n ≡ got sum n
+pub row_none : (read : ℕ → Read ℕ) (k j sum n : ℕ) → k ≤ j → elements_at read (k - j) sum n ≡ got sum n
 unfolding elements_at
-row_none read k sum n h = rw h
+row_none read k j sum n h = let e : k - j ≡ zero = omega arith in rw e
 
 -- an element from `at` to `n` of `a` leaves
 pub record CountsLeaves (s : List ℕ) (at a n : ℕ) : Type 0 where

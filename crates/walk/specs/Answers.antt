@@ -1,29 +1,34 @@
 -- view: the documents' number and values for each answer of the walk.
-use Rattle.std.specs.Prelude.{ℕ}
+use Rattle.std.specs.Prelude.{ℕ, Result, Ok, Err}
+use Rattle.std.proofs.Math.Option.{Option, some, none}
 use Rattle.refusals.specs.Numbers.{input_too_long_no}
 use Rattle.refusals.specs.Read.{Read, got, refused}
-use Rattle.refusals.specs.Answers.{fault_of}
+use Rattle.refusals.specs.Answers.{fault_of, reads_as}
+use Rattle.refusals.specs.declared.Fault.{Fault}
 use Rattle.walk.specs.Walk.{Item, end_mark, leaf, list_item, too_deep, WalkSaid, walk_is, walk_broken, walk_refused}
-use Rattle.walk.specs.declared.ItemRead.{ItemRead}
-use Rattle.walk.specs.declared.ItemRead.TheVariants as ItemR
-use Rattle.walk.specs.declared.Reached.{Reached}
-use Rattle.walk.specs.declared.Reached.TheVariants as ReachedC
-use Rattle.walk.specs.declared.Walked.{Walked}
-use Rattle.walk.specs.declared.Walked.TheVariants as WalkedC
+use Rattle.walk.specs.declared.Item as Items
+use Rattle.walk.specs.declared.Item.TheVariants as ItemC
+use Rattle.walk.specs.declared.Extent.{Extent}
+use Rattle.walk.specs.declared.WalkError.{WalkError}
+use Rattle.walk.specs.declared.WalkError.TheVariants as WalkErrorC
 
-abbrev pub item_read : ItemRead → Read Item
-item_read (ItemR.EndMark next) = got end_mark next
-item_read (ItemR.Leaf ty content next) = got (leaf ty content) next
-item_read (ItemR.List count next) = got (list_item count) next
-item_read (ItemR.Refused f) = refused (fault_of f)
+abbrev pub item_of : Items.Item → Item
+item_of ItemC.EndMark = end_mark
+item_of (ItemC.Leaf ty content) = leaf ty content
+item_of (ItemC.List count) = list_item count
 
-abbrev pub reached : Reached → Read ℕ
-reached (ReachedC.Is leaves next) = got leaves next
-reached (ReachedC.Refused f) = refused (fault_of f)
-reached (ReachedC.TooDeep place) = refused (too_deep place)
+abbrev pub item_read : Result (Items.Item × ℕ) Fault → Read Item
+item_read = reads_as item_of
 
-abbrev pub walked : Walked → WalkSaid
-walked (WalkedC.Is bytes leaves) = walk_is bytes leaves
-walked (WalkedC.Refused f) = walk_broken (fault_of f)
-walked (WalkedC.TooDeep place) = walk_broken (too_deep place)
-walked WalkedC.InputTooLong = walk_refused input_too_long_no
+-- none: 9, which is judged before any element
+abbrev pub reached : Result (ℕ × ℕ) WalkError → Option (Read ℕ)
+reached (Ok r) = some (got r.0 r.1)
+reached (Err (WalkErrorC.Fault f)) = some (refused (fault_of f))
+reached (Err (WalkErrorC.TooDeep place)) = some (refused (too_deep place))
+reached (Err WalkErrorC.InputTooLong) = none
+
+abbrev pub walked : Result Extent WalkError → WalkSaid
+walked (Ok extent) = walk_is extent.bytes extent.leaves
+walked (Err (WalkErrorC.Fault f)) = walk_broken (fault_of f)
+walked (Err (WalkErrorC.TooDeep place)) = walk_broken (too_deep place)
+walked (Err WalkErrorC.InputTooLong) = walk_refused input_too_long_no

@@ -1,50 +1,44 @@
 -- The view can be undone, so the contract allows one outcome for each input.
 use mathlib.Core.Path.{◌≡◌, refl, ap}
 use mathlib.Core.Bool.{cond}
-use mathlib.Core.Option.{Option, some, none}
+use Prim.Native.Nat.{ℕ}
 use lib.Dec.{eqb}
+use Rattle.std.specs.Prelude.{Result, Ok, Err}
 use Rattle.refusals.specs.Numbers.{bad_state_no, input_too_long_no}
-use Rattle.refusals.specs.declared.Span.{Span}
-use Rattle.refusals.proofs.Undone.{fault_from, fault_back}
-use Rattle.message.specs.Messages.{ListEnd}
+use Rattle.refusals.proofs.Undone.{fault_from, fault_back, field_from, field_back}
+use Rattle.message.specs.Answers.{list_end}
 use Rattle.message.proofs.Decided.{list_end_from, list_end_back, start_from, start_back_lem}
 use Rattle.whole.specs.Whole.{WholeSaid, whole_is, broken, refused_alone, AfterWhole}
-use Rattle.whole.specs.Answers.{opt_list_end, whole_read, after_whole}
-use Rattle.whole.specs.declared.OptListEnd.{OptListEnd}
-use Rattle.whole.specs.declared.OptListEnd.TheVariants as EndC
-use Rattle.whole.specs.declared.WholeRead.{WholeRead}
-use Rattle.whole.specs.declared.WholeRead.TheVariants as WholeR
+use Rattle.whole.specs.Answers.{whole_read, after_whole}
+use Rattle.whole.specs.declared.WholeMessage.{WholeMessage}
+use Rattle.whole.specs.declared.WholeError.{WholeError}
+use Rattle.whole.specs.declared.WholeError.TheVariants as Errors
 use Rattle.decided.specs.One.{With}
 use Rattle.decided.proofs.Laws.{injective, undone}
 use Rattle.whole.specs.Decided.{Views, Decided}
 
-opt_list_end_from : Option (ListEnd Span) → OptListEnd
-opt_list_end_from (some e) = EndC.Present (list_end_from e)
-opt_list_end_from none = EndC.Absent
+-- 9, 4 and 20 stand at no place
+unfoldable pub alone_from : ℕ → WholeError
+alone_from n = cond (eqb n input_too_long_no) Errors.InputTooLong (cond (eqb n bad_state_no) Errors.BadState Errors.TooManyEntries)
 
-opt_list_end_back : (x : OptListEnd) → opt_list_end_from (opt_list_end x) ≡ x
-unfolding opt_list_end_from
-opt_list_end_back (EndC.Present x) = ap EndC.Present (list_end_back x)
-opt_list_end_back EndC.Absent = refl
+-- every other refusal is a reading's
+whole_from : WholeSaid → Result WholeMessage WholeError
+whole_from (whole_is start end rows next) = Ok (record { start = start_from start; end = field_from list_end_from end; rows = rows; next = next })
+whole_from (broken f) = Err (Errors.Fault (fault_from f))
+whole_from (refused_alone n) = Err (alone_from n)
 
--- 9, 4 and 20 stand at no place, every other refusal is a reading's
-whole_from : WholeSaid → WholeRead
-whole_from (whole_is start end rows next) = WholeR.Is (start_from start) (opt_list_end_from end) rows next
-whole_from (broken f) = WholeR.Refused (fault_from f)
-whole_from (refused_alone n) = cond (eqb n input_too_long_no) WholeR.InputTooLong (cond (eqb n bad_state_no) WholeR.BadState WholeR.TooManyEntries)
+whole_back : (r : Result WholeMessage WholeError) → whole_from (whole_read r) ≡ r
+unfolding whole_from alone_from
+whole_back (Ok m) =
+    let a = start_back_lem m.start in
+    let b = field_back list_end list_end_from list_end_back m.end in
+    λ i. Ok (record { start = a i; end = b i; rows = m.rows; next = m.next })
+whole_back (Err (Errors.Fault f)) = ap (λ g. Err (Errors.Fault g)) (fault_back f)
+whole_back (Err Errors.InputTooLong) = refl
+whole_back (Err Errors.BadState) = refl
+whole_back (Err Errors.TooManyEntries) = refl
 
-whole_back : (r : WholeRead) → whole_from (whole_read r) ≡ r
-unfolding whole_from
-whole_back (WholeR.Is start end rows next) =
-    let a = start_back_lem start in
-    let b = opt_list_end_back end in
-    λ i. WholeR.Is (a i) (b i) rows next
-whole_back (WholeR.Refused f) = ap WholeR.Refused (fault_back f)
-whole_back WholeR.InputTooLong = refl
-whole_back WholeR.BadState = refl
-whole_back WholeR.TooManyEntries = refl
-
-whole_one : (r r' : With WholeRead) → after_whole (whole_read r.answer) r.memory ≡ after_whole (whole_read r'.answer) r'.memory → r ≡ r'
+whole_one : (r r' : With (Result WholeMessage WholeError)) → after_whole (whole_read r.answer) r.memory ≡ after_whole (whole_read r'.answer) r'.memory → r ≡ r'
 whole_one r r' h =
     let a : r.answer ≡ r'.answer = undone whole_read whole_from whole_back _ _ (ap (λ (l : AfterWhole). l.answer) h) in
     let m : r.memory ≡ r'.memory = ap (λ (l : AfterWhole). l.table) h in
@@ -54,4 +48,4 @@ pub views : Views
 views = record { whole = whole_one }
 
 pub decided : Decided
-decided = record { read_message_claim = λ input at table. injective (λ (r : With WholeRead). after_whole (whole_read r.answer) r.memory) views.whole _ }
+decided = record { read_message_claim = λ input at table. injective (λ (r : With (Result WholeMessage WholeError)). after_whole (whole_read r.answer) r.memory) views.whole _ }

@@ -1,5 +1,5 @@
 -- The two passes find what the definition says: the first refuses where it does, and the rows of the second are its rows.
-use mathlib.Core.Path.{◌≡◌, refl, ◌∙◌}
+use mathlib.Core.Path.{◌≡◌, refl, sym, ◌∙◌}
 use mathlib.Core.Bool.{Bool, true, false, cond}
 use mathlib.Core.List.{List, [], ◌∷◌, ◌++◌}
 use mathlib.Core.Option.{Option, some, none}
@@ -116,5 +116,5 @@ fill_passes s t (held_passed start behind end rows next h) = rw (← h.count) (b
         let m = (rw (← h.count) at (h.stored 0 t)) ∙ rows_first t rows (omega arith) in
         λ i. record { answer = whole_is start end (length rows) next; table = m i }
 
-pub fill_is : (s : List ℕ) (at : ℕ) (t : List ℕ) → fill_from (pass_at s at) s t ≡ fill_to (whole_at s at) t
-fill_is s at t = fill_passes s t (pass_is s at)
+pub fill_is : (s : List ℕ) (at : ℕ) (t : List ℕ) → fill_to (whole_at s at) t ≡ fill_from (pass_at s at) s t
+fill_is s at t = sym (fill_passes s t (pass_is s at))

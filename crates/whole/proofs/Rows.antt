@@ -1,10 +1,11 @@
 -- Rows: where they stand, how they are stored, and what the table holds then.
-use mathlib.Core.Path.{◌≡◌, refl, ap}
-use mathlib.Core.List.{List, [], ◌∷◌, ◌++◌}
+use mathlib.Core.Path.{◌≡◌, refl, sym, ap, ◌∙◌}
+use mathlib.Core.List.{List, [], ◌∷◌, ◌++◌, append_assoc}
 use Prim.Native.Nat.{ℕ, zero, suc, ◌+◌, ◌*◌, ◌≤◌}
 use native.Mathlib.Omega.{arith}
-use lib.ListN.{length, drop}
-use lib.Seq.{sets, sets-eq}
+use lib.ListN.{length, take, drop}
+use lib.Seq.{sets, sets-eq, drop-drop}
+use borrow.Rule.Slice.PartMut.{put_mid}
 use Rattle.refusals.specs.Read.{got, many}
 use Rattle.refusals.proofs.Read.{Ok, ok_any, ok_got, ok_then}
 use Rattle.whole.specs.Whole.{EntryRow, row_at, rows_at, flat}
@@ -43,3 +44,10 @@ rows_first t rows h =
     let l = flat_length rows in
     let z : 0 + length (flat rows) ≡ 4 * length rows = omega arith in
     rw (← z) (sets-eq (flat rows) t 0 (omega arith))
+
+-- a row copied into the table's middle is its numbers stored one by one
+pub copied_sets : (t u row : List ℕ) (a k : ℕ) → u ≡ row → length row ≡ k → a + k ≤ length t → put_mid a k t u ≡ sets t a row
+copied_sets t u row a k e l h =
+    let m : drop k (drop a t) ≡ drop (a + length row) t = drop-drop k a t ∙ ap (λ (n : ℕ). drop (a + n) t) (sym l) in
+    let w : put_mid a k t u ≡ take a t ++ (row ++ drop (a + length row) t) = λ i. take a t ++ (e i ++ m i) in
+    w ∙ sym (append_assoc (take a t) row _) ∙ sym (sets-eq row t a (omega arith))

@@ -3,7 +3,6 @@ use Rattle.std.specs.Prelude.{ℕ, zero, suc, ◌+◌, ◌*◌, List, [], ◌∷
 use Rattle.std.proofs.Math.Option.{Option, some, none}
 use Rattle.std.proofs.lemmas.List.Edits.{sets}
 use Rattle.refusals.specs.Read.{Read, got, refused, then}
-use Rattle.refusals.specs.Answers.{fault_of}
 use Rattle.refusals.specs.declared.Span.{Span}
 use Rattle.common.specs.Fields.{entry_at}
 use Rattle.message.specs.Messages.{MessageStart, ListEnd, Body, open_body, close_body, list_body, start_at, list_end_at}
@@ -11,10 +10,7 @@ use Rattle.message.specs.Answers.{message_start}
 use Rattle.trailer.specs.Trailer.{trailer_at}
 use Rattle.whole.specs.Whole.{EntryRow, row_at}
 use Rattle.whole.specs.Answers.{opt_list_end}
-use Rattle.whole.specs.declared.EndRead.{EndRead}
-use Rattle.whole.specs.declared.EndRead.TheVariants as EndR
-use Rattle.whole.specs.declared.PassRead.{PassRead}
-use Rattle.whole.specs.declared.PassRead.TheVariants as PassR
+use Rattle.whole.specs.declared.Passed.{Passed}
 
 abbrev pub entries_of : {T : Type 0} → Body T → ℕ
 entries_of (open_body b) = 0
@@ -36,10 +32,6 @@ end_at (open_body b) s at = got none at
 end_at (close_body b) s at = got none at
 end_at (list_body b) s at = list_end_behind b.num_vals s at
 
-abbrev pub end_read : EndRead → Read (Option (ListEnd Span))
-end_read (EndR.Is end next) = got (opt_list_end end) next
-end_read (EndR.Refused f) = refused (fault_of f)
-
 -- a message without its rows, and where they stand
 pub record PassedMessage : Type 0 where
   pub start : MessageStart Span
@@ -53,9 +45,8 @@ pass_at s at =
     then (trailer_at s at n₂) λ trailer n₃.
     got (record { start = start; behind = n₁; end = end }) n₃
 
-abbrev pub pass_read : PassRead → Read PassedMessage
-pass_read (PassR.Is x next) = got (record { start = message_start x.start; behind = x.behind; end = opt_list_end x.end }) next
-pass_read (PassR.Refused f) = refused (fault_of f)
+abbrev pub passed_message : Passed → PassedMessage
+passed_message x = record { start = message_start x.start; behind = x.behind; end = opt_list_end x.end }
 
 -- a row's four numbers at row i
 abbrev pub put_row : List ℕ → ℕ → EntryRow → List ℕ

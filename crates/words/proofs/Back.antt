@@ -1,12 +1,13 @@
 -- What is read from words that are an event's is the event, and what is taken has these words and stands within its types.
 use mathlib.Core.Path.{◌≡◌, refl, sym, ap, subst, ◌∙◌}
-use mathlib.Core.Bool.{Bool, true, false, cond}
+use mathlib.Core.Bool.{Bool, true, false, cond, ◌&&◌}
 use mathlib.Core.List.{List, [], ◌∷◌}
 use mathlib.Core.Option.{Option, some, none}
 use Prim.Native.Nat.{ℕ, suc, ◌+◌, ◌-◌, ◌/◌, ◌^◌, ◌≤◌, ◌<◌}
 use native.Mathlib.Omega.{arith}
 use lib.IntN.{ℤ, pos, negsuc}
 use lib.Dec.{eqb}
+use lib.Pointwise.{pointwise}
 use lib.Signed.{mag}
 use borrow.Author.Tests.{lt-ltb, le-ltb}
 use Rattle.refusals.specs.declared.Span.{Span}
@@ -25,17 +26,25 @@ use Rattle.words.proofs.Parts.{present_word, part_in, span_words_lem, span_back,
 
 -- ---- the code's two outcomes
 
-module _ (e : MessageEvent Span) (w v : List ℕ) (t : Bool) (is : e ≡ event_back w) (theirs : v ≡ event_words (event e)) (test : t ≡ same v w) where
-  test' : t ≡ same (event_words (event (event_back w))) w
-  test' = test ∙ ap (λ (x : List ℕ). same x w) theirs ∙ ap (λ (x : MessageEvent Span). same (event_words (event x)) w) is
+and_test : (s t : Bool) → (s && t) ≡ cond s t false
+and_test true t = refl
+and_test false t = refl
 
-  pub words_kept : t ≡ true → some e ≡ event_of w
-  unfolding event_of
-  words_kept h = rw (← test', h) (ap some is)
+pointwise_same : (a b : List ℕ) → pointwise eqb a b ≡ same a b
+unfolding same
+pointwise_same [] [] = refl
+pointwise_same [] (y ∷ b) = refl
+pointwise_same (x ∷ a) [] = refl
+pointwise_same (x ∷ a) (y ∷ b) = rw (pointwise_same a b) (and_test (eqb x y) (same a b))
 
-  pub words_left : t ≡ false → none ≡ event_of w
+module _ (e : MessageEvent Span) (w v : List ℕ) (is : e ≡ event_back w) (theirs : v ≡ event_words (event e)) where
+  pub words_kept : true ≡ pointwise eqb v w → some e ≡ event_of w
   unfolding event_of
-  words_left h = rw (← test', h)
+  words_kept h = rw (← is, ← theirs, ← pointwise_same v w, ← h)
+
+  pub words_left : false ≡ pointwise eqb v w → none ≡ event_of w
+  unfolding event_of
+  words_left h = rw (← is, ← theirs, ← pointwise_same v w, ← h)
 
 -- ---- numbers
 

@@ -1,28 +1,15 @@
 -- The view can be undone, so a contract allows one outcome for each input.
-use mathlib.Core.Path.{◌≡◌, refl, ap}
-use mathlib.Core.Option.{Option, some, none}
-use Rattle.refusals.specs.declared.Span.{Span}
-use Rattle.streaming.specs.Next.{MessageEvent}
+use Rattle.refusals.proofs.Undone.{opt_once}
+use Rattle.streaming.specs.Answers.{parse_event}
 use Rattle.streaming.proofs.Decided.{parse_event_from, parse_event_back}
 use Rattle.decided.proofs.Laws.{injective, one_outcome, undone}
 use Rattle.words.specs.Answers.{opt_event}
-use Rattle.words.specs.declared.OptEvent.{OptEvent}
-use Rattle.words.specs.declared.OptEvent.TheVariants.{Present, Absent}
 use Rattle.words.specs.Decided.{Views, Decided}
-
-opt_event_from : Option (MessageEvent Span) → OptEvent
-opt_event_from (some e) = Present (parse_event_from e)
-opt_event_from none = Absent
-
-opt_parse_event_back : (x : OptEvent) → opt_event_from (opt_event x) ≡ x
-unfolding opt_event_from
-opt_parse_event_back (Present e) = ap Present (parse_event_back e)
-opt_parse_event_back Absent = refl
 
 pub views : Views
 views =
     record {
-      event = undone opt_event opt_event_from opt_parse_event_back;
+      event = opt_once parse_event (undone parse_event parse_event_from parse_event_back);
     }
 
 pub decided : Decided

@@ -15,44 +15,44 @@ use Rattle.message.specs.Messages.{open_body, close_body, list_body}
 use Rattle.streaming.specs.Next.{start_event, entry_event, end_event, event, no_event, failed, alone}
 use Rattle.words.specs.Words.{twos_complement, value_words, with_zeros, event_words}
 
-abbrev at : ℕ → ℕ → Span
-at start len = record { start = start; len = len }
+abbrev span_from : ℕ → ℕ → Span
+span_from start len = record { start = start; len = len }
 
 no_event_in_words : event_words no_event ≡ replicate 24 0
 unfolding with_zeros
 no_event_in_words = refl
 
-open_in_words : event_words (event (start_event (record { transaction_id = at 2 4; group_no = 7; abort_on_error = 9; message_body = open_body (record { codepage = some (at 20 3); client_id = none; req_file_id = at 30 4; server_id = at 40 5; ref_time = some 600; sml_version = some 6 }) })))
+open_in_words : event_words (event (start_event (record { transaction_id = span_from 2 4; group_no = 7; abort_on_error = 9; message_body = open_body (record { codepage = some (span_from 20 3); client_id = none; req_file_id = span_from 30 4; server_id = span_from 40 5; ref_time = some 600; sml_version = some 6 }) })))
     ≡ 1 ∷ 2 ∷ 4 ∷ 7 ∷ 9 ∷ 1 ∷ 1 ∷ 20 ∷ 3 ∷ 0 ∷ 0 ∷ 0 ∷ 30 ∷ 4 ∷ 40 ∷ 5 ∷ 1 ∷ 600 ∷ 1 ∷ 6 ∷ 0 ∷ 0 ∷ 0 ∷ 0 ∷ []
 unfolding with_zeros
 open_in_words = refl
 
-close_in_words : event_words (event (start_event (record { transaction_id = at 2 4; group_no = 7; abort_on_error = 9; message_body = close_body (record { global_signature = some (at 50 6) }) })))
+close_in_words : event_words (event (start_event (record { transaction_id = span_from 2 4; group_no = 7; abort_on_error = 9; message_body = close_body (record { global_signature = some (span_from 50 6) }) })))
     ≡ 1 ∷ 2 ∷ 4 ∷ 7 ∷ 9 ∷ 2 ∷ 1 ∷ 50 ∷ 6 ∷ replicate 15 0
 unfolding with_zeros
 close_in_words = refl
 
-list_in_words : event_words (event (start_event (record { transaction_id = at 2 4; group_no = 7; abort_on_error = 9; message_body = list_body (record { client_id = some (at 11 12); server_id = at 13 14; list_name = some (at 15 16); act_sensor_time = some 17; num_vals = 18 }) })))
+list_in_words : event_words (event (start_event (record { transaction_id = span_from 2 4; group_no = 7; abort_on_error = 9; message_body = list_body (record { client_id = some (span_from 11 12); server_id = span_from 13 14; list_name = some (span_from 15 16); act_sensor_time = some 17; num_vals = 18 }) })))
     ≡ 1 ∷ 2 ∷ 4 ∷ 7 ∷ 9 ∷ 3 ∷ 1 ∷ 11 ∷ 12 ∷ 13 ∷ 14 ∷ 1 ∷ 15 ∷ 16 ∷ 1 ∷ 17 ∷ 18 ∷ replicate 7 0
 unfolding with_zeros
 list_in_words = refl
 
-end_in_words : event_words (event (end_event (record { list_signature = some (at 60 8); act_gateway_time = some 700 }))) ≡ 2 ∷ 1 ∷ 60 ∷ 8 ∷ 1 ∷ 700 ∷ replicate 18 0
+end_in_words : event_words (event (end_event (record { list_signature = some (span_from 60 8); act_gateway_time = some 700 }))) ≡ 2 ∷ 1 ∷ 60 ∷ 8 ∷ 1 ∷ 700 ∷ replicate 18 0
 unfolding with_zeros
 end_in_words = refl
 
 -- every optional field present, and none: a scaler of -3, a value of -1387
-full_entry_in_words : event_words (event (entry_event (record { obj_name = at 84 6; status = some (record { width = 4; number = 386 }); val_time = some 19459451; unit = some 30; scaler = some (negsuc 2); value = signed 4 (negsuc 1386); value_signature = some (at 90 5) })))
+full_entry_in_words : event_words (event (entry_event (record { obj_name = span_from 84 6; status = some (record { width = 4; number = 386 }); val_time = some 19459451; unit = some 30; scaler = some (negsuc 2); value = signed 4 (negsuc 1386); value_signature = some (span_from 90 5) })))
     ≡ 3 ∷ 84 ∷ 6 ∷ 1 ∷ 4 ∷ 386 ∷ 1 ∷ 19459451 ∷ 1 ∷ 30 ∷ 1 ∷ 18446744073709551613 ∷ 3 ∷ 4 ∷ 18446744073709550229 ∷ 0 ∷ 0 ∷ 1 ∷ 90 ∷ 5 ∷ 0 ∷ 0 ∷ 0 ∷ 0 ∷ []
 unfolding with_zeros
 full_entry_in_words = refl
 
-bare_entry_in_words : event_words (event (entry_event (record { obj_name = at 84 6; status = none; val_time = none; unit = none; scaler = none; value = bytes (at 95 3); value_signature = none }))) ≡ 3 ∷ 84 ∷ 6 ∷ replicate 9 0 ++ 2 ∷ 0 ∷ 0 ∷ 95 ∷ 3 ∷ replicate 7 0
+bare_entry_in_words : event_words (event (entry_event (record { obj_name = span_from 84 6; status = none; val_time = none; unit = none; scaler = none; value = bytes (span_from 95 3); value_signature = none }))) ≡ 3 ∷ 84 ∷ 6 ∷ replicate 9 0 ++ 2 ∷ 0 ∷ 0 ∷ 95 ∷ 3 ∷ replicate 7 0
 unfolding with_zeros
 bare_entry_in_words = refl
 
 -- each kind of value
-values_in_words : map value_words (truth true ∷ truth false ∷ bytes (at 95 3) ∷ signed 1 (negsuc 127) ∷ signed 8 (pos 47191263) ∷ unsigned 2 65535 ∷ list_time 43 ∷ [])
+values_in_words : map value_words (truth true ∷ truth false ∷ bytes (span_from 95 3) ∷ signed 1 (negsuc 127) ∷ signed 8 (pos 47191263) ∷ unsigned 2 65535 ∷ list_time 43 ∷ [])
     ≡ (1 ∷ 0 ∷ 1 ∷ 0 ∷ 0 ∷ []) ∷ (1 ∷ 0 ∷ 0 ∷ 0 ∷ 0 ∷ []) ∷ (2 ∷ 0 ∷ 0 ∷ 95 ∷ 3 ∷ []) ∷ (3 ∷ 1 ∷ 18446744073709551488 ∷ 0 ∷ 0 ∷ []) ∷ (3 ∷ 8 ∷ 47191263 ∷ 0 ∷ 0 ∷ []) ∷ (4 ∷ 2 ∷ 65535 ∷ 0 ∷ 0 ∷ []) ∷ (5 ∷ 0 ∷ 43 ∷ 0 ∷ 0 ∷ []) ∷ []
 values_in_words = refl
 

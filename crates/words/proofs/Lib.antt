@@ -1,5 +1,4 @@
-pub mod Widen
-pub mod Same
+pub mod Puts
 pub mod Laws
 pub mod Parts
 pub mod Back

@@ -4,19 +4,13 @@ use mathlib.Core.List.{List, [], ◌∷◌}
 use mathlib.Core.Option.{some}
 use Prim.Native.Nat.{ℕ, ◌≤◌}
 use native.Mathlib.Omega.{arith}
-use lib.IntN.{negsuc}
+use lib.IntN.{ℤ, negsuc}
 use lib.ListN.{get_or}
-use Rattle.octet_string.specs.declared.OptSpan.TheVariants as OptSpanC
-use Rattle.value.specs.declared.OptI8.{OptI8}
-use Rattle.value.specs.declared.OptI8.TheVariants as OptI8C
-use Rattle.value.specs.declared.OptStatus.TheVariants as OptStatusC
-use Rattle.value.specs.declared.OptTime.TheVariants as OptTimeC
-use Rattle.value.specs.declared.OptU8.TheVariants as OptU8C
+use Rattle.std.specs.Prelude.{Result, Ok, Option, Some, None}
+use Rattle.streaming.specs.declared.ReadError.{ReadError}
 use Rattle.value.specs.declared.Value.{Value}
 use Rattle.value.specs.declared.Value.TheVariants as ValueC
 use Rattle.streaming.specs.Answers.{said, parse_event}
-use Rattle.streaming.specs.declared.Answer.{Answer}
-use Rattle.streaming.specs.declared.Answer.TheVariants as AnswerC
 use Rattle.streaming.specs.declared.ParseEvent.{ParseEvent}
 use Rattle.streaming.specs.declared.ParseEvent.TheVariants as EventC
 use Rattle.refusals.specs.declared.Span.{Span}
@@ -24,31 +18,30 @@ use Rattle.streaming.specs.Next.{MessageEvent, start_event, entry_event, end_eve
 use Rattle.words.specs.Words.{with_zeros, event_words}
 use Rattle.words.specs.Back.{event_of}
 use Rattle.words.specs.Answers.{opt_event}
-use Rattle.words.specs.declared.OptEvent.TheVariants as OptEventC
 use Rattle.words.proofs.Back.{back_claims}
 
 -- an entry of this scaler and value, whose name of six bytes stands at 84; nothing else is there
-abbrev scaled : OptI8 → Value → Answer
+abbrev scaled : Option ℤ → Value → Result (Option ParseEvent) ReadError
 scaled scaler value =
-    AnswerC.Event
+    Ok (Some
     (EventC.ListEntry
     (record {
       obj_name = record { start = 84; len = 6 };
-      status = OptStatusC.Absent;
-      val_time = OptTimeC.Absent;
-      unit = OptU8C.Absent;
+      status = None;
+      val_time = None;
+      unit = None;
       scaler = scaler;
       value = value;
-      value_signature = OptSpanC.Absent;
-    }))
+      value_signature = None;
+    })))
 
 -- no scaler is 0 and 0, not 1 and 0
-absent_scaler_is_zero_present : (r : List ℕ) → get_or r 10 0 ≡ 1 → r ≡ event_words (said (scaled OptI8C.Absent (ValueC.U8 7))) → ⊥
+absent_scaler_is_zero_present : (r : List ℕ) → get_or r 10 0 ≡ 1 → r ≡ event_words (said (scaled None (ValueC.U8 7))) → ⊥
 unfolding with_zeros
 absent_scaler_is_zero_present r wrong h = let n : ◌≡◌ {A = ℕ} 1 0 = sym wrong ∙ ap (λ (l : List ℕ). get_or l 10 0) h in omega (arith, n)
 
 -- a scaler of -1 has all 64 bits, not its byte's eight
-scaler_below_zero_as_a_byte : (r : List ℕ) → get_or r 11 0 ≡ 255 → r ≡ event_words (said (scaled (OptI8C.Present (negsuc 0)) (ValueC.U8 7))) → ⊥
+scaler_below_zero_as_a_byte : (r : List ℕ) → get_or r 11 0 ≡ 255 → r ≡ event_words (said (scaled (Some (negsuc 0)) (ValueC.U8 7))) → ⊥
 unfolding with_zeros
 scaler_below_zero_as_a_byte r wrong h = let n : ◌≡◌ {A = ℕ} 255 18446744073709551615 = sym wrong ∙ ap (λ (l : List ℕ). get_or l 11 0) h in omega (arith, n)
 
@@ -65,10 +58,10 @@ pub never_zeros : (e : MessageEvent Span) → some e ≡ event_of (with_zeros 24
 unfolding with_zeros
 never_zeros e h = let f = first_word e 0 (ap (λ (l : List ℕ). get_or l 0 0) (back_claims.theirs (with_zeros 24 (0 ∷ [])) e (sym h))) in omega (arith, f.0)
 
-zeros_are_an_event : (e : ParseEvent) → opt_event (OptEventC.Present e) ≡ event_of (with_zeros 24 (0 ∷ [])) → ⊥
+zeros_are_an_event : (e : ParseEvent) → opt_event (Some e) ≡ event_of (with_zeros 24 (0 ∷ [])) → ⊥
 zeros_are_an_event e h = never_zeros (parse_event e) h
 
-refusal_is_an_event : (e : ParseEvent) → opt_event (OptEventC.Present e) ≡ event_of (with_zeros 24 (4 ∷ 12 ∷ 0 ∷ 7 ∷ [])) → ⊥
+refusal_is_an_event : (e : ParseEvent) → opt_event (Some e) ≡ event_of (with_zeros 24 (4 ∷ 12 ∷ 0 ∷ 7 ∷ [])) → ⊥
 unfolding with_zeros
 refusal_is_an_event e h =
     let f = first_word (parse_event e) 4 (ap (λ (l : List ℕ). get_or l 0 0) (back_claims.theirs (with_zeros 24 (4 ∷ 12 ∷ 0 ∷ 7 ∷ [])) (parse_event e) (sym h))) in

@@ -4,8 +4,7 @@ use mathlib.Core.List.{List, ◌++◌}
 use mathlib.Core.Bool.{Bool, true, false}
 use Prim.Native.Nat.{ℕ, ◌+◌, ◌-◌, ◌^◌, ◌≤◌, ◌<◌}
 use native.Mathlib.Omega.{arith}
-use lib.ListN.{length, take, drop}
-use lib.Seq.{length-take-le, take_at, drop_at}
+use lib.ListN.{length}
 use lib.Dec.{leb, ltb, eqb}
 use borrow.Author.Tests.{leb-true, leb-false, le-leb, lt-leb, lt-ltb, le-ltb, eq-eqb, ne_eqb}
 use Rattle.refusals.specs.Numbers.{bad_state_no, wrong_number_no, bad_span_no, output_too_short_no}
@@ -18,9 +17,10 @@ use Rattle.crc_x25.proofs.Laws.{register_append}
 use Rattle.writer.specs.Messages.{open_bytes, close_bytes, write_body, write_start, write_trailer}
 use Rattle.writer.specs.Calls.{put_in, write_refusal, to, not_written, put_or, start_with}
 use Rattle.writer.specs.Answers.{after_write}
-use Rattle.writer.specs.Cut.{Fits, Puts, head_bytes}
+use Rattle.writer.specs.Cut.{farthest, PutsOn, head_bytes}
+use Rattle.writer.specs.declared.Output.{Output}
 use Rattle.writer.specs.declared.Head.{Head}
-use Rattle.writer.proofs.Puts.{cap_within, puts_then, puts_as, puts_there}
+use Rattle.writer.proofs.Puts.{cap_within, adds_then, adds_as}
 
 module _ {A : Type 0} (out : List ℕ) (at : ℕ) (due good : Bool) (b : List ℕ) (a : A) where
   pub refuses_place : length out < at → after_write (not_written bad_state_no) out ≡ put_or (write_refusal out at due good b) out at b a
@@ -47,23 +47,19 @@ module _ {A : Type 0} (out : List ℕ) (at : ℕ) (due good : Bool) (b : List �
       rw (le-ltb (length out) at h, d, g, le-ltb (length out - at) (length b) s, e, f)
 
 -- a run over no output tells whether bytes fit an output
-module _ (b : List ℕ) {x y : List ℕ} {at n : ℕ} (len : ℕ) (run : Puts x at b y n) (small : len < 2 ^ 63) where
-  seen : leb n len ≡ leb (at + length b) len
-  seen = rw run.place (cap_within (at + length b) len (omega arith))
+module _ (b : List ℕ) {x y : Output} (len : ℕ) (run : PutsOn x b y) (far : x.at ≤ farthest) (small : len < 2 ^ 63) where
+  seen : leb y.at len ≡ leb (x.at + length b) len
+  seen = rw (run.puts far).place (cap_within (x.at + length b) len (omega arith))
 
-  pub run_short : len < n → len < at + length b
-  run_short h = leb-false (at + length b) len (sym seen ∙ lt-leb n len h)
+  pub run_short : len < y.at → len < x.at + length b
+  run_short h = leb-false (x.at + length b) len (sym seen ∙ lt-leb y.at len h)
 
-  pub run_fits : n ≤ len → at + length b ≤ len
-  run_fits h = leb-true (at + length b) len (sym seen ∙ le-leb n len h)
-
--- an output that has room for the bytes
-pub room_fits : {out : List ℕ} {at : ℕ} {b : List ℕ} → at + length b ≤ length out → length out < 2 ^ 63 → Fits out at b
-room_fits h small = record { room = h; small = omega arith }
+  pub run_fits : y.at ≤ len → x.at + length b ≤ len
+  run_fits h = leb-true (x.at + length b) len (sym seen ∙ le-leb y.at len h)
 
 -- the bytes and the trailer that belongs to them
-pub with_trailer : (reg : ℕ) (b : List ℕ) {x y z : List ℕ} {at n m crc : ℕ} → crc ≡ register reg b → Puts x at b y n → Puts y n (write_trailer crc) z m → Puts x at (b ++ write_trailer (register reg b)) z m
-with_trailer reg b e p q = puts_then b _ p (puts_as (ap write_trailer e) q)
+pub with_trailer : (reg : ℕ) (b : List ℕ) {x y z : Output} {crc : ℕ} → crc ≡ register reg b → PutsOn x b y → PutsOn y (write_trailer crc) z → PutsOn x (b ++ write_trailer (register reg b)) z
+with_trailer reg b e p q = adds_then b _ p (adds_as (ap write_trailer e) q)
 
 -- the register behind an open's start and a close's, by head and content
 pub open_register : (s : List ℕ) (head : Head) (x : OpenResponse Span) {h r : ℕ} → h ≡ register start (head_bytes s head 0x00000101) → r ≡ register h (open_bytes (open_means s x)) → r ≡ register start (write_start (start_means s (start_with head (open_body x))))
@@ -73,25 +69,6 @@ open_register s head x p q = rw (q, p) (simp register_append)
 pub close_register : (s : List ℕ) (head : Head) (x : CloseResponse Span) {h r : ℕ} → h ≡ register start (head_bytes s head 0x00000201) → r ≡ register h (close_bytes (close_means s x)) → r ≡ register start (write_start (start_means s (start_with head (close_body x))))
 unfolding write_start write_body head_bytes
 close_register s head x p q = rw (q, p) (simp register_append)
-
--- the part that was put, from its place to the one behind it
-pub part_put : (out : List ℕ) (at : ℕ) (b : List ℕ) → at + length b ≤ length out → take (at + length b - at) (drop at (put_in out at b)) ≡ b
-unfolding put_in
-part_put out at b h =
-    let e : length b ≡ at + length b - at = omega arith in
-    rw (drop_at (take at out) (b ++ drop (at + length b) out) at (length-take-le at out (omega arith))) (take_at b _ _ e)
-
--- the bytes had room and stand there
-pub record WasPut (out : List ℕ) (at : ℕ) (b after : List ℕ) (n : ℕ) : Type 0 where
-  pub room : at + length b ≤ length out
-  pub place : n ≡ at + length b
-  pub bytes : after ≡ put_in out at b
-
-pub was_put : (out : List ℕ) (at : ℕ) (b : List ℕ) {after : List ℕ} {n : ℕ} → Puts out at b after n → at + length b ≤ length out → length out < 2 ^ 63 → WasPut out at b after n
-was_put out at b p room small = let t = puts_there b p (room_fits room small) in record { room = room; place = t.0; bytes = t.1 }
-
-pub was_put_part : (out : List ℕ) (at : ℕ) (b : List ℕ) {after : List ℕ} {n : ℕ} → WasPut out at b after n → take (n - at) (drop at after) ≡ b
-was_put_part out at b d = rw (d.place, d.bytes) (part_put out at b d.room)
 
 -- whether an entry or the end is due, by the entries that are left
 pub entry_not_due : (left : ℕ) → left ≡ 0 → ltb 0 left ≡ false

@@ -1,25 +1,28 @@
 -- Length fields and numbers as the code makes them, high digit first.
 use mathlib.Core.Path.{◌≡◌, refl, sym, ap, ◌∙◌}
 use mathlib.Core.List.{List, [], ◌∷◌, ◌++◌}
-use mathlib.Core.Bool.{Bool, true, false, not}
+use mathlib.Core.Bool.{Bool, true, false, cond, not}
+use mathlib.Core.Option.{Option, some, none}
 use Prim.Native.Nat.{ℕ, zero, suc, ◌+◌, ◌*◌, ◌/◌, ◌%◌, ◌^◌, ◌-◌, ◌≤◌, ◌<◌}
-use native.Mathlib.Nat.{div-eq_of_lt, lt-div-mul-add, zero-mul, pow-suc, pow-le-pow_right, lt_of_not-le}
+use native.Mathlib.Nat.{div-eq_of_lt, lt-div-mul-add, zero-mul, pow-suc, lt_of_not-le}
 use native.Mathlib.Decide.{dec_le}
 use native.Mathlib.Omega.{arith}
 use native.Mathlib.Numerals.{add-one}
-use lib.ListN.{length, set, get_or, drop, drop_of_length-le}
-use lib.Seq.{sets, drop-cons}
-use lib.IntN.{ℤ}
+use lib.ListN.{length}
+use mir.Val.{bool_byte}
+use lib.IntN.{ℤ, pos, negsuc}
 use lib.Signed.{mag}
 use lib.Pow.{pow-add}
-use lib.Dec.{ltb, leb, eqb, lit<}
+use lib.Dec.{ltb, leb, eqb}
 use borrow.Author.Tests.{ne_eqb, lt-ltb, le-ltb, le-leb, lt-leb, ltb-true}
 use Rattle.byte_count.specs.Count.{first_that, unsigned_count}
 use Rattle.byte_count.proofs.Bytes.{count_least}
 use Rattle.tlf.specs.Written.{ty_number, total, more_bit, length_bytes, typed}
 use Rattle.tlf.specs.declared.Ty.{Ty}
 use Rattle.tlf.specs.declared.Ty.TheVariants.{OctetString, Boolean, Integer, Unsigned, ListOf}
-use Rattle.writer.specs.Fields.{length_count, write_tlf, in_bytes, signed_count, low_bytes, write_unsigned, write_signed, write_octets, write_present}
+use Rattle.value.specs.Values.{Status}
+use Rattle.streaming.specs.Meaning.{each, status_means}
+use Rattle.writer.specs.Fields.{write_optional, write_status, length_count, write_tlf, in_bytes, signed_count, low_bytes, write_unsigned, write_signed, write_octets, write_present}
 
 pub pow_256 : (k : ℕ) → 2 ^ (8 * k) ≡ 256 ^ k
 pow_256 zero = refl
@@ -45,14 +48,6 @@ unfolding length_bytes
 next_length zero v h = absurd (omega arith)
 next_length (suc k) v h = let e : suc k - 1 ≡ k = omega arith in rw e
 
-pub more_some : (k : ℕ) → (k ≡ 0 → ⊥) → 128 ≡ more_bit k
-more_some zero h = absurd (h refl)
-more_some (suc k) h = refl
-
-pub more_le : (k : ℕ) → more_bit k ≤ 128
-more_le zero = omega arith
-more_le (suc k) = omega arith
-
 -- a quotient is 0 below the divisor alone
 pub over_is : (v m : ℕ) → 1 ≤ m → not (eqb (v / m) 0) ≡ leb m v
 over_is v m p = at v m p (dec_le m v)
@@ -72,14 +67,6 @@ unfolding first_that
 first_stop n p h t =
     let e : 17 - n ≡ suc (17 - (n + 1)) = omega arith in
     rw (e, t)
-
--- sixteen length bytes hold every length
-pub sixteen_more : (n v : ℕ) → 16 ^ n ≤ v → v < 2 ^ 64 → n ≤ 15
-sixteen_more n v h s = at n v h s (dec_le n 15)
-  where
-    at : (n v : ℕ) → 16 ^ n ≤ v → v < 2 ^ 64 → Dec (n ≤ 15) → n ≤ 15
-    at n v h s (yes q) = q
-    at n v h s (no q) = let k : 16 ≤ n = lt_of_not-le q in absurd (omega (arith, pow-le-pow_right {n = 16} (lit< tt) k))
 
 pub total_le : (ty : Ty) (len n : ℕ) → total ty len n ≤ len + n
 total_le OctetString len n = omega arith
@@ -140,19 +127,12 @@ signed_range z h =
     let c = count_least (2 * mag z) (omega arith) in
     (c.from, omega (arith, c.below), ltb-true _ _ (sym (half (mag z) (unsigned_count (2 * mag z)) c.from) ∙ c.holds))
 
-pub signed_is : (z : ℤ) (n : ℕ) → n ≡ unsigned_count (2 * mag z) → mag z < 2 ^ 63 → write_signed z ≡ (0x51 + n) ∷ in_bytes n (low_bytes n z)
+pub signed_is : (z : ℤ) (n : ℕ) → n ≡ signed_count z → mag z < 2 ^ 63 → write_signed z ≡ (0x51 + n) ∷ in_bytes n (low_bytes n z)
 unfolding write_signed
 signed_is z n e h =
     let r = signed_range z h in
-    let k : signed_count z ≡ n = signed_twice z ∙ sym e in
-    rw (k, short_tlf Integer n (omega (arith, e, r.1))) (ap (λ (x : ℕ). x ∷ in_bytes n (low_bytes n z)) (omega arith))
-
--- the next byte of a copy
-pub next_copy : (l src : List ℕ) (p i : ℕ) → i < length src → sets (set l p (get_or src i 0)) (p + 1) (drop (i + 1) src) ≡ sets l p (drop i src)
-next_copy l src p i h = rw (add-one p, add-one i, drop-cons src i 0 h)
-
-pub copy_done : (l src : List ℕ) (p i : ℕ) → length src ≤ i → sets l p (drop i src) ≡ l
-copy_done l src p i h = rw (drop_of_length-le src h)
+    let m = e ∙ signed_twice z in
+    rw (← e, short_tlf Integer n (omega (arith, m, r.1))) (ap (λ (x : ℕ). x ∷ in_bytes n (low_bytes n z)) (omega arith))
 
 -- a list's head of one byte
 pub list_head_claim : (n : ℕ) → n < 16 → write_tlf ListOf n ≡ (112 + n) ∷ []
@@ -168,3 +148,33 @@ pub present_some : (x : List ℕ) → (length x ≡ 0 → ⊥) → write_octets 
 unfolding write_present
 present_some [] h = absurd (h refl)
 present_some (b ∷ x) h = refl
+
+pub bool_is : (b : Bool) → bool_byte b ≡ cond b 1 0
+bool_is true = refl
+bool_is false = refl
+
+-- the width of a status does not count
+pub width_forgotten : (m : Option Status) → write_optional write_status m ≡ write_optional write_status (each status_means m)
+unfolding write_optional write_status
+width_forgotten none = refl
+width_forgotten (some x) = refl
+
+-- a number of one byte
+pub unsigned_short : (v : ℕ) → v < 256 → (0x62 ∷ []) ++ (v ∷ []) ≡ write_unsigned v
+unfolding unsigned_count first_that in_bytes
+unsigned_short v h =
+    let e : v / 1 % 256 ≡ v = omega arith in
+    sym (unsigned_is v (omega arith) ∙ rw (lt-ltb v 256 h, e))
+
+pub low_byte : (z : ℤ) → mag z < 128 → low_bytes 1 z < 256
+unfolding low_bytes
+low_byte (pos v) h = omega (arith, h)
+low_byte (negsuc k) h = omega arith
+
+pub signed_short : (z : ℤ) → mag z < 128 → (0x52 ∷ []) ++ (low_bytes 1 z ∷ []) ≡ write_signed z
+unfolding signed_count first_that in_bytes
+signed_short z h =
+    let one : signed_count z ≡ 1 = rw (lt-ltb (mag z) 128 h) in
+    let r = low_byte z h in
+    let e : low_bytes 1 z / 1 % 256 ≡ low_bytes 1 z = omega (arith, r) in
+    sym (signed_is z 1 (sym one) (omega arith) ∙ rw e)

@@ -1,16 +1,17 @@
 -- Bytes put behind bytes, and what a run over no output tells.
 use mathlib.Core.Path.{◌≡◌, refl, sym, ap, ◌∙◌}
 use mathlib.Core.List.{List, [], ◌∷◌, ◌++◌, append_assoc}
-use Prim.Native.Nat.{ℕ, ◌+◌, ◌-◌, ◌≤◌, ◌<◌}
+use Prim.Native.Nat.{min, ℕ, ◌+◌, ◌-◌, ◌^◌, ◌≤◌, ◌<◌}
 use native.Mathlib.Omega.{arith}
 use native.Mathlib.Decide.{dec_le}
 use native.Mathlib.Nat.{add-zero, lt_of_not-le}
-use lib.ListN.{length, set, take, drop, length-append, length-drop, take-append-drop}
-use lib.Seq.{sets, sets-eq, length-sets, length-take-le, take_at, drop-append-add, drop-drop}
+use lib.ListN.{length, take, drop, length-append, length-drop, take-append-drop}
+use lib.Seq.{sets, sets-eq, length-sets, length-take-le, take_at, drop-append-add, drop-drop, drop_at}
 use lib.Dec.{leb}
 use borrow.Author.Tests.{le-leb, lt-leb}
 use Rattle.writer.specs.Calls.{put_in}
-use Rattle.writer.specs.Cut.{farthest, capped, Fits, Puts}
+use Rattle.writer.specs.Cut.{farthest, capped, Fits, Puts, PutsOn}
+use Rattle.writer.specs.declared.Output.{Output}
 
 -- bytes behind bytes
 pub put_then : (out : List ℕ) (at : ℕ) (v w : List ℕ) → at + length v ≤ length out → put_in (put_in out at v) (at + length v) w ≡ put_in out at (v ++ w)
@@ -46,6 +47,14 @@ cap_is n h = rw (le-leb n farthest h)
 pub cap_far : (n : ℕ) → farthest < n → capped n ≡ farthest
 unfolding capped
 cap_far n h = rw (lt-leb n farthest h)
+
+-- as the code caps it
+pub cap_min : (n : ℕ) → min n 18446744073709551615 ≡ capped n
+cap_min n = by (dec_le n farthest)
+  where
+    by : Dec (n ≤ farthest) → min n 18446744073709551615 ≡ capped n
+    by (yes h) = rw (cap_is n h) (omega arith)
+    by (no h) = rw (cap_far n (lt_of_not-le h)) (omega (arith, lt_of_not-le h))
 
 -- a place that stays at the greatest one, moved on again
 pub cap_then : (m n : ℕ) → capped (capped m + n) ≡ capped (m + n)
@@ -96,25 +105,9 @@ puts_then v w {a} {b} {c} {at} {n} {m} p q =
         let behind : Fits b n w = record { room = omega (arith, e, l, f.room, p.same); small = omega (arith, p.same, f.small) } in
         q.bytes behind ∙ ap (λ (k : ℕ). put_in b k w) e ∙ ap (λ (x : List ℕ). put_in x (at + length v) w) (p.bytes first_that) ∙ put_then a at v w here
 
--- the same bytes, by another name
-pub puts_as : {v w a b : List ℕ} {at n : ℕ} → v ≡ w → Puts a at v b n → Puts a at w b n
-puts_as e p = rw (← e) p
-
--- one byte is stored, or nothing is
-pub put_one : (out : List ℕ) (at b : ℕ) → at < length out → set out at b ≡ put_in out at (b ∷ [])
-put_one out at b h = sets_put out at (b ∷ []) (omega arith)
-
 -- where the bytes fit, the place is behind them and they stand there
 pub puts_there : {a b : List ℕ} (v : List ℕ) {at n : ℕ} → Puts a at v b n → Fits a at v → (n ≡ at + length v) × (b ≡ put_in a at v)
 puts_there v {at} p f = (p.place ∙ cap_is (at + length v) (omega (arith, f.room, f.small)), p.bytes f)
-
--- bytes fit where as many as they are are left
-pub room_is : (at n len : ℕ) → at ≤ len → leb n (len - at) ≡ leb (at + n) len
-room_is at n len h = by (dec_le n (len - at))
-  where
-    by : Dec (n ≤ len - at) → leb n (len - at) ≡ leb (at + n) len
-    by (yes q) = le-leb n (len - at) q ∙ sym (le-leb (at + n) len (omega arith))
-    by (no q) = let k : len - at < n = lt_of_not-le q in lt-leb n (len - at) k ∙ sym (lt-leb (at + n) len (omega arith))
 
 pub cap_le : (n : ℕ) → capped n ≤ farthest
 cap_le n = by (dec_le n farthest)
@@ -123,25 +116,40 @@ cap_le n = by (dec_le n farthest)
     by (yes h) = rw (cap_is n h) h
     by (no h) = rw (cap_far n (lt_of_not-le h)) (omega arith)
 
--- in a loop: what is still to be put from the place p on makes the whole
-pub record Still (before : List ℕ) (at : ℕ) (whole out : List ℕ) (p : ℕ) (rest : List ℕ) : Type 0 where
-  pub far : p ≤ farthest
-  pub same : length out ≡ length before
-  pub makes : (after : List ℕ) (next : ℕ) → Puts out p rest after next → Puts before at whole after next
+-- nothing is put behind nothing
+pub adds_none : (w : Output) → PutsOn w [] w
+adds_none w = record { same_output = refl; puts = λ h. puts_none w.out.now w.at h }
 
-pub still_all : (out : List ℕ) (at : ℕ) (b : List ℕ) → at ≤ farthest → Still out at b out at b
-still_all out at b h = record { far = h; same = refl; makes = λ after next q. q }
-
-pub still_less : {before out out' whole rest : List ℕ} {at p p' : ℕ} (b : ℕ) → Still before at whole out p (b ∷ rest) → Puts out p (b ∷ []) out' p' → Still before at whole out' p' rest
-still_less {rest = rest} {p = p} b s q =
+-- bytes put behind bytes, in one output
+pub adds_then : (v w : List ℕ) {a b c : Output} → PutsOn a v b → PutsOn b w c → PutsOn a (v ++ w) c
+adds_then v w {a} p q =
     record {
-      far = rw q.place (cap_le (p + 1));
-      same = q.same ∙ s.same;
-      makes = λ after next r. s.makes after next (puts_then (b ∷ []) rest q r);
+      same_output = q.same_output ∙ p.same_output;
+      puts = λ h. puts_then v w (p.puts h) (q.puts (rw (p.puts h).place (cap_le (a.at + length v))));
     }
 
-pub still_none : {before out whole : List ℕ} {at p : ℕ} → Still before at whole out p [] → Puts before at whole out p
-still_none {out = out} {p = p} s = s.makes out p (puts_none out p s.far)
+-- the same bytes, by another name
+pub adds_as : {v w : List ℕ} {a b : Output} → v ≡ w → PutsOn a v b → PutsOn a w b
+adds_as e p = rw (← e) p
+
+-- in a loop: what is still to be put makes the whole
+pub record Still (before : Output) (whole : List ℕ) (now : Output) (rest : List ℕ) : Type 0 where
+  pub makes : (after : Output) → PutsOn now rest after → PutsOn before whole after
+
+pub still_less : {before now next : Output} {whole rest : List ℕ} (b : ℕ) → Still before whole now (b ∷ rest) → PutsOn now (b ∷ []) next → Still before whole next rest
+still_less {rest = rest} b s q = record { makes = λ after r. s.makes after (adds_then (b ∷ []) rest q r) }
+
+pub still_none : {before now : Output} {whole : List ℕ} → Still before whole now [] → PutsOn before whole now
+still_none {now = now} s = s.makes now (adds_none now)
+
+-- a copy into a part of the output
+pub puts_copy : (out : List ℕ) (at end : ℕ) (part new after : List ℕ) → end ≡ min (at + length part) 18446744073709551615 → end ≤ length out → new ≡ part → after ≡ take at out ++ (new ++ drop (end - at) (drop at out)) → length out < 2 ^ 63 → Puts out at part after end
+unfolding put_in
+puts_copy out at end part new after e h n a small =
+    let k : end ≡ at + length part = omega (arith, e) in
+    let d : drop (end - at) (drop at out) ≡ drop (at + length part) out = drop-drop (end - at) at out ∙ ap (λ (i : ℕ). drop i out) (omega (arith, k)) in
+    let there : after ≡ put_in out at part = a ∙ rw (n, d) in
+    record { place = e ∙ cap_min (at + length part); same = ap length there ∙ put_length out at part (omega (arith, k)); bytes = λ f. there }
 
 -- where nothing fits nothing need stand
 pub puts_beyond : (out : List ℕ) (at : ℕ) (b : List ℕ) (next : ℕ) → next ≡ capped (at + length b) → length out < at + length b → Puts out at b out next
@@ -154,4 +162,31 @@ puts_sets out at b after e h small =
       place = sym (cap_is (at + length b) (omega arith));
       same = ap length e ∙ length-sets out at b;
       bytes = λ f. e ∙ sets_put out at b h;
+    }
+
+-- the part that was put, from its place to the one behind it
+pub part_put : (out : List ℕ) (at : ℕ) (b : List ℕ) → at + length b ≤ length out → take (at + length b - at) (drop at (put_in out at b)) ≡ b
+unfolding put_in
+part_put out at b h =
+    let e : length b ≡ at + length b - at = omega arith in
+    rw (drop_at (take at out) (b ++ drop (at + length b) out) at (length-take-le at out (omega arith))) (take_at b _ _ e)
+
+-- the bytes had room and stand there
+pub record WasPut (before : Output) (b : List ℕ) (after : Output) : Type 0 where
+  pub room : before.at + length b ≤ length before.out.now
+  pub place : after.at ≡ before.at + length b
+  pub bytes : after.out.now ≡ put_in before.out.now before.at b
+  pub inside : after.at ≤ length after.out.now
+  pub part : take (after.at - before.at) (drop before.at after.out.now) ≡ b
+
+pub was_put : (b : List ℕ) {w n : Output} → PutsOn w b n → w.at + length b ≤ length w.out.now → length w.out.now < 2 ^ 63 → WasPut w b n
+was_put b {w} p room small =
+    let q = p.puts (omega arith) in
+    let t = puts_there b q (record { room = room; small = omega arith }) in
+    record {
+      room = room;
+      place = t.0;
+      bytes = t.1;
+      inside = omega (arith, t.0, q.same);
+      part = rw (t.0, t.1) (part_put w.out.now w.at b room);
     }

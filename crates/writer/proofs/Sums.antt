@@ -1,14 +1,14 @@
 -- The register over what is written, and bytes that stand in an array of the code's own.
 use mathlib.Core.Path.{◌≡◌, refl, sym, ap}
 use mathlib.Core.List.{List, [], ◌∷◌, ◌++◌}
-use mathlib.Core.Option.{some, none}
+use mathlib.Core.Option.{Option, some, none}
 use Prim.Native.Nat.{ℕ, ◌≤◌}
 use native.Mathlib.Omega.{arith}
-use lib.ListN.{length, take, replicate, length-append, length-replicate}
-use lib.Seq.{take_at}
+use lib.ListN.{length, length-append}
 use Rattle.decided.specs.Part.{LentPart}
 use Rattle.byte_count.specs.Count.{first_that}
 use Rattle.tlf.specs.Written.{length_bytes, typed}
+use Rattle.tlf.specs.declared.Ty.{Ty}
 use Rattle.tlf.specs.declared.Ty.TheVariants.{OctetString, ListOf}
 use Rattle.octet_string.specs.Strings.{part_of}
 use Rattle.common.specs.Fields.{OpenResponse, CloseResponse}
@@ -17,26 +17,11 @@ use Rattle.crc_x25.specs.Crc.{start, byte_step, register}
 use Rattle.crc_x25.proofs.Laws.{register_append}
 use Rattle.writer.specs.Fields.{length_count, write_tlf, write_unsigned, write_octets, write_optional, write_present, write_time}
 use Rattle.writer.specs.Messages.{open_bytes, close_bytes, list_end_bytes}
-use Rattle.writer.specs.Calls.{put_in}
-use Rattle.writer.specs.Cut.{farthest, Fits, Puts, head_bytes}
+use Rattle.writer.specs.Cut.{PutsOn, head_bytes}
+use Rattle.writer.specs.declared.Output.{Output}
 use Rattle.writer.specs.declared.Head.{Head}
-use Rattle.writer.proofs.Puts.{puts_then, puts_as, puts_there}
+use Rattle.writer.proofs.Puts.{adds_then, adds_as, WasPut, was_put}
 use Rattle.writer.proofs.Bounds.{tlf_bound, unsigned_bound, time_bound, optional_bound}
-
--- the first n bytes of c are b
-pub record FirstBytes (b c : List ℕ) (n : ℕ) : Type 0 where
-  pub inside : n ≤ length c
-  pub bytes : take n c ≡ b
-
--- what was put at the start of an array that it fits
-pub bytes_stand : (size : ℕ) (b : List ℕ) {c : List ℕ} {k n : ℕ} → Puts (replicate size 0) 0 b c n → length b ≤ k → k ≤ size → size ≤ farthest → FirstBytes b c n
-unfolding put_in
-bytes_stand size b {n = n} p h room small =
-    let l = length-replicate {A = ℕ} size 0 in
-    let f : Fits (replicate size 0) 0 b = record { room = omega arith; small = omega arith } in
-    let t = puts_there b p f in
-    let e : length b ≡ n = omega (arith, t.0) in
-    record { inside = omega (arith, t.0, p.same); bytes = rw t.1 (take_at b _ n e) }
 
 -- what a part that is handed back holds
 pub handed_bytes : {r p : LentPart} → r ≡ p → r.bytes ≡ p.bytes
@@ -78,6 +63,9 @@ pub sum_octets : (r : ℕ) (x : List ℕ) → register (register r (write_tlf Oc
 unfolding write_octets
 sum_octets r x = sym (register_append r (write_tlf OctetString (length x)) x)
 
+pub length_stands : (ty : Ty) (len : ℕ) {w n : Output} → w.at ≡ 0 → length w.out.now ≡ 32 → PutsOn w (write_tlf ty len) n → WasPut w (write_tlf ty len) n
+length_stands ty len e l p = was_put _ p (omega (arith, tlf_bound ty len)) (omega arith)
+
 -- the head: its first byte, its string, and its numbers from an array
 abbrev pub head_numbers : ℕ → ℕ → ℕ → List ℕ
 head_numbers group abort tag = write_unsigned group ++ write_unsigned abort ++ write_tlf ListOf 2 ++ write_unsigned tag
@@ -85,13 +73,13 @@ head_numbers group abort tag = write_unsigned group ++ write_unsigned abort ++ w
 head_numbers_bound : (group abort tag : ℕ) → length (head_numbers group abort tag) ≤ 95
 head_numbers_bound group abort tag = simp length-append (omega (arith, unsigned_bound group, unsigned_bound abort, tlf_bound ListOf 2, unsigned_bound tag))
 
-pub head_numbers_stand : (group abort tag : ℕ) {a b c d : List ℕ} {i j k n : ℕ}
-    → Puts (replicate 128 0) 0 (write_unsigned group) a i → Puts a i (write_unsigned abort) b j → Puts b j (0x72 ∷ []) c k → Puts c k (write_unsigned tag) d n → FirstBytes (head_numbers group abort tag) d n
-head_numbers_stand group abort tag p q r t =
+pub head_numbers_stand : (group abort tag : ℕ) {w a b c d : Output} → w.at ≡ 0 → length w.out.now ≡ 128
+    → PutsOn w (write_unsigned group) a → PutsOn a (write_unsigned abort) b → PutsOn b (0x72 ∷ []) c → PutsOn c (write_unsigned tag) d → WasPut w (head_numbers group abort tag) d
+head_numbers_stand group abort tag e l p q r t =
     let v = write_unsigned group in
     let w = write_unsigned abort in
     let x = write_tlf ListOf 2 in
-    bytes_stand 128 _ (puts_then (v ++ w ++ x) _ (puts_then (v ++ w) x (puts_then v w p q) (puts_as (sym short_list_two) r)) t) (head_numbers_bound group abort tag) (omega arith) (omega arith)
+    was_put _ (adds_then (v ++ w ++ x) _ (adds_then (v ++ w) x (adds_then v w p q) (adds_as (sym short_list_two) r)) t) (omega (arith, head_numbers_bound group abort tag)) (omega arith)
 
 pub sum_head : (s : List ℕ) (head : Head) (tag : ℕ)
     → register (register (byte_step start 0x76) (write_octets (part_of s head.transaction_id))) (head_numbers head.group_no head.abort_on_error tag) ≡ register start (head_bytes s head tag)
@@ -107,9 +95,9 @@ open_numbers_bound x =
     simp length-append
     (omega (arith, optional_bound write_time 69 x.ref_time (omega arith) time_bound, optional_bound write_unsigned 26 x.sml_version (omega arith) unsigned_bound))
 
-pub open_numbers_stand : (x : OpenResponse (List ℕ)) {a b : List ℕ} {i n : ℕ}
-    → Puts (replicate 128 0) 0 (write_optional write_time x.ref_time) a i → Puts a i (write_optional write_unsigned x.sml_version) b n → FirstBytes (open_numbers x) b n
-open_numbers_stand x p q = bytes_stand 128 _ (puts_then (write_optional write_time x.ref_time) _ p q) (open_numbers_bound x) (omega arith) (omega arith)
+pub open_numbers_stand : (x : OpenResponse (List ℕ)) {w a b : Output} → w.at ≡ 0 → length w.out.now ≡ 128
+    → PutsOn w (write_optional write_time x.ref_time) a → PutsOn a (write_optional write_unsigned x.sml_version) b → WasPut w (open_numbers x) b
+open_numbers_stand x e l p q = was_put _ (adds_then (write_optional write_time x.ref_time) _ p q) (omega (arith, open_numbers_bound x)) (omega arith)
 
 pub sum_open : (r : ℕ) (x : OpenResponse (List ℕ))
     → register (register (register (register (register (byte_step r 0x76) (write_optional write_present x.codepage)) (write_optional write_present x.client_id)) (write_octets x.req_file_id)) (write_octets x.server_id)) (open_numbers x) ≡ register r (open_bytes x)
@@ -123,3 +111,6 @@ sum_close r x = rw (sum_byte r 0x71 _ short_list_one) (simp register_append)
 pub sum_list_end : (r : ℕ) (x : ListEnd (List ℕ)) → register (register r (write_optional write_present x.list_signature)) (write_optional write_time x.act_gateway_time) ≡ register r (list_end_bytes x)
 unfolding list_end_bytes
 sum_list_end r x = simp register_append
+
+pub time_stands : (m : Option ℕ) {w n : Output} → w.at ≡ 0 → length w.out.now ≡ 128 → PutsOn w (write_optional write_time m) n → WasPut w (write_optional write_time m) n
+time_stands m e l p = was_put _ p (omega (arith, optional_bound write_time 69 m (omega arith) time_bound)) (omega arith)

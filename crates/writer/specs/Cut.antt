@@ -9,6 +9,7 @@ use Rattle.common.specs.Fields.{ListEntry}
 use Rattle.writer.specs.Fields.{write_tlf, write_unsigned, write_octets}
 use Rattle.writer.specs.Calls.{put_in}
 use Rattle.writer.specs.declared.Head.{Head}
+use Rattle.writer.specs.declared.Output.{Output}
 
 -- the greatest place; one that would pass it stays there, which is beyond every output
 abbrev pub farthest : ℕ
@@ -27,6 +28,11 @@ pub record Puts (before : List ℕ) (at : ℕ) (b after : List ℕ) (next : ℕ)
   pub place : next ≡ capped (at + length b)
   pub same : length after ≡ length before
   pub bytes : Fits before at b → after ≡ put_in before at b
+
+-- the same for an output that holds its place, at a place that a place can be: it stays the same output
+pub record PutsOn (before : Output) (b : List ℕ) (after : Output) : Type 0 where
+  pub same_output : after.out.ghost_name ≡ before.out.ghost_name
+  pub puts : before.at ≤ farthest → Puts before.out.now before.at b after.out.now after.at
 
 -- a message up to its body's content
 unfoldable pub head_bytes : List ℕ → Head → ℕ → List ℕ

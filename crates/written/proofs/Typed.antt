@@ -3,18 +3,13 @@ use mathlib.Core.Path.{refl}
 use mathlib.Core.List.{List}
 use Prim.Native.Nat.{ℕ, ◌^◌, ◌/◌, ◌<◌}
 use native.Mathlib.Omega.{arith}
+use lib.IntN.{ℤ}
 use lib.Signed.{mag}
+use Rattle.std.specs.Prelude.{Option, Some, None}
 use Rattle.refusals.specs.declared.Span.{Span}
 use Rattle.octet_string.specs.Answers.{opt_span}
 use Rattle.value.specs.Answers.{value, opt_u8, opt_i8, opt_time, opt_status, status}
-use Rattle.value.specs.declared.OptU8.{OptU8}
-use Rattle.value.specs.declared.OptU8.TheVariants as OptU8C
-use Rattle.value.specs.declared.OptI8.{OptI8}
-use Rattle.value.specs.declared.OptI8.TheVariants as OptI8C
-use Rattle.value.specs.declared.OptTime.{OptTime}
-use Rattle.value.specs.declared.OptTime.TheVariants as OptTimeC
-use Rattle.value.specs.declared.OptStatus.{OptStatus}
-use Rattle.value.specs.declared.OptStatus.TheVariants as OptStatusC
+use Rattle.value.specs.declared.Time.{Time}
 use Rattle.value.specs.declared.Status as Statuses
 use Rattle.value.specs.declared.Status.TheVariants as StatusC
 use Rattle.value.specs.declared.Value as Values
@@ -34,17 +29,17 @@ use Rattle.written.specs.Fits.{Each, OnlyBytes, StatusFits, WideValueFits, Entry
 use Rattle.written.specs.Typed.{U8Typed, I8Typed, TimeTyped, StatusTyped, OptStatusTyped, ValueTyped, EntryTyped, OpenTyped, ListStartTyped, ListEndTyped, HeadTyped}
 use Rattle.written.proofs.Again.{part_bytes, each_bytes}
 
-u8_fits : (x : OptU8) → U8Typed x → Each (λ v. v < 256 ^ 1) (opt_u8 x)
-u8_fits (OptU8C.Present n) h = omega arith
-u8_fits OptU8C.Absent h = tt
+u8_fits : (x : Option ℕ) → U8Typed x → Each (λ v. v < 256 ^ 1) (opt_u8 x)
+u8_fits (Some n) h = omega arith
+u8_fits None h = tt
 
-i8_fits : (x : OptI8) → I8Typed x → Each (λ z. mag z < 256 ^ 1 / 2) (opt_i8 x)
-i8_fits (OptI8C.Present z) h = omega arith
-i8_fits OptI8C.Absent h = tt
+i8_fits : (x : Option ℤ) → I8Typed x → Each (λ z. mag z < 256 ^ 1 / 2) (opt_i8 x)
+i8_fits (Some z) h = omega arith
+i8_fits None h = tt
 
-opt_time_fits : (x : OptTime) → TimeTyped x → Each (λ t. t < 256 ^ 4) (opt_time x)
-opt_time_fits (OptTimeC.Present t) h = omega arith
-opt_time_fits OptTimeC.Absent h = tt
+opt_time_fits : (x : Option Time) → TimeTyped x → Each (λ t. t < 256 ^ 4) (opt_time x)
+opt_time_fits (Some t) h = omega arith
+opt_time_fits None h = tt
 
 status_typed : (x : Statuses.Status) → StatusTyped x → StatusFits (status_means (status x))
 status_typed (StatusC.Status8 n) h = record { width = refl; number = omega arith }
@@ -52,9 +47,9 @@ status_typed (StatusC.Status16 n) h = record { width = refl; number = omega arit
 status_typed (StatusC.Status32 n) h = record { width = refl; number = omega arith }
 status_typed (StatusC.Status64 n) h = record { width = refl; number = omega arith }
 
-opt_status_fits : (x : OptStatus) → OptStatusTyped x → Each StatusFits (each status_means (opt_status x))
-opt_status_fits (OptStatusC.Present x) h = status_typed x h
-opt_status_fits OptStatusC.Absent h = tt
+opt_status_fits : (x : Option Statuses.Status) → OptStatusTyped x → Each StatusFits (each status_means (opt_status x))
+opt_status_fits (Some x) h = status_typed x h
+opt_status_fits None h = tt
 
 module _ (s : List ℕ) (b : OnlyBytes s) where
   value_typed : (x : Values.Value) → ValueTyped x → WideValueFits (value_means s (value x))

@@ -1,14 +1,7 @@
 -- claim: the records of the code, each number within its type: what a caller can lend at all.
-use Rattle.std.specs.Prelude.{◌^◌, ◌<◌}
+use Rattle.std.specs.Prelude.{ℕ, ℤ, ◌^◌, ◌<◌, Option, Some, None}
 use Rattle.std.specs.Int.Signed.{mag}
-use Rattle.value.specs.declared.OptU8.{OptU8}
-use Rattle.value.specs.declared.OptU8.TheVariants as OptU8C
-use Rattle.value.specs.declared.OptI8.{OptI8}
-use Rattle.value.specs.declared.OptI8.TheVariants as OptI8C
-use Rattle.value.specs.declared.OptTime.{OptTime}
-use Rattle.value.specs.declared.OptTime.TheVariants as OptTimeC
-use Rattle.value.specs.declared.OptStatus.{OptStatus}
-use Rattle.value.specs.declared.OptStatus.TheVariants as OptStatusC
+use Rattle.value.specs.declared.Time.{Time}
 use Rattle.value.specs.declared.Status as Statuses
 use Rattle.value.specs.declared.Status.TheVariants as StatusC
 use Rattle.value.specs.declared.Value as Values
@@ -19,18 +12,18 @@ use Rattle.message.specs.declared.GetListResponseStart.{GetListResponseStart}
 use Rattle.message.specs.declared.GetListResponseEnd.{GetListResponseEnd}
 use Rattle.writer.specs.declared.Head.{Head}
 
-abbrev pub U8Typed : OptU8 → Type 0
-U8Typed (OptU8C.Present n) = n < 2 ^ 8
-U8Typed OptU8C.Absent = Unit {0}
+abbrev pub U8Typed : Option ℕ → Type 0
+U8Typed (Some n) = n < 2 ^ 8
+U8Typed None = Unit {0}
 
 -- -128 has magnitude 127
-abbrev pub I8Typed : OptI8 → Type 0
-I8Typed (OptI8C.Present z) = mag z < 2 ^ 7
-I8Typed OptI8C.Absent = Unit {0}
+abbrev pub I8Typed : Option ℤ → Type 0
+I8Typed (Some z) = mag z < 2 ^ 7
+I8Typed None = Unit {0}
 
-abbrev pub TimeTyped : OptTime → Type 0
-TimeTyped (OptTimeC.Present t) = t.sec_index < 2 ^ 32
-TimeTyped OptTimeC.Absent = Unit {0}
+abbrev pub TimeTyped : Option Time → Type 0
+TimeTyped (Some t) = t.sec_index < 2 ^ 32
+TimeTyped None = Unit {0}
 
 abbrev pub StatusTyped : Statuses.Status → Type 0
 StatusTyped (StatusC.Status8 n) = n < 2 ^ 8
@@ -38,9 +31,9 @@ StatusTyped (StatusC.Status16 n) = n < 2 ^ 16
 StatusTyped (StatusC.Status32 n) = n < 2 ^ 32
 StatusTyped (StatusC.Status64 n) = n < 2 ^ 64
 
-abbrev pub OptStatusTyped : OptStatus → Type 0
-OptStatusTyped (OptStatusC.Present x) = StatusTyped x
-OptStatusTyped OptStatusC.Absent = Unit {0}
+abbrev pub OptStatusTyped : Option Statuses.Status → Type 0
+OptStatusTyped (Some x) = StatusTyped x
+OptStatusTyped None = Unit {0}
 
 abbrev pub ValueTyped : Values.Value → Type 0
 ValueTyped (ValueC.Bool b) = Unit {0}

@@ -1,27 +1,26 @@
 use mathlib.Core.Path.{refl}
-use native.Mathlib.Omega.{arith}
 use borrow.Author.Rules.{rules}
 use Rattle.common.specs.Answers.{list_entry}
 use Rattle.bench.proofs.Writes.{rest_first, rest_taken, rest_refused_claim, rest_done}
 use Rattle.bench.proofs.write_again.Goals as goal
 
 pub loop-n-init : goal.loop-n-init
-loop-n-init c = rw c.digest.ensures (omega arith, refl, rest_first _ _ _ _ _)
+loop-n-init c = rw c.digest.ensures (refl, rest_first _ _ _ _ _)
 
-pub returns-in-Refused : goal.returns-in-Refused
-returns-in-Refused c =
+pub returns-in-Err : goal.returns-in-Err
+returns-in-Err c =
     let l = c.loop-n in
     let a = c.args in
-    rest_refused_claim a.count l.n l.out l.w a.input.now (list_entry a.entry) _ _ _ c.loop-n-test.true (rw c.in-Refused.is at c.write_list_entry.ensures) l.invariant.2
+    rest_refused_claim a.count l.n l.out l.w a.input.now (list_entry a.entry) _ _ _ c.loop-n-test.true c.in-Err.ensures l.invariant.1
 
 pub loop-n-preserved : goal.loop-n-preserved
 loop-n-preserved c =
     let l = c.loop-n in
     let a = c.args in
-    (omega arith, search rules, rest_taken a.count l.n l.out l.w a.input.now (list_entry a.entry) _ _ _ c.loop-n-test.true (rw c.in-To.is at c.write_list_entry.ensures) l.invariant.2)
+    (search rules, rest_taken a.count l.n l.out l.w a.input.now (list_entry a.entry) _ _ _ c.loop-n-test.true c.in-Ok.ensures l.invariant.1)
 
 pub returns : goal.returns
 returns c =
     let l = c.loop-n in
     let a = c.args in
-    rest_done a.count l.n l.out l.w a.input.now (list_entry a.entry) _ (omega arith) l.invariant.2
+    rest_done a.count l.n l.out l.w a.input.now (list_entry a.entry) _ l.auto.n-end c.loop-n-test.false l.invariant.1

@@ -1,4 +1,4 @@
-use Prim.Native.Nat.{◌-◌, ◌≤◌}
+use Prim.Native.Nat.{◌-◌}
 use mathlib.Core.Path.{◌≡◌}
 use lib.ListN.{length}
 use Rattle.common.specs.Answers.{list_entry}
@@ -7,7 +7,4 @@ use Rattle.bench.proofs.Writes.{WithRest}
 use Rattle.bench.proofs.write_again.Given as goal
 
 abbrev pub invariant-loop-n : goal.invariant-loop-n
-invariant-loop-n l = (l.n ≤ l.count) × (length l.out ≡ length l.initial.out) × WithRest l.n (written_times (l.count - l.n) l.out l.w l.input (list_entry l.entry)) (written_times l.count l.initial.out (first_writer l.count) l.input (list_entry l.entry))
-
-abbrev pub decreases-loop-n : goal.decreases-loop-n
-decreases-loop-n l = l.count - l.n
+invariant-loop-n l = (length l.out ≡ length l.initial.out) × WithRest l.n (written_times (l.count - l.n) l.out l.w l.input (list_entry l.entry)) (written_times l.count l.initial.out (first_writer l.count) l.input (list_entry l.entry))

@@ -1,10 +1,7 @@
-use mathlib.Core.Path.{◌≡◌, sym, ap, ◌∙◌, subst}
-use mathlib.Core.Bool.{false}
-use Prim.Native.Nat.{ℕ, ◌≤◌}
+use mathlib.Core.Path.{refl, sym, ap, ◌∙◌}
 use native.Mathlib.Omega.{arith}
-use lib.ListN.{length, drop}
+use lib.ListN.{drop}
 use Rattle.decoder.specs.declared.Decoder.{Decoder}
-use Rattle.decoder.specs.Record.{unknown_way}
 use Rattle.decoder_slice.specs.Slice.{pushes_from}
 use Rattle.decoder.specs.Cut.{in_state}
 use Rattle.decoder.specs.declared.DecodeState.TheVariants.{LookingForMessageStart, ParsingNormal, ParsingEscChars, ParsingEscPayload}
@@ -16,13 +13,9 @@ use Rattle.decoder_slice.proofs.ahead.Goals as goal
 pub search_more-requires : goal.search_more-requires
 search_more-requires c =
     let a = c.args in
-    let inside : a.from ≤ length a.chunk.now = search rules in
     let bad = c.requires.0 in
-    let wrong = c.requires.1 in
-    let g = sane a.d bad in
     let z = sane_search a.d bad c.in-LookingForMessageStart.num_discarded_bytes c.in-LookingForMessageStart.num_init_seq_bytes c.in-LookingForMessageStart.is in
-    let i : a.d.crc_idx ≡ 0 = omega (arith, g.1, z.0) in
-    (sane_way a.d bad, i, z.0, runs.right_capacity _ _ wrong, z.1, inside, c.if-d-eq-INIT.true)
+    ((sane_way a.d bad, omega (arith, (sane a.d bad).1, z.0), z.0, runs.right_capacity _ _ c.requires.1, z.1, c.if-d-eq-INIT.true), search rules)
 
 pub returns-then-d-eq-INIT : goal.returns-then-d-eq-INIT
 returns-then-d-eq-INIT c =
@@ -34,43 +27,28 @@ returns-then-d-eq-INIT c =
 pub store_plain-requires : goal.store_plain-requires
 store_plain-requires c =
     let a = c.args in
-    let inside : a.from ≤ length a.chunk.now = search rules in
-    let bad = c.requires.0 in
-    let wrong = c.requires.1 in
-    let g = sane a.d bad in
-    let l = (right_buffer _ _ wrong).0 in
-    (sane_way a.d bad, g.1, subst (λ (n : ℕ). a.d.fill ≤ n) (sym l) g.0, sane_normal a.d bad c.in-ParsingNormal.is, l, runs.right_capacity _ _ wrong, inside)
+    let f = sane_normal a.d c.requires.0 c.in-ParsingNormal.is in
+    (runs.frames_at a.d a.buf.now c.requires.0 c.requires.1 0 f (omega (arith, (sane a.d c.requires.0).1)), search rules)
 
 pub wait_more-requires : goal.wait_more-requires
 wait_more-requires c =
     let a = c.args in
-    let inside : a.from ≤ length a.chunk.now = search rules in
     let bad = c.requires.0 in
-    let wrong = c.requires.1 in
-    let g = sane a.d bad in
     let z = sane_wait a.d bad c.in-ParsingEscChars.n c.in-ParsingEscChars.is in
-    (sane_way a.d bad, g.1, g.0, z.2, runs.right_capacity _ _ wrong, z.0, z.1, inside)
+    let g = sane a.d bad in
+    ((sane_way a.d bad, refl, runs.right_capacity _ _ c.requires.1, omega (arith, g.1), g.0, z.2), z.0, z.1, search rules)
 
 pub put_judged-requires : goal.put_judged-requires
 put_judged-requires c =
     let a = c.args in
-    let inside : a.from ≤ length a.chunk.now = search rules in
-    let bad = c.requires.0 in
-    let wrong = c.requires.1 in
-    let g = sane a.d bad in
-    let l = (right_buffer _ _ wrong).0 in
-    let z = sane_escape a.d bad c.in-ParsingEscPayload.n c.in-ParsingEscPayload.is in
-    (sane_way a.d bad, z.0, subst (λ (n : ℕ). a.d.fill ≤ n) (sym l) g.0, z.2, l, runs.right_capacity _ _ wrong, z.1, inside)
+    let z = sane_escape a.d c.requires.0 c.in-ParsingEscPayload.n c.in-ParsingEscPayload.is in
+    (runs.frames_at a.d a.buf.now c.requires.0 c.requires.1 c.in-ParsingEscPayload.n z.2 z.0, z.1, search rules)
 
 pub search_more-requires-in-Done : goal.search_more-requires-in-Done
 search_more-requires-in-Done c =
     let a = c.args in
-    let inside : a.from ≤ length a.chunk.now = search rules in
-    let bad = c.requires.0 in
-    let wrong = c.requires.1 in
-    let n = runs.reset_fresh _ _ c.reset-r.ensures in
-    let small = runs.right_capacity _ _ wrong in
-    (subst (λ (x : Decoder). unknown_way x.way ≡ false) (sym n) (sane_way a.d bad), ap (λ (x : Decoder). x.crc_idx) n, ap (λ (x : Decoder). x.fill) n, subst (λ (x : Decoder). x.capacity ≤ 1048576) (sym n) small, search rules, inside, ap (λ (x : Decoder). x.crc) n)
+    let n = runs.reset_fresh _ _ c.reset.ensures in
+    rw n ((sane_way a.d c.requires.0, refl, refl, runs.right_capacity _ _ c.requires.1, omega arith, refl), search rules)
 
 pub returns-in-ParsingNormal : goal.returns-in-ParsingNormal
 returns-in-ParsingNormal c =
@@ -96,7 +74,7 @@ returns-in-Done c =
     let a = c.args in
     let bad = c.requires.0 in
     let wrong = c.requires.1 in
-    let n = runs.reset_fresh _ _ c.reset-r.ensures in
+    let n = runs.reset_fresh _ _ c.reset.ensures in
     let e = c.search_more-in-Done.ensures in (
       e.0,
       e.1,

@@ -1,13 +1,14 @@
-use borrow.Author.Rules.{rules}
-use Prim.Native.Nat.{ℕ}
+use Prim.Native.Nat.{ℕ, ◌/◌, ◌≤◌}
 use mathlib.Core.Path.{◌≡◌}
-use lib.ListN.{get_or}
+use native.Mathlib.Omega.{arith}
+use lib.ListN.{length}
 use Rattle.decoder_slice.proofs.Skips as skips
 use Rattle.decoder_slice.proofs.plain_fours.Goals as goal
 
-pub loop-k-preserved : goal.loop-k-preserved
-loop-k-preserved c =
-    let l = c.loop-k in
-    let a = c.args in
-    let n = c.all_plain.ensures (c.if-not-all_plain.false) in
-    (search rules, search rules, search rules, search rules, search rules, search rules, search rules, skips.among_four (λ (i : ℕ). get_or a.chunk.now i 0 ≡ 0x1b → ⊥) a.from l.k l.invariant.7 n.0 n.1 n.2 n.3)
+pub returns : goal.returns
+returns c =
+    let s = c.args.part.now in
+    let e = c.fours_before_escape.ensures in
+    let few : c.fours_before_escape.result ≤ length s / 4 = omega (arith, e.0, c.as_chunks.ensures.front_len) in
+    let all = skips.in_runs (λ (v : ℕ). v ≡ 0x1b → ⊥) 4 (length s / 4) s (λ x y h. omega (arith, h)) (omega arith) c.as_chunks.result.0.now c.as_chunks.ensures.front c.fours_before_escape.result few e.1 in
+    (omega (arith, few), λ i le lt. all i le (omega (arith, lt)))

@@ -1,32 +1,26 @@
+use Prim.Native.Nat.{ℕ, ◌+◌, ◌-◌, ◌≤◌}
+use mathlib.Core.Path.{◌≡◌, refl, ap, ◌∙◌}
+use native.Mathlib.Omega.{arith}
 use borrow.Author.Rules.{rules}
-use Prim.Native.Nat.{◌+◌}
-use mathlib.Core.Path.{ap, ◌∙◌}
-use lib.ListN.{drop, length-set}
-use Rattle.decoder.specs.declared.Decoder.{Decoder}
-use Rattle.decoder_slice.specs.Slice.{pushes_from}
+use lib.ListN.{length, take, drop}
+use Rattle.decoder.specs.declared.DecodeState.TheVariants.{ParsingEscPayload}
 use Rattle.decoder_slice.proofs.Runs as runs
 use Rattle.decoder_slice.proofs.put_judged.Goals as goal
 
-pub loop-k-init : goal.loop-k-init
-loop-k-init c =
-    let a = c.args in
-    (search rules, search rules, search rules, search rules, search rules, search rules, runs.first_judged a.d a.n a.buf.now a.chunk.now a.from (search rules))
-
-pub loop-k-preserved : goal.loop-k-preserved
-loop-k-preserved c =
-    let l = c.loop-k in
-    let a = c.args in (
-      search rules,
-      search rules,
-      search rules,
-      search rules,
-      search rules,
-      simp length-set l.invariant.5,
-      runs.judged_next a.d a.n l.buf a.chunk.now a.from l.k (search rules) (search rules) (search rules) (search rules) (search rules) (search rules) (search rules) (search rules) ∙ l.invariant.6,
-    )
-
 pub returns : goal.returns
 returns c =
-    let l = c.loop-k in
     let a = c.args in
-    (search rules, search rules, ap (λ (x : Decoder). pushes_from (a.from + l.k) x l.buf (drop (a.from + l.k) a.chunk.now)) c.moved_by-g.ensures ∙ l.invariant.6)
+    let p = c.requires.0 in
+    let k = c.min-k.result in
+    let most = c.min-most.ensures in
+    let few = c.min-k.ensures in
+    let fit : a.d.fill + k ≤ length a.buf.now = omega (arith, most, few, p) in
+    let inside : a.from + k ≤ length a.chunk.now = omega (arith, most, few, c.requires) in
+    let three : a.n + k ≤ 3 = omega (arith, few, c.requires) in
+    let size : a.from + k - a.from ≡ k = omega arith in
+    let copied : c.copy_from_slice.new.self ≡ take k (drop a.from a.chunk.now) = c.copy_from_slice.ensures.after ∙ ap (λ (n : ℕ). take n (drop a.from a.chunk.now)) size in (
+      inside,
+      omega arith,
+      runs.stored_there a.d c.moved_by.result (ParsingEscPayload (a.n + k)) (ParsingEscPayload a.n) a.buf.now a.chunk.now _ a.from k _ refl c.moved_by.ensures copied fit inside
+          (runs.judged_run a.d a.n a.buf.now a.chunk.now a.from k p.0 p.3 (search rules) (search rules) p.1 p.2 fit inside three),
+    )

@@ -4,8 +4,7 @@ use mathlib.Core.Path.{◌≡◌, refl, sym, ◌∙◌}
 use native.Mathlib.Omega.{arith}
 use lib.ListN.{length, get_or}
 use Rattle.decoder.specs.Push.{second_way}
-use Rattle.decoder.specs.Run.{is_first}
-use Rattle.decoder.proofs.Search.{known_is, matched_more, matched_none}
+use Rattle.decoder.proofs.Search.{matched_more, matched_none}
 use Rattle.decoder_slice.proofs.Runs as runs
 use Rattle.decoder_slice.proofs.Skips as skips
 use Rattle.decoder_slice.proofs.search_first.Goals as goal
@@ -22,7 +21,7 @@ loop-k-preserved-then-q-eq4 c =
     let s = a.chunk.now in
     let said = sym c.matching.ensures in
     let other : a.d.way ≡ second_way → ⊥ = λ e. omega (arith, e) in
-    let way = known_is a.d.way (is_first (search rules)) in
+    let way = c.requires.0.0 in
     let small : a.d.capacity ≤ 1048576 = search rules in
     let room : a.from + l.k < length s = search rules in
     let z = runs.search_next a.d a.noise a.n l.q (l.q + 1) s a.from l.k way (search rules) (search rules) (search rules) small room l.invariant.4 l.invariant.3 (matched_more a.d.way l.q (get_or s (a.from + l.k) 0) other (said ∙ c.if-matching.true)) (λ w. c.if-q-eq7.false (omega arith)) in
@@ -42,7 +41,7 @@ loop-k-preserved-else-q-eq4 c =
     let s = a.chunk.now in
     let said = sym c.matching.ensures in
     let other : a.d.way ≡ second_way → ⊥ = λ e. omega (arith, e) in
-    let way = known_is a.d.way (is_first (search rules)) in
+    let way = c.requires.0.0 in
     let small : a.d.capacity ≤ 1048576 = search rules in
     let room : a.from + l.k < length s = search rules in
     let z = runs.search_next a.d a.noise a.n l.q (l.q + 1) s a.from l.k way (search rules) (search rules) (search rules) small room l.invariant.4 l.invariant.3 (matched_more a.d.way l.q (get_or s (a.from + l.k) 0) other (said ∙ c.if-matching.true)) (λ w. c.if-q-eq7.false (omega arith)) in
@@ -55,7 +54,7 @@ loop-k-preserved c =
     let s = a.chunk.now in
     let said = sym c.matching.ensures in
     let other : a.d.way ≡ second_way → ⊥ = λ e. omega (arith, e) in
-    let way = known_is a.d.way (is_first (search rules)) in
+    let way = c.requires.0.0 in
     let small : a.d.capacity ≤ 1048576 = search rules in
     let room : a.from + l.k < length s = search rules in
     let z = runs.search_next a.d a.noise a.n l.q 0 s a.from l.k way (search rules) (search rules) (search rules) small room l.invariant.4 l.invariant.3 (matched_none a.d.way l.q (get_or s (a.from + l.k) 0) other (said ∙ c.if-matching.false)) (λ w. omega arith) in

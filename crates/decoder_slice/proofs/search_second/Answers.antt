@@ -4,8 +4,7 @@ use mathlib.Core.Path.{◌≡◌, sym, ◌∙◌}
 use native.Mathlib.Omega.{arith}
 use lib.ListN.{length, get_or}
 use Rattle.decoder.specs.Push.{second_way}
-use Rattle.decoder.specs.Run.{is_second}
-use Rattle.decoder.proofs.Search.{known_is, second_matched}
+use Rattle.decoder.proofs.Search.{second_matched}
 use Rattle.decoder_slice.proofs.Runs as runs
 use Rattle.decoder_slice.proofs.Skips as skips
 use Rattle.decoder_slice.proofs.search_second.Goals as goal
@@ -22,7 +21,7 @@ loop-k-preserved-then-q-eq0 c =
     let s = a.chunk.now in
     let x = c.advance-next in
     let second : a.d.way ≡ second_way = search rules in
-    let way = known_is a.d.way (is_second second) in
+    let way = c.requires.0.0 in
     let small : a.d.capacity ≤ 1048576 = search rules in
     let room : a.from + l.k < length s = search rules in
     let z = runs.search_next a.d a.noise a.n l.q x.result s a.from l.k way (search rules) (search rules) (search rules) small room l.invariant.4 l.invariant.3 (x.ensures ∙ sym (second_matched a.d.way l.q (get_or s (a.from + l.k) 0) second)) c.if-next-eq8.false in
@@ -42,7 +41,7 @@ loop-k-preserved-then-q-eq4 c =
     let s = a.chunk.now in
     let x = c.advance-next in
     let second : a.d.way ≡ second_way = search rules in
-    let way = known_is a.d.way (is_second second) in
+    let way = c.requires.0.0 in
     let small : a.d.capacity ≤ 1048576 = search rules in
     let room : a.from + l.k < length s = search rules in
     let z = runs.search_next a.d a.noise a.n l.q x.result s a.from l.k way (search rules) (search rules) (search rules) small room l.invariant.4 l.invariant.3 (x.ensures ∙ sym (second_matched a.d.way l.q (get_or s (a.from + l.k) 0) second)) c.if-next-eq8.false in
@@ -62,7 +61,7 @@ loop-k-preserved c =
     let s = a.chunk.now in
     let x = c.advance-next in
     let second : a.d.way ≡ second_way = search rules in
-    let way = known_is a.d.way (is_second second) in
+    let way = c.requires.0.0 in
     let small : a.d.capacity ≤ 1048576 = search rules in
     let room : a.from + l.k < length s = search rules in
     let z = runs.search_next a.d a.noise a.n l.q x.result s a.from l.k way (search rules) (search rules) (search rules) small room l.invariant.4 l.invariant.3 (x.ensures ∙ sym (second_matched a.d.way l.q (get_or s (a.from + l.k) 0) second)) c.if-next-eq8.false in

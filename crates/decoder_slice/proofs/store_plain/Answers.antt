@@ -1,35 +1,25 @@
-use borrow.Author.Rules.{rules}
-use Prim.Native.Nat.{◌+◌}
-use mathlib.Core.Path.{ap, ◌∙◌}
+use Prim.Native.Nat.{ℕ, ◌+◌, ◌-◌, ◌≤◌}
+use mathlib.Core.Path.{◌≡◌}
 use native.Mathlib.Omega.{arith}
-use lib.ListN.{drop, length-set}
-use Rattle.decoder.specs.declared.Decoder.{Decoder}
+use borrow.Author.Rules.{rules}
+use lib.ListN.{length}
 use Rattle.decoder.specs.declared.DecodeState.TheVariants.{ParsingNormal}
-use Rattle.decoder_slice.specs.Slice.{pushes_from}
 use Rattle.decoder_slice.proofs.Runs as runs
 use Rattle.decoder_slice.proofs.store_plain.Goals as goal
 
-pub loop-k-init : goal.loop-k-init
-loop-k-init c =
-    let a = c.args in
-    let e = c.plain_end-to.ensures in
-    (search rules, search rules, search rules, search rules, search rules, runs.first_goes a.d ParsingNormal a.buf.now a.chunk.now a.from (search rules), λ i h g. e.2 i h (omega arith))
-
-pub loop-k-preserved : goal.loop-k-preserved
-loop-k-preserved c =
-    let l = c.loop-k in
-    let a = c.args in (
-      search rules,
-      search rules,
-      search rules,
-      search rules,
-      simp length-set l.invariant.4,
-      runs.plain_next a.d l.buf a.chunk.now a.from l.k (search rules) (search rules) (search rules) (search rules) (search rules) (search rules) (search rules) (l.invariant.6 (a.from + l.k) (search rules) (search rules)) ∙ l.invariant.5,
-      l.invariant.6,
-    )
-
 pub returns : goal.returns
 returns c =
-    let l = c.loop-k in
     let a = c.args in
-    (search rules, search rules, ap (λ (x : Decoder). pushes_from (a.from + l.k) x l.buf (drop (a.from + l.k) a.chunk.now)) c.moved_by-n.ensures ∙ l.invariant.5)
+    let p = c.requires.0 in
+    let e = c.plain_end-to.ensures in
+    let most = c.min-most.ensures in
+    let to = c.plain_end-to.result in
+    let k : ℕ = to - a.from in
+    let at : to ≡ a.from + k = omega (arith, e.0) in
+    let fit : a.d.fill + k ≤ length a.buf.now = omega (arith, e.0, e.1, most, p) in
+    let inside : a.from + k ≤ length a.chunk.now = omega (arith, e.0, e.1, most, c.requires) in (
+      omega (arith, at, inside),
+      e.0,
+      runs.stored_there a.d c.moved_by.result ParsingNormal ParsingNormal a.buf.now a.chunk.now _ a.from k to at c.moved_by.ensures c.copy_from_slice.ensures.after fit inside
+          (runs.plain_run a.d a.buf.now a.chunk.now a.from k p.0 (omega (arith, p)) (search rules) (search rules) p.1 p.2 fit inside (λ i le lt. e.2 i le (omega (arith, at, lt)))),
+    )

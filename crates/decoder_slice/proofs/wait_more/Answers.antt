@@ -1,32 +1,24 @@
+use Prim.Native.Nat.{ℕ, ◌+◌, ◌-◌, ◌≤◌}
+use mathlib.Core.Path.{◌≡◌}
+use native.Mathlib.Omega.{arith}
 use borrow.Author.Rules.{rules}
-use Prim.Native.Nat.{◌+◌}
-use mathlib.Core.Path.{ap, ◌∙◌}
-use lib.ListN.{drop}
-use Rattle.decoder.specs.declared.Decoder.{Decoder}
-use Rattle.decoder.specs.declared.DecodeState.TheVariants.{ParsingEscChars}
-use Rattle.decoder_slice.specs.Slice.{pushes_from}
+use lib.ListN.{length}
 use Rattle.decoder_slice.proofs.Runs as runs
 use Rattle.decoder_slice.proofs.wait_more.Goals as goal
 
-pub loop-k-init : goal.loop-k-init
-loop-k-init c =
-    let a = c.args in
-    (search rules, search rules, search rules, search rules, search rules, λ m h. runs.first_goes a.d (ParsingEscChars a.n) m a.chunk.now a.from (search rules))
-
-pub loop-k-preserved : goal.loop-k-preserved
-loop-k-preserved c =
-    let l = c.loop-k in
-    let a = c.args in (
-      search rules,
-      search rules,
-      search rules,
-      search rules,
-      search rules,
-      λ m h. runs.wait_next a.d l.q m a.chunk.now a.from l.k (search rules) (search rules) (search rules) (search rules) h (search rules) (search rules) (search rules) (search rules) c.if-chunk-from-ne-ESC.false c.if-q-eq3.false ∙ l.invariant.5 m h,
-    )
-
 pub returns : goal.returns
 returns c =
-    let l = c.loop-k in
     let a = c.args in
-    (search rules, search rules, λ m h. ap (λ (x : Decoder). pushes_from (a.from + l.k) x m (drop (a.from + l.k) a.chunk.now)) c.moved_by-g.ensures ∙ l.invariant.5 m h)
+    let p = c.requires.0 in
+    let e = c.escapes_end-to.ensures in
+    let most = c.min-most.ensures in
+    let to = c.escapes_end-to.result in
+    let k : ℕ = to - a.from in
+    let at : to ≡ a.from + k = omega (arith, e.0) in
+    let inside : a.from + k ≤ length a.chunk.now = omega (arith, e.0, e.1, most, c.requires) in
+    let three : a.n + k ≤ 3 = omega (arith, e.0, e.1, most, c.requires) in (
+      omega (arith, at, inside),
+      e.0,
+      λ m h. rw (at, c.moved_by.ensures)
+          (runs.wait_run a.d a.n m a.chunk.now a.from p.0 (omega (arith, p)) p.4 (search rules) (search rules) h p.2 c.requires.1 k three inside (λ i le lt. e.2 i le (omega (arith, at, lt)))),
+    )

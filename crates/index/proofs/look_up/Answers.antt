@@ -1,24 +1,22 @@
-use mathlib.Core.Path.{refl, sym, ◌∙◌}
-use Rattle.index.proofs.Sought.{look_begin, look_next, look_long, look_part, look_unsound, look_found, look_none}
+use mathlib.Core.Path.{sym, ◌∙◌}
+use borrow.Author.Rules.{rules}
+use Rattle.index.proofs.Sought.{turn_taken, turn_refused, turns_over, found_is, look_all}
 use Rattle.index.proofs.look_up.Goals as goal
 
-pub returns-then-input-gt-LIMIT : goal.returns-then-input-gt-LIMIT
-returns-then-input-gt-LIMIT c = look_long _ _ _ c.if-input-gt-LIMIT.true
-
-pub returns-then-table-ne0 : goal.returns-then-table-ne0
-returns-then-table-ne0 c = look_part _ _ _ c.if-input-gt-LIMIT.false c.if-table-ne0.true
-
-pub loop-i-init : goal.loop-i-init
-loop-i-init c = look_begin
-
 pub returns-then-not-row_is_sound : goal.returns-then-not-row_is_sound
-returns-then-not-row_is_sound c = look_unsound _ _ _ c.if-input-gt-LIMIT.false c.if-table-ne0.false _ c.loop-i-test.true (sym c.row_is_sound.ensures ∙ c.if-not-row_is_sound.true)
+returns-then-not-row_is_sound c =
+    let w = c.loop-numbers in
+    sym (turn_refused _ _ _ _ _ _ _ c.loop-numbers-test.true c.as_row-row.ensures (sym c.row_is_sound.ensures ∙ c.if-not-row_is_sound.true)) ∙ w.invariant
+    ∙ look_all _ _ _ _ c.if-input-gt-LIMIT.false (search rules) c.as_chunks.ensures.front
 
-pub loop-i-preserved : goal.loop-i-preserved
-loop-i-preserved c = look_next c.loop-i.invariant c.loop-i-test.true (sym c.row_is_sound.ensures ∙ c.if-not-row_is_sound.false) c.first_of-found.ensures
+pub loop-numbers-preserved : goal.loop-numbers-preserved
+loop-numbers-preserved c =
+    let w = c.loop-numbers in
+    rw c.first_of-found.ensures
+    (turn_taken _ _ _ _ _ _ _ c.loop-numbers-test.true c.as_row-row.ensures (sym c.row_is_sound.ensures ∙ c.if-not-row_is_sound.false) ∙ w.invariant)
 
-pub returns-then-found-n : goal.returns-then-found-n
-returns-then-found-n c = look_found _ _ _ c.if-input-gt-LIMIT.false c.if-table-ne0.false c.loop-i.invariant refl c.loop-i-test.false c.if-found-n.true _ c.nth_row.ensures
-
-pub returns-else-found-n : goal.returns-else-found-n
-returns-else-found-n c = look_none _ _ _ c.if-input-gt-LIMIT.false c.if-table-ne0.false c.loop-i.invariant refl c.loop-i-test.false c.if-found-n.false
+pub returns : goal.returns
+returns c =
+    let w = c.loop-numbers in
+    found_is w.found ∙ sym (turns_over _ _ _ _ _ _ c.loop-numbers-test.false) ∙ w.invariant
+    ∙ look_all _ _ _ _ c.if-input-gt-LIMIT.false (search rules) c.as_chunks.ensures.front

@@ -5,6 +5,3 @@ use Rattle.index.proofs.make_heap.Given as goal
 
 abbrev pub invariant-loop-lo : goal.invariant-loop-lo
 invariant-loop-lo l = Heaping l.input l.initial.table l.n l.table l.lo × TurnsLeft l.n (l.n / 2) l.initial.spent l.spent l.lo
-
-abbrev pub decreases-loop-lo : goal.decreases-loop-lo
-decreases-loop-lo l = l.lo

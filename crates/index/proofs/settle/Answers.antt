@@ -1,15 +1,7 @@
 use native.Mathlib.Omega.{arith}
-use Rattle.index.proofs.Few.{turns_begin, turns_next, turns_end}
-use Rattle.index.proofs.Steps.{settle_begin, settle_before, settle_heap, settle_kept, settle_next, settle_end}
+use Rattle.index.proofs.Few.{turns_next, turns_end}
+use Rattle.index.proofs.Steps.{settle_before, settle_heap, settle_kept, settle_next}
 use Rattle.index.proofs.settle.Goals as goal
-
-pub loop-end-init : goal.loop-end-init
-loop-end-init c = (settle_begin c.requires.3, turns_begin _ _ _)
-
-pub exchange-requires : goal.exchange-requires
-exchange-requires c =
-    let w = c.loop-end.invariant.0 in
-    omega (arith, w.low, w.kept.long, c.requires.1, c.loop-end-test.true)
 
 pub sink-requires : goal.sink-requires
 sink-requires c =
@@ -28,11 +20,3 @@ loop-end-preserved c =
     let a = c.requires in
     let e = c.sink.ensures in
     (settle_next w (omega arith) a.1 c.exchange.ensures e.1 e.2, turns_next (omega arith) (omega (arith, i.0.low)) i.1 e.0)
-
-pub shape_of-table : goal.shape_of-table
-shape_of-table c = c.loop-end.invariant.0.kept.long
-
-pub returns : goal.returns
-returns c =
-    let w = c.loop-end.invariant in
-    (turns_end w.1, settle_end w.0 c.loop-end-test.false, w.0.kept)

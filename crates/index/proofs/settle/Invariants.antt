@@ -4,6 +4,3 @@ use Rattle.index.proofs.settle.Given as goal
 
 abbrev pub invariant-loop-end : goal.invariant-loop-end
 invariant-loop-end l = Settling l.input l.initial.table l.n l.table l.end × TurnsLeft l.n l.n l.initial.spent l.spent l.end
-
-abbrev pub decreases-loop-end : goal.decreases-loop-end
-decreases-loop-end l = l.end

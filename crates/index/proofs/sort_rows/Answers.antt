@@ -1,18 +1,7 @@
 use native.Mathlib.Omega.{arith}
-use Rattle.index.proofs.Few.{few_of, few_less}
-use Rattle.index.proofs.Rows.{table_sorted, kept_none, kept_then}
+use Rattle.index.proofs.Few.{few_of}
+use Rattle.index.proofs.Rows.{table_sorted, kept_then}
 use Rattle.index.proofs.sort_rows.Goals as goal
-
-pub returns-then-in_order : goal.returns-then-in_order
-returns-then-in_order c =
-    let a = c.requires in
-    let e = c.in_order.ensures in
-    (table_sorted _ _ _ _ a.1 a.2 (kept_none _ _) (e.0 c.if-in_order.true), few_less _ _ _ e.1)
-
-pub make_heap-requires : goal.make_heap-requires
-make_heap-requires c =
-    let a = c.requires in
-    (a.0, a.1, omega (arith, c.in_order.ensures.1, a.0, a.3))
 
 pub settle-requires : goal.settle-requires
 settle-requires c =

@@ -7,12 +7,12 @@ use borrow.Author.Rules.{rules}
 use Rattle.std.proofs.lemmas.Result.{err_from_is_err_and}
 use Rattle.smlcat.proofs.drive.Goals as goal
 
-pub returns-then-taken-eq0-clause-ok : goal.returns-then-taken-eq0-clause-ok
-returns-then-taken-eq0-clause-ok g c =
+pub returns-then-p-eq0-clause-ok : goal.returns-then-p-eq0-clause-ok
+returns-then-p-eq0-clause-ok g c =
     let l = c.loop-i in
     let a = c.args in
     let p = c.push_slice-p in
-    fed_stop l.at l.buf a.chunk.now l.i p.result _ p.ensures c.loop-i-test.true c.if-taken-eq0.true ∙ l.invariant.1
+    fed_stop l.at l.buf a.chunk.now l.i p.result _ p.ensures c.loop-i-test.true c.if-p-eq0.true ∙ l.invariant.1
 
 pub overflow_add-i : goal.overflow_add-i
 overflow_add-i g c =
@@ -38,7 +38,7 @@ loop-i-preserved g c =
     let l = c.loop-i in
     let a = c.args in
     let p = c.push_slice-p in
-    (part_room l.at l.buf a.chunk.now l.i p.result _ p.ensures c.loop-i-test.true, fed_on l.at l.buf a.chunk.now l.i p.result _ p.ensures c.loop-i-test.true c.if-taken-eq0.false ∙ l.invariant.1)
+    (part_room l.at l.buf a.chunk.now l.i p.result _ p.ensures c.loop-i-test.true, fed_on l.at l.buf a.chunk.now l.i p.result _ p.ensures c.loop-i-test.true c.if-p-eq0.false ∙ l.invariant.1)
 
 pub returns-clause-ok : goal.returns-clause-ok
 returns-clause-ok g c =

@@ -1,20 +1,8 @@
-use Rattle.refusals.specs.Read.{then}
 use Rattle.refusals.proofs.Read.{ok_at}
 use Rattle.numbers.proofs.Numbers.{unsigned_ok}
-use Rattle.value.specs.Values.{status_of}
 use Rattle.value.proofs.status_of.Goals as goal
 
 pub status_with-requires : goal.status_with-requires
 status_with-requires c =
-    let found = rw (c.requires, c.in-Is.is) at c.parse_u64.ensures in
+    let found = rw c.requires at c.in_ok-value.ensures in
     rw c.width_of.ensures (ok_at found (unsigned_ok _ _ _ c.type_inv.input)).0
-
-pub returns-in-Is : goal.returns-in-Is
-unfolding status_of then
-returns-in-Is c =
-    rw (← c.requires, ← c.parse_u64.ensures, c.in-Is.is, c.status_with.ensures, c.width_of.ensures)
-
-pub returns-in-Refused : goal.returns-in-Refused
-unfolding status_of then
-returns-in-Refused c =
-    rw (← c.requires, ← c.parse_u64.ensures, c.in-Refused.is)

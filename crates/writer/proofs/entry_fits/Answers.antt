@@ -19,4 +19,4 @@ returns-then-short_entry c =
     sym (le-leb _ _ inside)
 
 pub returns : goal.returns
-returns c = rw c.put_entry.ensures.place (cap_within _ _ (omega arith))
+returns c = rw (c.put_entry.ensures.puts (omega (arith, c.ranges.place.fits))).place (cap_within _ _ (omega arith))

@@ -1,4 +1,4 @@
-use Prim.Native.Nat.{◌-◌, ◌^◌, ◌≤◌}
+use Prim.Native.Nat.{◌-◌, ◌^◌}
 use mathlib.Core.Path.{◌≡◌}
 use lib.Dec.{ltb}
 use Rattle.byte_count.specs.Count.{first_that}
@@ -6,8 +6,5 @@ use Rattle.tlf.specs.Written.{total}
 use Rattle.writer.specs.Fields.{length_count}
 use Rattle.writer.proofs.length_count.Given as goal
 
-abbrev pub invariant-loop-ty : goal.invariant-loop-ty
-invariant-loop-ty l = (1 ≤ l.n) × (l.n ≤ 16) × (first_that (17 - l.n) l.n (λ m. ltb (total l.ty l.len m) (16 ^ m)) ≡ length_count l.ty l.len)
-
-abbrev pub decreases-loop-ty : goal.decreases-loop-ty
-decreases-loop-ty l = 16 - l.n
+abbrev pub invariant-loop-n : goal.invariant-loop-n
+invariant-loop-n l = first_that (17 - l.n) l.n (λ m. ltb (total l.ty l.len m) (16 ^ m)) ≡ length_count l.ty l.len

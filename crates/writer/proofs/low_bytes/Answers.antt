@@ -1,4 +1,4 @@
-use Rattle.writer.proofs.Signs.{low_below, low_not_below, not_below}
+use Rattle.writer.proofs.Signs.{low_below, low_not_below}
 use Rattle.numbers.proofs.Numbers.{ones_are}
 use mir.ValLaws.{to_z-of_z}
 use mir.Val.{SFits}
@@ -15,13 +15,6 @@ overflow_sub-result-then-z-lt0 c =
     let a = c.args in
     let p = c.requires in
     rw (ones_are a.n p.0 p.1) (omega (arith, rw (to_z-of_z w64 a.z c.ranges.z) at c.magnitude.ensures, p.2))
-
-pub overflow_cast-result-else-z-lt0 : goal.overflow_cast-result-else-z-lt0
-overflow_cast-result-else-z-lt0 c =
-    let a = c.args in
-    let s : SFits w64 a.z = c.ranges.z in
-    let h : lt_z a.z (pos 0) ≡ false = rw (to_z-of_z w64 a.z s) at c.if-z-lt0.false in
-    rw (to_z-of_z w64 a.z s, not_below a.z h) (tt, record { fits = omega (arith, s.sfits) })
 
 pub returns-then-z-lt0 : goal.returns-then-z-lt0
 returns-then-z-lt0 c =

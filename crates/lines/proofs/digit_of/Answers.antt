@@ -1,8 +1,0 @@
-use borrow.Author.Tests.{lt-ltb, le-ltb}
-use Rattle.lines.proofs.digit_of.Goals as goal
-
-pub returns-then-n-lt10 : goal.returns-then-n-lt10
-returns-then-n-lt10 c = simp (lt-ltb _ _ c.if-n-lt10.true)
-
-pub returns-else-n-lt10 : goal.returns-else-n-lt10
-returns-else-n-lt10 c = simp (le-ltb _ _ c.if-n-lt10.false)

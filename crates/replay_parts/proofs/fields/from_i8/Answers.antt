@@ -1,7 +1,0 @@
-use native.Mathlib.Omega.{arith}
-use mir.Syntax.{w8}
-use mir.ValLaws.{to_z-of_z}
-use Rattle.replay_parts.proofs.fields.from_i8.Goals as goal
-
-pub overflow_cast-result : goal.overflow_cast-result
-overflow_cast-result c = rw (to_z-of_z w8 c.args.x c.ranges.x) (record { sfits = omega (arith, c.ranges.x.sfits) })

@@ -1,4 +1,0 @@
-use Rattle.sartrogheo.proofs.index_no.Goals as goal
-
-pub returns-in-Refused : goal.returns-in-Refused
-returns-in-Refused c = rw c.in-Refused.is c.fault_no.ensures

@@ -1,6 +1,0 @@
-use Rattle.words.specs.Words.{with_zeros}
-use Rattle.words.proofs.list_words.Goals as goal
-
-pub returns : goal.returns
-unfolding with_zeros
-returns c = rw (← c.time_field-time.ensures, ← c.span_field-name.ensures, ← c.span_field-client.ensures)

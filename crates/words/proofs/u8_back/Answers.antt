@@ -1,8 +1,0 @@
-use borrow.Author.Tests.{ne_eqb}
-use Rattle.words.proofs.u8_back.Goals as goal
-
-pub returns-then-present-eq1 : goal.returns-then-present-eq1
-returns-then-present-eq1 c = rw (c.if-present-eq1.true, c.low_u8.ensures)
-
-pub returns : goal.returns
-returns c = rw (ne_eqb _ _ c.if-present-eq1.false)
