@@ -37,6 +37,14 @@ fn byte(pair: &[u8]) -> Option<u8> {
     }
 }
 
+// Whether a word is hex, as `unhex` reads it.
+fn is_hex(s: &[u8]) -> bool {
+    match s {
+        b"-" => true,
+        _ => !s.is_empty() && s.len() % 2 == 0 && s.iter().all(|c| digit(*c).is_some()),
+    }
+}
+
 // The bytes of a hex word, which go to `bytes`; `-` stands for no bytes.
 pub(crate) fn unhex<'a>(s: &[u8], bytes: &'a mut [u8]) -> Option<&'a mut [u8]> {
     if s == b"-".as_slice() {
@@ -71,6 +79,11 @@ pub(crate) fn text(rt: &impl Print, s: &[u8]) -> io::Result<()> {
     rt.write_all(s)
 }
 
+// The hex digits, each by itself: to format a byte as `{b:02x}` takes longer than to write two of these.
+const DIGITS: [&str; 16] = [
+    "0", "1", "2", "3", "4", "5", "6", "7", "8", "9", "a", "b", "c", "d", "e", "f",
+];
+
 // Bytes that are written in hex.
 #[derive(Clone, Copy)]
 struct HexBytes<'a>(&'a [u8]);
@@ -78,7 +91,8 @@ struct HexBytes<'a>(&'a [u8]);
 impl fmt::Display for HexBytes<'_> {
     fn fmt<W: fmt::Write>(&self, f: &mut fmt::Formatter<W>) -> fmt::Result {
         for b in self.0 {
-            write!(f, "{b:02x}")?;
+            f.write_str(DIGITS[*b as usize / 16])?;
+            f.write_str(DIGITS[*b as usize % 16])?;
         }
         Ok(())
     }
@@ -94,14 +108,17 @@ pub(crate) fn bad(rt: &impl Print) -> io::Result<()> {
 
 // ---- lines
 
-// Hands the bytes of a hex word to a command of bytes.
-pub(crate) fn with_bytes<F: FnOnce(&[u8]) -> io::Result<()>>(
+// Hands the bytes of a hex word to a command of bytes. The word is judged first, since zeroing the room for its bytes takes longer.
+pub(crate) fn with_bytes<F: FnOnce(&mut [u8]) -> io::Result<()>>(
     rt: &impl Print,
     hex: &[u8],
     answer: F,
 ) -> io::Result<()>
     requires { F.IsAlwaysCallable answer }
 {
+    if !is_hex(hex) {
+        return bad(rt);
+    }
     let mut bytes = [0u8; BYTES];
     match unhex(hex, &mut bytes) {
         Some(input) => answer(input),

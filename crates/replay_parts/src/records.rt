@@ -1,5 +1,5 @@
 // The commands `unpack` and `pack`: a decoder's record out of bytes and into them, each field by itself.
-use super::line::{BYTES, bad, cut, hex, number, text, unhex};
+use super::line::{bad, cut, hex, number, text, unhex, with_bytes};
 use decoder::{DecodeState, Decoder};
 use packed::PackError;
 use std::io;
@@ -144,12 +144,8 @@ fn record_of(words: &mut Words<'_>) -> Option<Decoder> {
 // The nine fields of a record, and what the output holds.
 pub(crate) fn pack(rt: &impl Print, rest: &[u8]) -> io::Result<()> {
     let mut words = Words(rest);
-    let Some(d) = record_of(&mut words) else {
-        return bad(rt);
-    };
-    let mut bytes = [0u8; BYTES];
-    match unhex(words.0, &mut bytes) {
-        Some(out) => pack_into(rt, d, out),
+    match record_of(&mut words) {
+        Some(d) => with_bytes(rt, words.0, |out| pack_into(rt, d, out)),
         None => bad(rt),
     }
 }
