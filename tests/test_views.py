@@ -1,5 +1,5 @@
 """Views map a name to itself, so that two fields exchanged in the code and in its view are not proved unseen. A view is a definition of a file labelled `view`, or one that a crate's `Views` names, with what it rests on.
-Of a declared struct each field is used once, and gives the field of its own name (exceptions: ANSWERS, WORDS), or, where no record is written out, stands in its declared order. Of a declared variant the values are bound by their declared names and given on in their order; a case of a refusal has the number of its name, a case of so many bits that many bytes. Both are followed into a Result, an Option and an abbreviation of these.
+Of a declared struct each field is used once, and gives the field of its own name (exceptions: ANSWERS, WORDS), or, where no record is written out, stands in its declared order. Of a declared variant the values are bound by their declared names and given on in their order; a case of a refusal has the number of its name, a case of so many bits that many bytes. Both are followed into a Result, an Option and an abbreviation of these; so is a pair, whose two parts have no names: each is used once, in their order.
 And wherever a record is written out, in specs/ or in the code, no field is given the value that has another's name."""
 import glob, os, re, sys
 
@@ -12,8 +12,9 @@ STATE = ["mem_of", "setup", "record_with"]
 # a view that writes no record out, but goes through the cases of one field, which are read as such
 BY_CASES = ["fault_of"]
 # what is followed at least: fewer means that a form of the code is not seen here
-FLOOR = {"views": 85, "fields": 60, "cases": 80}
-bad, fields, cases, literals = [], 0, 0, 0
+FLOOR = {"views": 85, "fields": 60, "cases": 80, "pairs": 2}
+PAIR = "×"
+bad, fields, cases, pairs, literals = [], 0, 0, 0, 0
 OF = {}  # the type of a struct's field, as it is written
 
 
@@ -146,7 +147,7 @@ def declared_in(file, terms, seen=()):
 
 
 def opened(file, pattern, of, within=False):
-    """What a pattern binds: names that stand for a declared struct, with whether they stand in a Result or an Option, and cases of declared enums with what is bound behind them."""
+    """What a pattern binds: names that stand for a declared struct or a pair, with whether they stand in a Result or an Option, and cases of declared enums with what is bound behind them."""
     while len(of) == 1 and isinstance(of[0], list) and of[0][0] == "(":
         of = of[0][1:]
     inner = pattern[1:] if isinstance(pattern, list) else [pattern]
@@ -163,6 +164,8 @@ def opened(file, pattern, of, within=False):
         yield from opened(file, inner[1], of[at : at + 1] if of and str(of[0]).split(".")[-1] in ("Result", "Option") else [], True)
     elif isinstance(pattern, str) and len(of) == 1 and isinstance(of[0], str) and file.types.get(of[0]) in STRUCTS:
         yield file.types[of[0]], pattern, within
+    elif isinstance(pattern, str) and of[1:2] == [PAIR]:
+        yield PAIR, pattern, within
 
 
 def made(file, body):
@@ -204,6 +207,16 @@ def of_struct(file, name, struct, x, right, whole, within):
         bad.append(f"{file.path}: {name} uses {', '.join(used)}, and {struct[1]} has {', '.join(STRUCTS[struct])}")
 
 
+def of_pair(file, name, x, right):
+    """The parts of a pair once, in their order, and the pair itself nowhere."""
+    global pairs
+    pairs += 1
+    said = words(right)
+    used = [part for w, part in zip(said, said[1:] + [""]) if w == x]
+    if used != [".0", ".1"]:
+        bad.append(f"{file.path}: {name} does not give the parts of its pair once, in their order")
+
+
 def of_enum(file, name, case, bound, right):
     """The values of a case by their declared names, once and in their order; numbers and widths as the case is named."""
     global cases
@@ -238,7 +251,9 @@ for file in FILES.values():
         for left, right in file.clauses.get(name, []) if (file, name) in views or name in STATE else []:
             for pattern, of in zip(left, file.arguments(name)):
                 for what, bound, within in opened(file, pattern, of):
-                    if what in STRUCTS:
+                    if what == PAIR:
+                        of_pair(file, name, bound, right)
+                    elif what in STRUCTS:
                         of_struct(file, name, what, bound, right, name not in STATE, within)
                     elif (file, name) in views:
                         of_enum(file, name, what, bound, right)
@@ -270,7 +285,7 @@ for path in sorted(glob.glob("crates/*/specs/*.antt") + glob.glob("crates/*/src/
                 bad.append(f"{path}: the field {field} is given {value}")
 
 print("\n".join(bad))
-print(f"{len(views)} views, {fields} fields, {cases} cases, {literals} records written out, {len(bad)} faults")
-low = [f"{what}: {got} followed, of at least {FLOOR[what]}" for what, got in [("views", len(views)), ("fields", fields), ("cases", cases)] if got < FLOOR[what]]
+print(f"{len(views)} views, {fields} fields, {cases} cases, {pairs} pairs, {literals} records written out, {len(bad)} faults")
+low = [f"{what}: {got} followed, of at least {FLOOR[what]}" for what, got in [("views", len(views)), ("fields", fields), ("cases", cases), ("pairs", pairs)] if got < FLOOR[what]]
 print("\n".join(low), end="\n" if low else "")
 sys.exit(1 if bad or low else 0)

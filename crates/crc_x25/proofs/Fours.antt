@@ -1,4 +1,4 @@
--- Why bits may go through the register several at a time: what stands above those that go out is only moved down. Four bits by the table, eight bytes as one number.
+-- Why bits may go through the register several at a time: what stands above those that go out is only moved down. Four bits by the table, four bytes or eight as one number.
 use Prim.Native.Nat.{ℕ, zero, suc, ◌+◌, ◌*◌, ◌/◌, ◌%◌, ◌^◌, ◌<◌}
 use mathlib.Core.List.{List, [], ◌∷◌, ◌++◌}
 use mathlib.Core.Bool.{Bool, true, false, cond}
@@ -68,7 +68,7 @@ by_table r =
     ∙ sym (bits_under 4 (r / 16) (r % 16))
     ∙ ap (bit_steps 4) (xor_shifted (r / 16) 4 (r % 16) low ∙ div-add-mod' r 16)
 
--- ---- eight bytes, as one number
+-- ---- bytes, as one number
 
 -- the byte a, with w above it
 above : (r a w : ℕ) → a < 256 → bit_xor r (a + w * 256) ≡ bit_xor (w * 2 ^ 8) (bit_xor r a)
@@ -84,6 +84,18 @@ byte_out k r a w h =
     ap (bit_steps (8 + k)) (above r a w h)
     ∙ sym (bits_more 8 k (bit_xor (w * 2 ^ 8) (bit_xor r a)))
     ∙ ap (bit_steps k) (bits_under 8 w (bit_xor r a) ∙ xor_comm w (bit_steps 8 (bit_xor r a)))
+
+pub byte_is_lem : (r b : ℕ) → bit_steps 8 (bit_xor r b) ≡ byte_step r b
+unfolding byte_step
+byte_is_lem r b = refl
+
+pub bytes_out : (r a b c d : ℕ) → a < 256 → b < 256 → c < 256
+    → bit_steps 32 (bit_xor r (a + (b + (c + d * 256) * 256) * 256)) ≡ byte_step (byte_step (byte_step (byte_step r a) b) c) d
+bytes_out r a b c d ha hb hc =
+    byte_out 24 r a (b + (c + d * 256) * 256) ha
+    ∙ byte_out 16 (byte_step r a) b (c + d * 256) hb
+    ∙ byte_out 8 (byte_step (byte_step r a) b) c d hc
+    ∙ byte_is_lem (byte_step (byte_step (byte_step r a) b) c) d
 
 as_one : (r : ℕ) (s : List ℕ) → length s ≡ 8 → ((i : ℕ) → get_or s i 0 < 256) → bit_steps 64 (bit_xor r (from_le_bytes w64 s)) ≡ register r s
 unfolding register byte_step
@@ -111,8 +123,8 @@ as_one r (a ∷ b ∷ c ∷ d ∷ e ∷ f ∷ g ∷ h ∷ x ∷ s) n fits = absu
 pub eight_more : (k x r : ℕ) → x ≡ bit_steps (8 * k) r → bit_steps 8 x ≡ bit_steps (8 * (k + 1)) r
 eight_more k x r e = let n : 8 * k + 8 ≡ 8 * (k + 1) = omega arith in ap (bit_steps 8) e ∙ bits_more (8 * k) 8 r ∙ ap (λ (m : ℕ). bit_steps m r) n
 
-pub bytes_out : (r x k w : ℕ) (s : List ℕ) → length s ≡ 8 → ((i : ℕ) → get_or s i 0 < 256) → w ≡ from_le_bytes w64 s → 8 ≡ k → x ≡ bit_steps (8 * k) (bit_xor r w) → x ≡ register r s
-bytes_out r x k w s n fits e f h = h ∙ ap (λ (m : ℕ). bit_steps (8 * m) (bit_xor r w)) (sym f) ∙ ap (λ (w : ℕ). bit_steps 64 (bit_xor r w)) e ∙ as_one r s n fits
+pub eight_out : (r x k w : ℕ) (s : List ℕ) → length s ≡ 8 → ((i : ℕ) → get_or s i 0 < 256) → w ≡ from_le_bytes w64 s → 8 ≡ k → x ≡ bit_steps (8 * k) (bit_xor r w) → x ≡ register r s
+eight_out r x k w s n fits e f h = h ∙ ap (λ (m : ℕ). bit_steps (8 * m) (bit_xor r w)) (sym f) ∙ ap (λ (w : ℕ). bit_steps 64 (bit_xor r w)) e ∙ as_one r s n fits
 
 rest_more : (n k : ℕ) (s : List ℕ) → drop (suc k * n) s ≡ drop (k * n) (drop n s)
 rest_more n k s = let e : n + k * n ≡ suc k * n = omega arith in sym (drop-drop (k * n) n s ∙ ap (λ (m : ℕ). drop m s) e)

@@ -18,3 +18,8 @@ crc_not_reflected h = let n : ◌≡◌ {A = ℕ} 0xe245 0x906e = h ∙ check_va
 four_bytes_highest_first : 0x0e12 ≡ crc_of (0x31 ∷ 0x32 ∷ 0x33 ∷ 0x34 ∷ []) → ⊥
 unfolding reflect polynomial bit_step bit_steps byte_step register final_xor crc_of
 four_bytes_highest_first h = let n : ◌≡◌ {A = ℕ} 0x0e12 0x74ec = h in omega (arith, n)
+
+-- "12345678" the same way, in a turn of eight bytes
+eight_bytes_highest_first : 0x8d76 ≡ crc_of (0x31 ∷ 0x32 ∷ 0x33 ∷ 0x34 ∷ 0x35 ∷ 0x36 ∷ 0x37 ∷ 0x38 ∷ []) → ⊥
+unfolding reflect polynomial bit_step bit_steps byte_step register final_xor crc_of
+eight_bytes_highest_first h = let n : ◌≡◌ {A = ℕ} 0x8d76 0x086a = h in omega (arith, n)

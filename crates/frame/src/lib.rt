@@ -6,10 +6,10 @@
 pub const ESC: u8 = 0x1b;
 
 // The start sequence of a frame.
-pub static START: [u8; 8] = *b"\x1b\x1b\x1b\x1b\x01\x01\x01\x01";
+pub const START: [u8; 8] = *b"\x1b\x1b\x1b\x1b\x01\x01\x01\x01";
 
 // The escape sequence; behind one in the payload's place four more 1b are data.
-pub static ESCAPE: [u8; 4] = *b"\x1b\x1b\x1b\x1b";
+pub const ESCAPE: [u8; 4] = *b"\x1b\x1b\x1b\x1b";
 
 // Behind an escape sequence: a new frame begins.
-pub static RESTART: [u8; 4] = *b"\x01\x01\x01\x01";
+pub const RESTART: [u8; 4] = *b"\x01\x01\x01\x01";
