@@ -93,6 +93,16 @@ fn plain_end(chunk: &[u8], from: usize, to: usize) -> usize
     plain_ones(chunk, k, to)
 }
 
+// `part` goes to `out`. Not by `copy_from_slice`: with a length known only at run time that calls memmove, which the archive for C would need from outside, and among many 1b most parts have a byte or none.
+fn copy_part(out: &mut [u8], part: &[u8])
+    requires { length part.now ≡ length out.old }
+    ensures { out.new ≡ part.now }
+{
+    for (i, b) in out.iter_mut().enumerate() {
+        *b = part[i];
+    }
+}
+
 // The bytes from `from` on that are no 1b, as many as there is room for, go to the buffer. Chunk and place travel together: lent as the part from there on, each turn would need a law that moves the definition to that part, which was not written.
 fn store_plain(d: Decoder, buf: &mut [u8], chunk: &[u8], from: usize) -> Stretch
     requires { FrameWithBuffer d 0 (length buf.old) × (from ≤ length chunk.now) }
@@ -101,7 +111,7 @@ fn store_plain(d: Decoder, buf: &mut [u8], chunk: &[u8], from: usize) -> Stretch
     let most = (chunk.len() - from).min(buf.len() - d.fill);
     let to = plain_end(chunk, from, from + most);
     let k = to - from;
-    buf[d.fill..d.fill + k].copy_from_slice(&chunk[from..to]);
+    copy_part(&mut buf[d.fill..d.fill + k], &chunk[from..to]);
     Stretch {
         decoder: moved_by(d, k, k, DecodeState::ParsingNormal),
         at: to,
@@ -247,7 +257,7 @@ fn put_judged(d: Decoder, n: u8, buf: &mut [u8], chunk: &[u8], from: usize) -> S
 {
     let most = (chunk.len() - from).min(buf.len() - d.fill);
     let k = most.min((3 - n) as usize);
-    buf[d.fill..d.fill + k].copy_from_slice(&chunk[from..from + k]);
+    copy_part(&mut buf[d.fill..d.fill + k], &chunk[from..from + k]);
     Stretch {
         decoder: moved_by(d, k, k, DecodeState::ParsingEscPayload(n + k as u8)),
         at: from + k,

@@ -1,4 +1,5 @@
 pub mod Stores
+pub mod Stretches
 pub mod Encodes
 pub mod Ends
 pub mod Steps

@@ -260,23 +260,60 @@ fn extend_from_slice(out: &mut [u8], at: usize, bytes: &[u8]) -> usize
     ensures { Stored out.new result out.old at bytes.now }
 {
     let end = at + bytes.len();
-    out[at..end].copy_from_slice(bytes);
+    let part = &mut out[at..end];
+    // Not by `copy_from_slice`: with a length known only at run time that calls memmove, which the archive for C would need from outside.
+    for (i, b) in part.iter_mut().enumerate() {
+        *b = bytes[i];
+    }
     end
 }
 
-// The bytes of `rest` before its first 1b go to `out`, from `at` on; answers how many.
+// The fours of `rest` before the first that has a 1b go to `out`, from `at` on; answers how many bytes.
+fn put_fours(rest: &[u8], out: &mut [u8], at: usize) -> usize
+    requires { at + length rest.now ≤ length out.old }
+    ensures { (result ≤ length rest.now) × NoneEscapes result rest.now × Stored out.new (at + result) out.old at (take result rest.now) }
+{
+    let (fours, _) = rest.as_chunks::<4>();
+    for (i, four) in fours.iter().enumerate() {
+        if four.contains(&frame::ESC) {
+            return 4 * i;
+        }
+        // A copy of the four goes over in one store: the lent ones might overlap the output.
+        let four = *four;
+        let o = at + 4 * i;
+        out[o..o + 4].copy_from_slice(&four);
+    }
+    4 * fours.len()
+}
+
+// The same byte by byte.
+fn put_ones(rest: &[u8], out: &mut [u8], at: usize) -> usize
+    requires { at + length rest.now ≤ length out.old }
+    ensures { (result ≤ length rest.now) × NoneEscapes result rest.now × Stored out.new (at + result) out.old at (take result rest.now) }
+{
+    for (i, b) in rest.iter().enumerate() {
+        if *b == frame::ESC {
+            return i;
+        }
+        out[at + i] = *b;
+    }
+    rest.len()
+}
+
+// The bytes of `rest` before its first 1b go to `out`, from `at` on; answers how many. A short stretch goes byte by byte, what is left of a longer one by fours first. Tried: with `position` and one copy, stretches of a byte between two 1b take a fifth more instructions than with a copy in the same turn.
 fn put_unescaped(rest: &[u8], out: &mut [u8], at: usize) -> usize
     requires { at + length rest.now ≤ length out.old }
     ensures { (result ≤ length rest.now) × NoneEscapes result rest.now × Stored out.new (at + result) out.old at (take result rest.now) }
 {
-    let k = rest
-        .iter()
-        .position(|b| *b == frame::ESC)
-        .unwrap_or(rest.len());
-    if k != 0 {
-        extend_from_slice(out, at, &rest[..k]);
+    if rest.len() < 16 {
+        return put_ones(rest, out, at);
     }
-    k
+    let k = put_ones(&rest[..16], out, at);
+    if k < 16 {
+        return k;
+    }
+    let long = k + put_fours(&rest[k..], out, at + k);
+    long + put_ones(&rest[long..], out, at + long)
 }
 
 // The run of 1b behind k bytes that are none.
@@ -315,7 +352,7 @@ fn put_escaped(payload: &[u8], out: &mut [u8], at: usize) -> usize
 {
     let mut o = at;
     let mut n: u8 = 0;
-    // `i` goes on by whole stretches without a 1b: tried: a `for` over single bytes takes 17.0 instructions a byte, this loop 5.3, and 8 is the bar.
+    // `i` goes on by whole stretches without a 1b: tried: a `for` over single bytes takes 17.0 instructions a byte, this loop 2.8, and 8 is the bar.
     let mut i = 0;
     while i < payload.len() {
         let k = put_unescaped(&payload[i..], out, o);

@@ -175,6 +175,16 @@ fn fits(len: usize, at: usize, n: usize) -> bool
     at <= len && n <= len - at
 }
 
+// `part` goes to `out`. Not by `copy_from_slice`: with a length known only at run time that calls memmove, which the archive for C would need from outside. Tried: by eights, as encoder goes by fours: no fewer instructions on strings of 6, 40 or 200 bytes.
+fn copy_part(out: &mut [u8], part: &[u8])
+    requires { length part.now ≡ length out.old }
+    ensures { out.new ≡ part.now }
+{
+    for (i, b) in out.iter_mut().enumerate() {
+        *b = part[i];
+    }
+}
+
 impl<'o> Output<'o> {
     // One byte; beyond the output the place moves all the same, so that a run over a byte of our own tells where all would end. At the greatest place it stays.
     fn put_next(&mut self, b: u8)
@@ -276,7 +286,7 @@ impl<'o> Output<'o> {
     {
         let end = self.at.saturating_add(part.len());
         if end <= self.out.len() {
-            self.out[self.at..end].copy_from_slice(part);
+            copy_part(&mut self.out[self.at..end], part);
         }
         self.at = end;
     }

@@ -18,7 +18,7 @@ returns c =
     let inside : a.from + k ≤ length a.chunk.now = omega (arith, most, few, c.requires) in
     let three : a.n + k ≤ 3 = omega (arith, few, c.requires) in
     let size : a.from + k - a.from ≡ k = omega arith in
-    let copied : c.copy_from_slice.new.self ≡ take k (drop a.from a.chunk.now) = c.copy_from_slice.ensures.after ∙ ap (λ (n : ℕ). take n (drop a.from a.chunk.now)) size in (
+    let copied : c.copy_part.new.out ≡ take k (drop a.from a.chunk.now) = c.copy_part.ensures ∙ ap (λ (n : ℕ). take n (drop a.from a.chunk.now)) size in (
       inside,
       omega arith,
       runs.stored_there a.d c.moved_by.result (ParsingEscPayload (a.n + k)) (ParsingEscPayload a.n) a.buf.now a.chunk.now _ a.from k _ refl c.moved_by.ensures copied fit inside

@@ -20,6 +20,6 @@ returns c =
     let inside : a.from + k ≤ length a.chunk.now = omega (arith, e.0, e.1, most, c.requires) in (
       omega (arith, at, inside),
       e.0,
-      runs.stored_there a.d c.moved_by.result ParsingNormal ParsingNormal a.buf.now a.chunk.now _ a.from k to at c.moved_by.ensures c.copy_from_slice.ensures.after fit inside
+      runs.stored_there a.d c.moved_by.result ParsingNormal ParsingNormal a.buf.now a.chunk.now _ a.from k to at c.moved_by.ensures c.copy_part.ensures fit inside
           (runs.plain_run a.d a.buf.now a.chunk.now a.from k p.0 (omega (arith, p)) (search rules) (search rules) p.1 p.2 fit inside (λ i le lt. e.2 i le (omega (arith, at, lt)))),
     )

@@ -12,6 +12,6 @@ returns c =
     let p = c.args.part.now in
     let e = c.saturating_add-end.ensures in
     elim c.if-end-self.branch [
-      | then-end-self b ↦ rw b.self-is (record { same_output = refl; puts = λ h. puts_copy w.out.now w.at _ p _ _ e b.if-end-self.true b.copy_from_slice.ensures.after refl (omega (arith, c.well_formed)) })
+      | then-end-self b ↦ rw b.self-is (record { same_output = refl; puts = λ h. puts_copy w.out.now w.at _ p _ _ e b.if-end-self.true b.copy_part.ensures refl (omega (arith, c.well_formed)) })
       | else-end-self b ↦ rw b.self-is (record { same_output = refl; puts = λ h. puts_beyond w.out.now w.at p _ (e ∙ cap_min (w.at + length p)) (omega (arith, e)) })
     ]
