@@ -16,10 +16,10 @@ use Rattle.encoder.specs.Parts.{Stored, NoneEscapes}
 use Rattle.encoder.proofs.Stores.{stored_then, stored_mid}
 
 -- the first i bytes of p are no 1b, and stand from o on in m', which was m
-abbrev pub Passed : List ℕ → List ℕ → ℕ → List ℕ → ℕ → Type 0
-Passed m' m o p i = NoneEscapes i p × Stored m' (o + i) m o (take i p)
+abbrev pub PutPlain : List ℕ → List ℕ → ℕ → List ℕ → ℕ → Type 0
+PutPlain m' m o p i = NoneEscapes i p × Stored m' (o + i) m o (take i p)
 
-pub passed_none : (m p : List ℕ) (o : ℕ) → Passed m m o p 0
+pub passed_none : (m p : List ℕ) (o : ℕ) → PutPlain m m o p 0
 passed_none m p o = (λ j h. absurd (omega (arith, h)), (refl, refl))
 
 none_then : (p : List ℕ) (i k : ℕ) → NoneEscapes i p → NoneEscapes k (drop i p) → NoneEscapes (i + k) p
@@ -31,7 +31,7 @@ none_then p i k a b j h =
     (λ w. a j w)
 
 -- k more
-pub passed_then : (m m' m'' p : List ℕ) (o i k : ℕ) → i + k ≤ length p → Passed m' m o p i → NoneEscapes k (drop i p) → m'' ≡ sets m' (o + i) (take k (drop i p)) → Passed m'' m o p (i + k)
+pub passed_then : (m m' m'' p : List ℕ) (o i k : ℕ) → i + k ≤ length p → PutPlain m' m o p i → NoneEscapes k (drop i p) → m'' ≡ sets m' (o + i) (take k (drop i p)) → PutPlain m'' m o p (i + k)
 passed_then m m' m'' p o i k h a b e =
     let l = length-take-le k (drop i p) (omega (arith, length-drop i p)) in (
       none_then p i k a.0 b,
@@ -40,7 +40,7 @@ passed_then m m' m'' p o i k h a b e =
     )
 
 -- one byte more
-pub passed_one : (m m' p : List ℕ) (o i x : ℕ) → i < length p → x ≡ get_or p i 0 → x ≢ 0x1b → Passed m' m o p i → Passed (set m' (o + i) x) m o p (i + 1)
+pub passed_one : (m m' p : List ℕ) (o i x : ℕ) → i < length p → x ≡ get_or p i 0 → x ≢ 0x1b → PutPlain m' m o p i → PutPlain (set m' (o + i) x) m o p (i + 1)
 passed_one m m' p o i x h z ne a =
     let d : drop i p ≡ x ∷ drop (i + 1) p = from_place p i h ∙ ap (λ (y : ℕ). y ∷ drop (i + 1) p) (sym z) in
     passed_then m m' (set m' (o + i) x) p o i 1 (omega (arith, h)) a
@@ -57,19 +57,19 @@ chunk_at n (suc k) (suc r) s h =
 
 -- four bytes more
 pub passed_four : (m m' p y : List ℕ) (o r k z : ℕ) (fours : List (List ℕ)) → fours ≡ first_chunks 4 (length p / 4) p → r < length p / 4 → ((j : ℕ) → j < 4 → get_or (get_or fours r []) j 0 ≢ 0x1b)
-    → y ≡ get_or fours r [] → k ≡ 4 → z ≡ 4 * (r + 1) → o + length p ≤ length m' → Passed m' m o p (4 * r) → Passed (put_mid (o + 4 * r) k m' y) m o p z
+    → y ≡ get_or fours r [] → k ≡ 4 → z ≡ 4 * (r + 1) → o + length p ≤ length m' → PutPlain m' m o p (4 * r) → PutPlain (put_mid (o + 4 * r) k m' y) m o p z
 passed_four m m' p y o r k z fours f h ne e size next room a =
     let here : get_or fours r [] ≡ take 4 (drop (4 * r) p) = ap (λ (c : List (List ℕ)). get_or c r []) f ∙ chunk_at 4 (length p / 4) r p h ∙ ap (λ (x : ℕ). take 4 (drop x p)) (omega arith) in
     let fit : 4 * r + 4 ≤ length p = omega (arith, h) in
     let l : length (take 4 (drop (4 * r) p)) ≡ 4 = length-take-le 4 (drop (4 * r) p) (omega (arith, length-drop (4 * r) p)) in
     let n : 4 * r + 4 ≡ z = omega (arith, next) in
-    subst (λ (x : ℕ). Passed (put_mid (o + 4 * r) k m' y) m o p x) n
+    subst (λ (x : ℕ). PutPlain (put_mid (o + 4 * r) k m' y) m o p x) n
     (passed_then m m' _ p o (4 * r) 4 fit a
     (λ j w. subst (λ (x : ℕ). x ≢ 0x1b) (ap (λ (c : List ℕ). get_or c j 0) here ∙ get_or-take 4 (drop (4 * r) p) j 0 w) (ne j w))
     (stored_mid m' (take 4 (drop (4 * r) p)) y (o + 4 * r) k (omega (arith, l, fit, room)) (e ∙ here) (l ∙ sym size)))
 
 -- what went over of the first n bytes of p
-pub passed_first : (m m' p : List ℕ) (o n k : ℕ) → (k ≤ length (take n p)) × NoneEscapes k (take n p) × Stored m' (o + k) m o (take k (take n p)) → (k ≤ length p) × Passed m' m o p k
+pub passed_first : (m m' p : List ℕ) (o n k : ℕ) → (k ≤ length (take n p)) × NoneEscapes k (take n p) × Stored m' (o + k) m o (take k (take n p)) → (k ≤ length p) × PutPlain m' m o p k
 passed_first m m' p o n k a =
     let l = length-take n p in
     let few : k ≤ n = omega (arith, a.0, l) in (
@@ -81,7 +81,7 @@ passed_first m m' p o n k a =
     )
 
 -- and of what stands behind the first i
-pub passed_part : (m m' m'' p q : List ℕ) (o i k : ℕ) → q ≡ drop i p → (i ≤ length p) × Passed m' m o p i → (k ≤ length q) × NoneEscapes k q × Stored m'' (o + i + k) m' (o + i) (take k q) → (i + k ≤ length p) × Passed m'' m o p (i + k)
+pub passed_part : (m m' m'' p q : List ℕ) (o i k : ℕ) → q ≡ drop i p → (i ≤ length p) × PutPlain m' m o p i → (k ≤ length q) × NoneEscapes k q × Stored m'' (o + i + k) m' (o + i) (take k q) → (i + k ≤ length p) × PutPlain m'' m o p (i + k)
 passed_part m m' m'' p q o i k e a b =
     let t = subst (λ (q : List ℕ). (k ≤ length q) × NoneEscapes k q × Stored m'' (o + i + k) m' (o + i) (take k q)) e b in
     let fit : i + k ≤ length p = omega (arith, a.0, t.0, length-drop i p) in

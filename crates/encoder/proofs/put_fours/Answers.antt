@@ -4,7 +4,7 @@ use mathlib.Core.Path.{◌≡◌, refl, subst}
 use native.Mathlib.Omega.{arith}
 use lib.ListN.{length, get_or}
 use Rattle.std.specs.Prelude.{◌≢◌, []}
-use Rattle.encoder.proofs.Stretches.{Passed, passed_none, passed_four}
+use Rattle.encoder.proofs.Stretches.{PutPlain, passed_none, passed_four}
 use Rattle.encoder.proofs.put_fours.Goals as goal
 
 pub loop-i-init : goal.loop-i-init
@@ -25,5 +25,5 @@ loop-i-preserved c =
 pub returns : goal.returns
 returns c =
     let n : c.loop-i.i ≡ length c.as_chunks.result.0.now = omega arith in
-    let all = subst (λ (k : ℕ). Passed c.loop-i.out c.args.out.now c.args.at c.args.rest.now (4 * k)) n c.loop-i.invariant in
+    let all = subst (λ (k : ℕ). PutPlain c.loop-i.out c.args.out.now c.args.at c.args.rest.now (4 * k)) n c.loop-i.invariant in
     (omega (arith, c.as_chunks.ensures.front_len), all.0, all.1)

@@ -2,7 +2,7 @@ use Prim.Native.Nat.{ℕ}
 use mathlib.Core.Path.{◌≡◌, refl, subst}
 use native.Mathlib.Omega.{arith}
 use lib.ListN.{length}
-use Rattle.encoder.proofs.Stretches.{Passed, passed_none, passed_one}
+use Rattle.encoder.proofs.Stretches.{PutPlain, passed_none, passed_one}
 use Rattle.encoder.proofs.put_ones.Goals as goal
 
 pub loop-i-init : goal.loop-i-init
@@ -19,5 +19,5 @@ loop-i-preserved c =
 pub returns : goal.returns
 returns c =
     let n : c.loop-i.i ≡ length c.args.rest.now = omega (arith, c.loop-i-test.false, c.loop-i.auto.i-end) in
-    let all = subst (λ (k : ℕ). Passed c.loop-i.out c.args.out.now c.args.at c.args.rest.now k) n c.loop-i.invariant in
+    let all = subst (λ (k : ℕ). PutPlain c.loop-i.out c.args.out.now c.args.at c.args.rest.now k) n c.loop-i.invariant in
     (omega arith, all.0, all.1)

@@ -1,5 +1,5 @@
-use Rattle.encoder.proofs.Stretches.{Passed}
+use Rattle.encoder.proofs.Stretches.{PutPlain}
 use Rattle.encoder.proofs.put_ones.Given as goal
 
 abbrev pub invariant-loop-i : goal.invariant-loop-i
-invariant-loop-i l = Passed l.out l.initial.out l.at l.rest l.i
+invariant-loop-i l = PutPlain l.out l.initial.out l.at l.rest l.i
