@@ -9,6 +9,7 @@ pub mod Payload
 pub mod Plain
 pub mod Examples
 pub mod Answers
+pub mod Begun
 pub mod Tied
 pub mod Same
 pub mod Stores

@@ -225,12 +225,22 @@ fn stored_on(d: Decoder, k: usize, s: DecodeState) -> Decoder
     recounted(d, d.fill + k, one_more(d.raw_msg_len), s)
 }
 
-// A frame begins: the CRC has gone over the start sequence.
+// The CRC's register behind the start sequence, with which every frame begins.
+const STARTED: u16 = 0x91dc;
+
+// A frame begins: the CRC has gone over the start sequence. Tried: gone over it at each frame, a push of a slice takes 8.06 instructions a byte beside the CRC on the meters' frames, with the number 7.8, and 8 is the bar.
+#[tactic(auto, using(crate::proofs::Begun::begun_register))]
 fn begun_frame(c: Setup) -> Decoder
     ensures { result ≡ record_of c begun }
 {
-    let crc = crc_x25::update(crc_x25::INIT, &frame::START);
-    made(c, 0, Decoder::START_LEN, crc, 0, DecodeState::ParsingNormal)
+    made(
+        c,
+        0,
+        Decoder::START_LEN,
+        STARTED,
+        0,
+        DecodeState::ParsingNormal,
+    )
 }
 
 // A search goes on, or begins: nothing is stored, and no CRC runs.
